@@ -1,3 +1,4 @@
+pub mod Causes
 pub mod ChainLaws
 pub mod ChainedLaws
 pub mod DegreeLaws

@@ -3,6 +3,7 @@
 
 ghost use Rattle.std.specs.Prelude.{◌≡◌, ◌<◌, ◌≤◌, IfNone, IfOk, IfSome, OnOk, false, length, ℕ};
 ghost use Rattle.rec_bytes.specs.Format.{groups_file, most_ids, nodes_file};
+ghost use Rattle.rec_bytes.specs.Frame.{IsRead};
 ghost use Rattle.rec_bytes.specs.Space.{HasCause};
 ghost use Rattle.store_rules.specs.Breaking.{IsOwnedBy};
 ghost use Rattle.store_rules.specs.Views.{first_link, high};
@@ -27,9 +28,7 @@ fn next_owned<R: Reads>(space: &mut R, node: u32, id: u32) -> Result<Option<u32>
         × (next_group (R.state space.old).records id ≡ k))) }
     ensures none { R.tells → IfOk result
         (λ next. IfNone next (¬ IsOwnedBy (R.state space.old).records node id)) }
-    ensures same { (R.state space.new).records ≡ (R.state space.old).records }
-    ensures written { (R.state space.new).written ≡ (R.state space.old).written }
-    ensures onward { R.onward space.old space.new }
+    ensures read { IsRead R.Reads space.old space.new }
     ensures cause { HasCause (R.faults space.old) (R.faults space.new) result }
 {
     let rec = space.get(Key { file: GROUPS, id })?;
@@ -58,9 +57,7 @@ fn mark_from<R: Reads>(
     ensures marks { R.tells
         → OnOk result (MarksChain (R.state space.old).records node marks.old marks.new) }
     ensures len { length marks.new ≡ length marks.old }
-    ensures same { (R.state space.new).records ≡ (R.state space.old).records }
-    ensures written { (R.state space.new).written ≡ (R.state space.old).written }
-    ensures onward { R.onward space.old space.new }
+    ensures read { IsRead R.Reads space.old space.new }
     ensures cause { HasCause (R.faults space.old) (R.faults space.new) result }
 {
     let mut at = first;
@@ -84,9 +81,7 @@ fn mark_chain<R: Reads>(space: &mut R, node: u32, marks: &mut [bool]) -> Result<
     ensures marks { R.tells
         → OnOk result (MarksChain (R.state space.old).records node marks.old marks.new) }
     ensures len { length marks.new ≡ length marks.old }
-    ensures same { (R.state space.new).records ≡ (R.state space.old).records }
-    ensures written { (R.state space.new).written ≡ (R.state space.old).written }
-    ensures onward { R.onward space.old space.new }
+    ensures read { IsRead R.Reads space.old space.new }
     ensures cause { HasCause (R.faults space.old) (R.faults space.new) result }
 {
     let rec = space.get(Key {
@@ -106,9 +101,7 @@ fn mark_chains<R: Reads>(space: &mut R, marks: &mut [bool]) -> Result<(), SpaceF
     requires clear { (g : ℕ) → marked marks.old g ≡ false }
     ensures marks { R.tells → OnOk result (MarksChains (R.state space.old).records marks.new) }
     ensures len { length marks.new ≡ length marks.old }
-    ensures same { (R.state space.new).records ≡ (R.state space.old).records }
-    ensures written { (R.state space.new).written ≡ (R.state space.old).written }
-    ensures onward { R.onward space.old space.new }
+    ensures read { IsRead R.Reads space.old space.new }
     ensures cause { HasCause (R.faults space.old) (R.faults space.new) result }
 {
     for node in 0..space.meta(NODES).high {
@@ -127,9 +120,7 @@ pub(crate) fn chained_groups<R: Reads>(
         (λ marks. MarksChains (R.state space.old).records marks.items) }
     ensures len { IfOk result
         (λ marks. length marks.items ≡ high (R.state space.old).records groups_file) }
-    ensures same { (R.state space.new).records ≡ (R.state space.old).records }
-    ensures written { (R.state space.new).written ≡ (R.state space.old).written }
-    ensures onward { R.onward space.old space.new }
+    ensures read { IsRead R.Reads space.old space.new }
     ensures cause { HasCause (R.faults space.old) (R.faults space.new) result }
 {
     let groups = space.meta(GROUPS).high as usize;

@@ -6,6 +6,7 @@ ghost use Rattle.std.specs.Prelude.{length, map, true, ℕ};
 ghost use Rattle.std.specs.Bool.{Decides};
 ghost use Rattle.std.specs.List.{All};
 ghost use Rattle.rec_bytes.specs.Format.{groups_file, most_ids, nodes_file, relationships_file};
+ghost use Rattle.rec_bytes.specs.Frame.{IsRead};
 ghost use Rattle.rec_bytes.specs.Space.{HasCause};
 ghost use Rattle.store_rules.specs.Views.{high, kind_at};
 ghost use Rattle.record_lists.specs.Heads.{AmongHeads, BrokeIs, FoundBelow, HeadKeeps};
@@ -51,7 +52,7 @@ use std::alloc::Global;
 
 /// Which relationships of its node a chain has: all, or those of one type that leave it alone,
 /// enter it alone, or do both.
-#[derive(Clone, Copy, Debug, PartialEq, Eq)]
+#[derive(Clone, Copy)]
 pub enum Side {
     Any,
     Out(u32),
@@ -113,9 +114,7 @@ fn ends_of<R: Reads>(
     ensures ends { R.tells → IfOk result
         (λ ends. ends.items ≡ map (end_of (R.state space.old).records node) ids.now) }
     ensures low { IfOk result (λ ends. All (λ x. x < 2 * high) ends.items) }
-    ensures same { (R.state space.new).records ≡ (R.state space.old).records }
-    ensures written { (R.state space.new).written ≡ (R.state space.old).written }
-    ensures onward { R.onward space.old space.new }
+    ensures read { IsRead R.Reads space.old space.new }
     ensures cause { HasCause (R.faults space.old) (R.faults space.new) result }
 {
     let mut ends = Vec::new(alloc);
@@ -148,9 +147,7 @@ fn chain_ends<R: Reads>(
     ensures told { R.tells → IfOk result
         (EndsFound (R.state space.old).records high line.now.side line.now.node first) }
     ensures low { IfOk result (FoundBelow (2 * high)) }
-    ensures same { (R.state space.new).records ≡ (R.state space.old).records }
-    ensures written { (R.state space.new).written ≡ (R.state space.old).written }
-    ensures onward { R.onward space.old space.new }
+    ensures read { IsRead R.Reads space.old space.new }
     ensures cause { HasCause (R.faults space.old) (R.faults space.new) result }
 {
     let Some(ids) = follow(alloc, space, line, first, high)? else {
@@ -324,9 +321,7 @@ fn find_loose<R: Reads>(
         (λ x. (x < high (R.state space.old).records relationships_file)
         × (¬ RelHolds (kind_at (R.state space.old).records nodes_file)
         (R.state space.old).records marks.now x))) }
-    ensures same { (R.state space.new).records ≡ (R.state space.old).records }
-    ensures written { (R.state space.new).written ≡ (R.state space.old).written }
-    ensures onward { R.onward space.old space.new }
+    ensures read { IsRead R.Reads space.old space.new }
     ensures cause { HasCause (R.faults space.old) (R.faults space.new) result }
 {
     let kinds = node_kinds(alloc, space)?;
@@ -359,9 +354,7 @@ fn mark_node_ends<R: Reads>(
         (IsSparse (R.state space.old).records) (AreNodeEnds (R.state space.old).records)
         (high (R.state space.old).records nodes_file) marks.old)) }
     ensures len { length marks.new ≡ length marks.old }
-    ensures same { (R.state space.new).records ≡ (R.state space.old).records }
-    ensures written { (R.state space.new).written ≡ (R.state space.old).written }
-    ensures onward { R.onward space.old space.new }
+    ensures read { IsRead R.Reads space.old space.new }
     ensures cause { HasCause (R.faults space.old) (R.faults space.new) result }
 {
     let rows = link_rows(alloc, space)?;
@@ -388,9 +381,7 @@ fn mark_ends<R: Reads>(
     ensures broken { R.tells → IfOk result (λ found. IfSome found
         (BreaksRule (R.state space.old).records (R.state space.old).shape 3)) }
     ensures len { length marks.new ≡ length marks.old }
-    ensures same { (R.state space.new).records ≡ (R.state space.old).records }
-    ensures written { (R.state space.new).written ≡ (R.state space.old).written }
-    ensures onward { R.onward space.old space.new }
+    ensures read { IsRead R.Reads space.old space.new }
     ensures cause { HasCause (R.faults space.old) (R.faults space.new) result }
 {
     let groups = space.meta(GROUPS).high;
@@ -426,9 +417,7 @@ fn check_marked<R: Reads>(
     requires clear { (p : ℕ) → marked marks.old p ≡ false }
     ensures decided { R.tells → IfOk result
         (DecidesRule (R.state space.old).records (R.state space.old).shape 3) }
-    ensures same { (R.state space.new).records ≡ (R.state space.old).records }
-    ensures written { (R.state space.new).written ≡ (R.state space.old).written }
-    ensures onward { R.onward space.old space.new }
+    ensures read { IsRead R.Reads space.old space.new }
     ensures cause { HasCause (R.faults space.old) (R.faults space.new) result }
 {
     if let Some(damage) = mark_ends(alloc, space, chained, marks)? {
@@ -445,9 +434,7 @@ pub fn check_chains<R: Reads>(alloc: Global, space: &mut R) -> Result<Option<Dam
     requires { AreMarksLow (R.state space.old).records }
     ensures decided { R.tells → IfOk result
         (DecidesRule (R.state space.old).records (R.state space.old).shape 3) }
-    ensures same { (R.state space.new).records ≡ (R.state space.old).records }
-    ensures written { (R.state space.new).written ≡ (R.state space.old).written }
-    ensures onward { R.onward space.old space.new }
+    ensures read { IsRead R.Reads space.old space.new }
     ensures cause { HasCause (R.faults space.old) (R.faults space.new) result }
 {
     let chained = chained_groups(alloc, space)?;

@@ -1,9 +1,10 @@
 //! The counts of groups: a group that has counts has as many relationships in each of its chains as
 //! they say. Where the third rule is kept, these are those of its type and side at its owner.
 
-ghost use Rattle.std.specs.Prelude.{◌≡◌, ◌+◌, ◌<◌, ◌≤◌, IfNone, IfOk, IfSome, ℕ};
+ghost use Rattle.std.specs.Prelude.{◌+◌, ◌<◌, ◌≤◌, IfNone, IfOk, IfSome, ℕ};
 ghost use Rattle.std.specs.Bool.{Decides};
 ghost use Rattle.rec_bytes.specs.Format.{groups_file, most_ids};
+ghost use Rattle.rec_bytes.specs.Frame.{IsRead};
 ghost use Rattle.rec_bytes.specs.Space.{HasCause};
 ghost use Rattle.store_rules.specs.Views.{high};
 ghost use Rattle.chain_check.specs.Counts.{AreAsLong, AreOfGroups, CountsHold, IsAsLong};
@@ -33,9 +34,7 @@ fn is_as_long<R: Reads>(
     requires count { count + 4 ≤ 64 }
     ensures told { R.tells → IfOk result (λ is. Decides is
         (IsAsLong (R.state space.old).records high rec.now first count)) }
-    ensures same { (R.state space.new).records ≡ (R.state space.old).records }
-    ensures written { (R.state space.new).written ≡ (R.state space.old).written }
-    ensures onward { R.onward space.old space.new }
+    ensures read { IsRead R.Reads space.old space.new }
     ensures cause { HasCause (R.faults space.old) (R.faults space.new) result }
 {
     let line = ChainLine {
@@ -59,9 +58,7 @@ fn are_as_long<R: Reads>(
     requires { high ≤ most_ids }
     ensures told { R.tells → IfOk result
         (λ are. Decides are (AreAsLong (R.state space.old).records high rec.now)) }
-    ensures same { (R.state space.new).records ≡ (R.state space.old).records }
-    ensures written { (R.state space.new).written ≡ (R.state space.old).written }
-    ensures onward { R.onward space.old space.new }
+    ensures read { IsRead R.Reads space.old space.new }
     ensures cause { HasCause (R.faults space.old) (R.faults space.new) result }
 {
     let out = is_as_long(alloc, space, rec, GROUP_FIRST_OUT, GROUP_OUT_COUNT, high)?;
@@ -105,9 +102,7 @@ pub(crate) fn find_inexact<R: Reads>(
         → CountsHold (R.state space.old).records g)) }
     ensures found { R.tells → IfOk result (λ found. IfSome found
         (λ g. ¬ CountsHold (R.state space.old).records g)) }
-    ensures same { (R.state space.new).records ≡ (R.state space.old).records }
-    ensures written { (R.state space.new).written ≡ (R.state space.old).written }
-    ensures onward { R.onward space.old space.new }
+    ensures read { IsRead R.Reads space.old space.new }
     ensures cause { HasCause (R.faults space.old) (R.faults space.new) result }
 {
     let groups = space.meta(GROUPS).high;

@@ -4,6 +4,7 @@
 ghost use Rattle.std.specs.Prelude.{◌≡◌, ◌-◌, ◌+◌, ◌^◌, ◌<◌, IfOk, OnOk, length, nat_eq, ℕ};
 ghost use Rattle.std.specs.Prelude.{if◌then◌else◌};
 ghost use Rattle.rec_bytes.specs.Format.{nodes_file, relationships_file};
+ghost use Rattle.rec_bytes.specs.Frame.{IsRead};
 ghost use Rattle.rec_bytes.specs.Space.{HasCause};
 ghost use Rattle.store_rules.specs.Rules.{degree_of};
 ghost use Rattle.store_rules.specs.Views.{high, rel_at};
@@ -57,9 +58,7 @@ fn count_ends<R: Reads>(space: &mut R, counts: &mut [u32]) -> Result<(), SpaceFa
         → count_at counts.new n ≡ degree_of (rel_at (R.state space.old).records)
         (high (R.state space.old).records relationships_file) n) }
     ensures len { length counts.new ≡ length counts.old }
-    ensures same { (R.state space.new).records ≡ (R.state space.old).records }
-    ensures written { (R.state space.new).written ≡ (R.state space.old).written }
-    ensures onward { R.onward space.old space.new }
+    ensures read { IsRead R.Reads space.old space.new }
     ensures cause { HasCause (R.faults space.old) (R.faults space.new) result }
 {
     for id in 0..space.meta(RELATIONSHIPS).high {
@@ -110,9 +109,7 @@ fn count_degrees<R: Reads>(alloc: Global, space: &mut R) -> Result<Degrees, Spac
         length degrees.counts.items ≡ high (R.state space.old).records nodes_file) }
     ensures threshold { IfOk result
         (λ degrees. degrees.threshold ≡ (R.state space.old).shape.threshold) }
-    ensures same { (R.state space.new).records ≡ (R.state space.old).records }
-    ensures written { (R.state space.new).written ≡ (R.state space.old).written }
-    ensures onward { R.onward space.old space.new }
+    ensures read { IsRead R.Reads space.old space.new }
     ensures cause { HasCause (R.faults space.old) (R.faults space.new) result }
 {
     let Ok(mut counts) = Vec::from_elem(alloc, 0, space.meta(NODES).high as usize) else {
@@ -128,9 +125,7 @@ pub fn check_degrees<R: Reads>(alloc: Global, space: &mut R) -> Result<Option<Da
     requires { AreMarksLow (R.state space.old).records }
     ensures decided { R.tells → IfOk result
         (DecidesRule (R.state space.old).records (R.state space.old).shape 7) }
-    ensures same { (R.state space.new).records ≡ (R.state space.old).records }
-    ensures written { (R.state space.new).written ≡ (R.state space.old).written }
-    ensures onward { R.onward space.old space.new }
+    ensures read { IsRead R.Reads space.old space.new }
     ensures cause { HasCause (R.faults space.old) (R.faults space.new) result }
 {
     let degrees = count_degrees(alloc, space)?;

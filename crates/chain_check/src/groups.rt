@@ -3,6 +3,7 @@
 
 ghost use Rattle.std.specs.Prelude.{◌≡◌, ◌≤◌, IfNone, IfOk, IfSome, [], false, length, ℕ};
 ghost use Rattle.rec_bytes.specs.Format.{groups_file, most_ids, nodes_file};
+ghost use Rattle.rec_bytes.specs.Frame.{IsRead};
 ghost use Rattle.rec_bytes.specs.Space.{HasCause};
 ghost use Rattle.store_rules.specs.Rules.{IsGrouped, is_filled};
 ghost use Rattle.store_rules.specs.Views.{first_link, group_at, high, kind_at, rec_at};
@@ -71,9 +72,7 @@ fn groups_from<R: Reads>(
     ensures told { R.tells → IfOk result
         (GroupsFound (R.state space.old).records high node first) }
     ensures low { IfOk result (FoundBelow high) }
-    ensures same { (R.state space.new).records ≡ (R.state space.old).records }
-    ensures written { (R.state space.new).written ≡ (R.state space.old).written }
-    ensures onward { R.onward space.old space.new }
+    ensures read { IsRead R.Reads space.old space.new }
     ensures cause { HasCause (R.faults space.old) (R.faults space.new) result }
 {
     let Some(ids) = follow(alloc, space, &GroupLine { node }, first, high)? else {
@@ -131,9 +130,7 @@ fn find_ungrouped<R: Reads>(
         (group_at (R.state space.old).records) [])) }
     ensures broken { R.tells → IfOk result (λ found. IfSome found
         (BreaksRule (R.state space.old).records (R.state space.old).shape 4)) }
-    ensures same { (R.state space.new).records ≡ (R.state space.old).records }
-    ensures written { (R.state space.new).written ≡ (R.state space.old).written }
-    ensures onward { R.onward space.old space.new }
+    ensures read { IsRead R.Reads space.old space.new }
     ensures cause { HasCause (R.faults space.old) (R.faults space.new) result }
 {
     let nodes = space.meta(NODES).high;
@@ -155,9 +152,7 @@ pub fn check_groups<R: Reads>(alloc: Global, space: &mut R) -> Result<Option<Dam
     requires chained { R.tells → AreChained (R.state space.old).records }
     ensures decided { R.tells → IfOk result
         (DecidesRule (R.state space.old).records (R.state space.old).shape 4) }
-    ensures same { (R.state space.new).records ≡ (R.state space.old).records }
-    ensures written { (R.state space.new).written ≡ (R.state space.old).written }
-    ensures onward { R.onward space.old space.new }
+    ensures read { IsRead R.Reads space.old space.new }
     ensures cause { HasCause (R.faults space.old) (R.faults space.new) result }
 {
     let groups = space.meta(GROUPS).high as usize;

@@ -1,6 +1,7 @@
 //! The kinds of all nodes, a byte each, read in the order of the file.
 
-ghost use Rattle.std.specs.Prelude.{◌≡◌, IfOk};
+ghost use Rattle.std.specs.Prelude.{IfOk};
+ghost use Rattle.rec_bytes.specs.Frame.{IsRead};
 ghost use Rattle.rec_bytes.specs.Space.{HasCause};
 ghost use Rattle.record_lists.specs.Deciding.{AreMarksLow};
 ghost use Rattle.chain_check.specs.Kinds.{AreKinds};
@@ -13,9 +14,7 @@ pub(crate) fn node_kinds<R: Reads>(alloc: Global, space: &mut R) -> Result<Vec<u
     requires { AreMarksLow (R.state space.old).records }
     ensures kinds { R.tells
         → IfOk result (λ kinds. AreKinds (R.state space.old).records kinds.items) }
-    ensures same { (R.state space.new).records ≡ (R.state space.old).records }
-    ensures written { (R.state space.new).written ≡ (R.state space.old).written }
-    ensures onward { R.onward space.old space.new }
+    ensures read { IsRead R.Reads space.old space.new }
     ensures cause { HasCause (R.faults space.old) (R.faults space.new) result }
 {
     let nodes = space.meta(NODES).high;

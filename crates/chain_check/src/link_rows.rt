@@ -3,6 +3,7 @@
 
 ghost use Rattle.std.specs.Prelude.{◌≡◌, ◌+◌, ◌*◌, ◌<◌, IfOk, length};
 ghost use Rattle.rec_bytes.specs.Format.{most_ids, relationships_file};
+ghost use Rattle.rec_bytes.specs.Frame.{IsRead};
 ghost use Rattle.rec_bytes.specs.Space.{HasCause};
 ghost use Rattle.store_rules.specs.Views.{high};
 ghost use Rattle.record_lists.specs.Deciding.{AreMarksLow};
@@ -134,9 +135,7 @@ pub(crate) fn link_rows<R: Reads>(alloc: Global, space: &mut R) -> Result<Vec<Li
         → IfOk result (λ rows. AreLinkRows (R.state space.old).records rows.items) }
     ensures len { IfOk result
         (λ rows. length rows.items ≡ high (R.state space.old).records relationships_file) }
-    ensures same { (R.state space.new).records ≡ (R.state space.old).records }
-    ensures written { (R.state space.new).written ≡ (R.state space.old).written }
-    ensures onward { R.onward space.old space.new }
+    ensures read { IsRead R.Reads space.old space.new }
     ensures cause { HasCause (R.faults space.old) (R.faults space.new) result }
 {
     let relationships = space.meta(RELATIONSHIPS).high;

@@ -3,6 +3,7 @@
 ghost use Rattle.std.specs.Prelude.{◌≡◌, ◌*◌, ◌<◌, ◌≤◌, IfNone, IfOk, IfSome, List, length, ℕ, ⊤};
 ghost use Rattle.std.specs.List.{All};
 ghost use Rattle.rec_bytes.specs.Format.{index_file, most_ids};
+ghost use Rattle.rec_bytes.specs.Frame.{IsRead};
 ghost use Rattle.rec_bytes.specs.Space.{HasCause};
 ghost use Rattle.store_rules.specs.IndexBreaking.{IsBucketList};
 ghost use Rattle.store_rules.specs.Views.{high};
@@ -67,9 +68,7 @@ pub(crate) fn bucket_at<R: Reads>(
     ensures none { R.tells → IfOk result (λ found. IfNone found ((xs : List ℕ)
         → ¬ IsBucketList (R.state space.old).records definition number xs)) }
     ensures low { IfOk result (λ found. IfSome found (λ ids. All (λ x. x < records) ids.items)) }
-    ensures same { (R.state space.new).records ≡ (R.state space.old).records }
-    ensures written { (R.state space.new).written ≡ (R.state space.old).written }
-    ensures onward { R.onward space.old space.new }
+    ensures read { IsRead R.Reads space.old space.new }
     ensures cause { HasCause (R.faults space.old) (R.faults space.new) result }
 {
     let Some(head) = head_at(space, definition, number / HEADS_COUNT, records)? else {

@@ -4,6 +4,7 @@ ghost use Rattle.std.specs.Prelude.{◌≡◌, ◌<◌, ◌≤◌, IfNone, IfOk,
 ghost use Rattle.std.specs.List.{All};
 ghost use Rattle.rec_bytes.specs.Fault.{HasFaultCause, NotDamaged};
 ghost use Rattle.rec_bytes.specs.Format.{index_file, most_ids};
+ghost use Rattle.rec_bytes.specs.Frame.{IsRead};
 ghost use Rattle.rec_bytes.specs.Space.{HasCause};
 ghost use Rattle.record_lists.specs.Deciding.{AreMarksLow, DecidesRule};
 ghost use Rattle.record_lists.specs.Marks.{is_among, marked};
@@ -60,9 +61,7 @@ fn mark_lists<R: Reads>(
     ensures broken { R.tells → IfOk result (λ found. IfSome found
         (BreaksIndexRule (R.state space.old).records)) }
     ensures len { length marks.new ≡ length marks.old }
-    ensures same { (R.state space.new).records ≡ (R.state space.old).records }
-    ensures written { (R.state space.new).written ≡ (R.state space.old).written }
-    ensures onward { R.onward space.old space.new }
+    ensures read { IsRead R.Reads space.old space.new }
     ensures cause { HasCause (R.faults space.old) (R.faults space.new) result }
 {
     let records = space.meta(INDEX).high;
@@ -101,9 +100,7 @@ fn check_marked<R: Reads>(
         (AreAllHeld (R.state space.old).records ids.now)) }
     ensures broken { R.tells → IfOk result (λ found. IfSome found
         (BreaksIndexRule (R.state space.old).records)) }
-    ensures same { (R.state space.new).records ≡ (R.state space.old).records }
-    ensures written { (R.state space.new).written ≡ (R.state space.old).written }
-    ensures onward { R.onward space.old space.new }
+    ensures read { IsRead R.Reads space.old space.new }
     ensures cause { HasCause (R.faults space.old) (R.faults space.new) result }
 {
     if let Some(damage) = mark_lists(alloc, space, ids, marks)? {
@@ -130,9 +127,7 @@ fn check_lists<R: Reads>(
         (AreAllHeld (R.state space.old).records ids.now)) }
     ensures broken { R.tells → IfOk result (λ found. IfSome found
         (BreaksIndexRule (R.state space.old).records)) }
-    ensures same { (R.state space.new).records ≡ (R.state space.old).records }
-    ensures written { (R.state space.new).written ≡ (R.state space.old).written }
-    ensures onward { R.onward space.old space.new }
+    ensures read { IsRead R.Reads space.old space.new }
     ensures cause { HasCause (R.faults space.old) (R.faults space.new) result }
 {
     let Ok(mut marks) = marks_of(alloc, space.meta(INDEX).high as usize, ids) else {
@@ -155,9 +150,7 @@ fn check_each<R: Reads>(
     ensures broken { R.tells → IfOk result (λ found. IfSome found
         (BreaksIndexRule (R.state space.old).records)) }
     ensures sound { R.tells → AreReadable (R.state space.old).records → NotDamaged result }
-    ensures same { (R.state space.new).records ≡ (R.state space.old).records }
-    ensures written { (R.state space.new).written ≡ (R.state space.old).written }
-    ensures onward { R.onward space.old space.new }
+    ensures read { IsRead R.Reads space.old space.new }
     ensures cause { HasFaultCause (R.faults space.old) (R.faults space.new) result }
 {
     for definition in definitions {
@@ -184,9 +177,7 @@ fn check_definitions<R: Reads>(
         ≡ map (definition_at (R.state space.old).records) ids.now }
     ensures decided { R.tells → IfOk result (DecidesIndexRule (R.state space.old).records) }
     ensures sound { R.tells → AreReadable (R.state space.old).records → NotDamaged result }
-    ensures same { (R.state space.new).records ≡ (R.state space.old).records }
-    ensures written { (R.state space.new).written ≡ (R.state space.old).written }
-    ensures onward { R.onward space.old space.new }
+    ensures read { IsRead R.Reads space.old space.new }
     ensures cause { HasFaultCause (R.faults space.old) (R.faults space.new) result }
 {
     if let Some(id) = find_twin(definitions) {
@@ -206,9 +197,7 @@ fn decide<R: Reads>(alloc: Global, space: &mut R) -> Result<Option<Damage>, Faul
     requires { AreMarksLow (R.state space.old).records }
     ensures decided { R.tells → IfOk result (DecidesIndexRule (R.state space.old).records) }
     ensures sound { R.tells → AreReadable (R.state space.old).records → NotDamaged result }
-    ensures same { (R.state space.new).records ≡ (R.state space.old).records }
-    ensures written { (R.state space.new).written ≡ (R.state space.old).written }
-    ensures onward { R.onward space.old space.new }
+    ensures read { IsRead R.Reads space.old space.new }
     ensures cause { HasFaultCause (R.faults space.old) (R.faults space.new) result }
 {
     let records = space.meta(INDEX).high;
@@ -228,9 +217,7 @@ pub fn check_indexes<R: Reads>(alloc: Global, space: &mut R) -> Result<Option<Da
         (DecidesRule (R.state space.old).records (R.state space.old).shape 8) }
     ensures only { R.tells → AreIndexed (R.state space.old).records
         (wanted_in (R.state space.old).records) → IfOk result (λ found. found ≡ None) }
-    ensures same { (R.state space.new).records ≡ (R.state space.old).records }
-    ensures written { (R.state space.new).written ≡ (R.state space.old).written }
-    ensures onward { R.onward space.old space.new }
+    ensures read { IsRead R.Reads space.old space.new }
     ensures cause { HasCause (R.faults space.old) (R.faults space.new) result }
 {
     match decide(alloc, space) {

@@ -3,6 +3,7 @@
 ghost use Rattle.std.specs.Prelude.{◌≡◌, ◌<◌, ◌≤◌, IfNone, IfOk, IfSome, List, length, map, ℕ};
 ghost use Rattle.std.specs.List.{All, list_any};
 ghost use Rattle.rec_bytes.specs.Format.{index_file, most_ids};
+ghost use Rattle.rec_bytes.specs.Frame.{IsRead};
 ghost use Rattle.rec_bytes.specs.Space.{HasCause};
 ghost use Rattle.store_rules.specs.IndexBreaking.{AreDefinitions};
 ghost use Rattle.store_rules.specs.Views.{high};
@@ -62,9 +63,7 @@ pub(crate) fn find_definitions<R: Reads>(
         → ¬ AreDefinitions (R.state space.old).records xs)) }
     ensures low { IfOk result (λ found. IfSome found (λ ids. All (λ x. x < records) ids.items)) }
     ensures few { IfOk result (λ found. IfSome found (λ ids. length ids.items ≤ 16)) }
-    ensures same { (R.state space.new).records ≡ (R.state space.old).records }
-    ensures written { (R.state space.new).written ≡ (R.state space.old).written }
-    ensures onward { R.onward space.old space.new }
+    ensures read { IsRead R.Reads space.old space.new }
     ensures cause { HasCause (R.faults space.old) (R.faults space.new) result }
 {
     let meta = space.get(meta_key(INDEX))?;
@@ -84,9 +83,7 @@ fn read_definition<R: Reads>(space: &mut R, id: u32) -> Result<Definition, Space
     ensures is { R.tells → IfOk result
         (λ definition. definition ≡ definition_at (R.state space.old).records id) }
     ensures id { IfOk result (λ definition. definition.id ≡ id) }
-    ensures same { (R.state space.new).records ≡ (R.state space.old).records }
-    ensures written { (R.state space.new).written ≡ (R.state space.old).written }
-    ensures onward { R.onward space.old space.new }
+    ensures read { IsRead R.Reads space.old space.new }
     ensures cause { HasCause (R.faults space.old) (R.faults space.new) result }
 {
     let rec = space.get(Key { file: INDEX, id })?;
@@ -107,9 +104,7 @@ pub(crate) fn read_definitions<R: Reads>(
     ensures are { R.tells → IfOk result (λ definitions. definitions.items
         ≡ map (definition_at (R.state space.old).records) ids.now) }
     ensures ids { IfOk result (λ definitions. map (λ d. d.id) definitions.items ≡ ids.now) }
-    ensures same { (R.state space.new).records ≡ (R.state space.old).records }
-    ensures written { (R.state space.new).written ≡ (R.state space.old).written }
-    ensures onward { R.onward space.old space.new }
+    ensures read { IsRead R.Reads space.old space.new }
     ensures cause { HasCause (R.faults space.old) (R.faults space.new) result }
 {
     let mut definitions = Vec::new(alloc);

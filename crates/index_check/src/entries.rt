@@ -1,8 +1,9 @@
 //! All entries of an index.
 
-ghost use Rattle.std.specs.Prelude.{◌≡◌, ◌<◌, ◌≤◌, IfNone, IfOk, IfSome};
+ghost use Rattle.std.specs.Prelude.{◌<◌, ◌≤◌, IfNone, IfOk, IfSome};
 ghost use Rattle.std.specs.List.{All};
 ghost use Rattle.rec_bytes.specs.Format.{index_file, most_ids};
+ghost use Rattle.rec_bytes.specs.Frame.{IsRead};
 ghost use Rattle.rec_bytes.specs.Space.{HasCause};
 ghost use Rattle.store_rules.specs.Views.{high};
 ghost use Rattle.index_check.specs.Entries.{AreEntriesTo, LacksBucket};
@@ -24,9 +25,7 @@ pub(crate) fn entries_of<R: Reads>(
     ensures none { R.tells → IfOk result (λ found. IfNone found
         (LacksBucket (R.state space.old).records definition)) }
     ensures low { IfOk result (λ found. IfSome found (λ ids. All (λ x. x < most_ids) ids.items)) }
-    ensures same { (R.state space.new).records ≡ (R.state space.old).records }
-    ensures written { (R.state space.new).written ≡ (R.state space.old).written }
-    ensures onward { R.onward space.old space.new }
+    ensures read { IsRead R.Reads space.old space.new }
     ensures cause { HasCause (R.faults space.old) (R.faults space.new) result }
 {
     let records = space.meta(INDEX).high;

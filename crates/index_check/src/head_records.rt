@@ -2,6 +2,7 @@
 
 ghost use Rattle.std.specs.Prelude.{◌≡◌, ◌≢◌, ◌*◌, ◌<◌, ◌≤◌, IfNone, IfOk, IfSome, length, ⊤};
 ghost use Rattle.rec_bytes.specs.Format as format;
+ghost use Rattle.rec_bytes.specs.Frame.{IsRead};
 ghost use Rattle.rec_bytes.specs.Space.{HasCause};
 ghost use Rattle.store_rules.specs.Indexes.{heads_of};
 ghost use Rattle.store_rules.specs.Views.{high, kind_at};
@@ -38,9 +39,7 @@ pub(crate) fn head_at<R: Reads>(
         (kind_at (R.state space.old).records format.index_file
         (heads_of (R.state space.old).records definition number) ≢ format.heads)) }
     ensures low { IfOk result (λ found. IfSome found (λ head. head.id < records)) }
-    ensures same { (R.state space.new).records ≡ (R.state space.old).records }
-    ensures written { (R.state space.new).written ≡ (R.state space.old).written }
-    ensures onward { R.onward space.old space.new }
+    ensures read { IsRead R.Reads space.old space.new }
     ensures cause { HasCause (R.faults space.old) (R.faults space.new) result }
 {
     let rec = space.get(Key {

@@ -3,6 +3,7 @@
 ghost use Rattle.std.specs.Prelude.{◌≡◌, ◌<◌, IfNone, IfOk, IfSome};
 ghost use Rattle.rec_bytes.specs.Fault.{HasFaultCause, NotDamaged};
 ghost use Rattle.rec_bytes.specs.Format.{most_ids};
+ghost use Rattle.rec_bytes.specs.Frame.{IsRead};
 ghost use Rattle.record_lists.specs.Deciding.{AreMarksLow};
 ghost use Rattle.store_rules.specs.Breaking.{damage};
 ghost use Rattle.index_check.specs.Indexing.{BreaksIndexRule, IsGiven, IsRight};
@@ -39,9 +40,7 @@ pub(crate) fn check_index<R: Reads>(
     ensures broken { R.tells → IfOk result (λ found. IfSome found
         (BreaksIndexRule (R.state space.old).records)) }
     ensures sound { R.tells → AreReadable (R.state space.old).records → NotDamaged result }
-    ensures same { (R.state space.new).records ≡ (R.state space.old).records }
-    ensures written { (R.state space.new).written ≡ (R.state space.old).written }
-    ensures onward { R.onward space.old space.new }
+    ensures read { IsRead R.Reads space.old space.new }
     ensures cause { HasFaultCause (R.faults space.old) (R.faults space.new) result }
 {
     let Some(entries) = entries_of(alloc, space, definition.id)? else {

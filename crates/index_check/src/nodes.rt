@@ -6,6 +6,7 @@ ghost use Rattle.std.specs.Bool.{Decides};
 ghost use Rattle.std.specs.List.{All};
 ghost use Rattle.rec_bytes.specs.Fault.{HasFaultCause, NotDamaged};
 ghost use Rattle.rec_bytes.specs.Format.{most_ids, nodes_file};
+ghost use Rattle.rec_bytes.specs.Frame.{IsRead};
 ghost use Rattle.record_lists.specs.Marks.{is_among, marked};
 ghost use Rattle.store_rules.specs.Indexes.{wanted_in};
 ghost use Rattle.store_rules.specs.Properties.{AreOnce};
@@ -53,9 +54,7 @@ fn node_of<R: Reads>(
     ensures low { IfOk result (λ found. IfSome found
         (λ node. node < high (R.state space.old).records nodes_file)) }
     ensures sound { R.tells → AreReadable (R.state space.old).records → NotDamaged result }
-    ensures same { (R.state space.new).records ≡ (R.state space.old).records }
-    ensures written { (R.state space.new).written ≡ (R.state space.old).written }
-    ensures onward { R.onward space.old space.new }
+    ensures read { IsRead R.Reads space.old space.new }
     ensures cause { HasFaultCause (R.faults space.old) (R.faults space.new) result }
 {
     let rec = space.get(Key { file: INDEX, id })?;
@@ -81,9 +80,7 @@ pub(crate) fn nodes_of<R: Reads>(
         (AreNodesOf (R.state space.old).records definition.now entries.now) }
     ensures low { IfOk result (AreNodesLow (high (R.state space.old).records nodes_file)) }
     ensures sound { R.tells → AreReadable (R.state space.old).records → NotDamaged result }
-    ensures same { (R.state space.new).records ≡ (R.state space.old).records }
-    ensures written { (R.state space.new).written ≡ (R.state space.old).written }
-    ensures onward { R.onward space.old space.new }
+    ensures read { IsRead R.Reads space.old space.new }
     ensures cause { HasFaultCause (R.faults space.old) (R.faults space.new) result }
 {
     let mut nodes = Vec::new(alloc);
@@ -126,9 +123,7 @@ fn is_missing<R: Reads>(
     ensures told { R.tells → IfOk result (λ missing. Decides missing
         (IsMissing (R.state space.old).records definition.now node met)) }
     ensures sound { R.tells → AreReadable (R.state space.old).records → NotDamaged result }
-    ensures same { (R.state space.new).records ≡ (R.state space.old).records }
-    ensures written { (R.state space.new).written ≡ (R.state space.old).written }
-    ensures onward { R.onward space.old space.new }
+    ensures read { IsRead R.Reads space.old space.new }
     ensures cause { HasFaultCause (R.faults space.old) (R.faults space.new) result }
 {
     if met {
@@ -153,9 +148,7 @@ fn find_missing<R: Reads>(
     ensures found { R.tells → IfOk result (λ found. IfSome found
         (λ n. IsMissing (R.state space.old).records definition.now n (marked marks.now n))) }
     ensures sound { R.tells → AreReadable (R.state space.old).records → NotDamaged result }
-    ensures same { (R.state space.new).records ≡ (R.state space.old).records }
-    ensures written { (R.state space.new).written ≡ (R.state space.old).written }
-    ensures onward { R.onward space.old space.new }
+    ensures read { IsRead R.Reads space.old space.new }
     ensures cause { HasFaultCause (R.faults space.old) (R.faults space.new) result }
 {
     for node in 0..space.meta(NODES).high {
@@ -184,9 +177,7 @@ fn check_marked<R: Reads>(
     ensures found { R.tells → IfOk result (λ found. IfSome found
         (IsWrongNode (R.state space.old).records definition.now nodes.now)) }
     ensures sound { R.tells → AreReadable (R.state space.old).records → NotDamaged result }
-    ensures same { (R.state space.new).records ≡ (R.state space.old).records }
-    ensures written { (R.state space.new).written ≡ (R.state space.old).written }
-    ensures onward { R.onward space.old space.new }
+    ensures read { IsRead R.Reads space.old space.new }
     ensures cause { HasFaultCause (R.faults space.old) (R.faults space.new) result }
 {
     if let Some(node) = mark_once(marks, nodes) {
@@ -213,9 +204,7 @@ pub(crate) fn check_nodes<R: Reads>(
     ensures found { R.tells → IfOk result (λ found. IfSome found
         (IsWrongNode (R.state space.old).records definition.now nodes.now)) }
     ensures sound { R.tells → AreReadable (R.state space.old).records → NotDamaged result }
-    ensures same { (R.state space.new).records ≡ (R.state space.old).records }
-    ensures written { (R.state space.new).written ≡ (R.state space.old).written }
-    ensures onward { R.onward space.old space.new }
+    ensures read { IsRead R.Reads space.old space.new }
     ensures cause { HasFaultCause (R.faults space.old) (R.faults space.new) result }
 {
     let mut marks = no_marks(alloc, space.meta(NODES).high as usize)?;

@@ -3,6 +3,7 @@
 ghost use Rattle.std.specs.Prelude.{◌≡◌, ◌<◌, ◌≤◌, IfOk, IfSome};
 ghost use Rattle.rec_bytes.specs.Fault.{HasFaultCause, NotDamaged};
 ghost use Rattle.rec_bytes.specs.Format.{most_ids, nodes_file};
+ghost use Rattle.rec_bytes.specs.Frame.{IsRead};
 ghost use Rattle.store_rules.specs.Indexes.{has_hash, node_value};
 ghost use Rattle.store_rules.specs.Views.{high};
 ghost use Rattle.index_check.specs.Values.{AreReadable};
@@ -27,9 +28,7 @@ pub(crate) fn value_at<R: Reads>(
     ensures low { IfOk result (λ value. IfSome value
         (λ _. node < high (R.state space.old).records nodes_file)) }
     ensures sound { R.tells → AreReadable (R.state space.old).records → NotDamaged result }
-    ensures same { (R.state space.new).records ≡ (R.state space.old).records }
-    ensures written { (R.state space.new).written ≡ (R.state space.old).written }
-    ensures onward { R.onward space.old space.new }
+    ensures read { IsRead R.Reads space.old space.new }
     ensures cause { HasFaultCause (R.faults space.old) (R.faults space.new) result }
 {
     if node >= space.meta(NODES).high {

@@ -5,4 +5,5 @@ pub mod DistinctLaws
 pub mod HeadLaws
 pub mod LineLaws
 pub mod LiveLaws
+pub mod OnlyReads
 pub mod RecordLaws

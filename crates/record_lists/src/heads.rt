@@ -1,6 +1,7 @@
 ghost use Rattle.std.specs.Prelude.{◌≡◌, ◌<◌, ◌≤◌, ◌⊎◌, IfNone, IfOk, IfSome, List, false, length};
 ghost use Rattle.std.specs.Prelude.{true, ℕ};
 ghost use Rattle.std.specs.Bool.{Decides};
+ghost use Rattle.rec_bytes.specs.Frame.{IsRead};
 ghost use Rattle.rec_bytes.specs.Space.{HasCause};
 ghost use Rattle.store_rules.specs.Views.{Records};
 ghost use Rattle.record_lists.specs.Marks.{marked};
@@ -28,7 +29,7 @@ pub enum Found {
 }
 
 /// A record without the list that it needs, or an item that is in two lists.
-#[derive(Clone, Copy, Debug, PartialEq, Eq)]
+#[derive(Clone, Copy)]
 pub enum Broke {
     Head(u32),
     Item(u32),
@@ -36,7 +37,7 @@ pub enum Broke {
 
 /// What became of the list of a record: its items are marked now, there is no list, or an item was
 /// marked before.
-#[derive(Clone, Copy, Debug, PartialEq, Eq)]
+#[derive(Clone, Copy)]
 pub enum Told {
     Marked,
     Unlisted,
@@ -68,9 +69,7 @@ pub trait Heads {
             (has self.now (R.state space.old).records id)
             (lists self.now (R.state space.old).records id)) }
         ensures low { IfOk result (FoundBelow (bound self.now)) }
-        ensures same { (R.state space.new).records ≡ (R.state space.old).records }
-        ensures written { (R.state space.new).written ≡ (R.state space.old).written }
-        ensures onward { R.onward space.old space.new }
+        ensures read { IsRead R.Reads space.old space.new }
         ensures cause { HasCause (R.faults space.old) (R.faults space.new) result };
 }
 
@@ -89,9 +88,7 @@ fn mark_head<R: Reads, H: Heads>(
         (H.has heads.now (R.state space.old).records)
         (H.lists heads.now (R.state space.old).records) id marks.old marks.new) }
     ensures len { length marks.new ≡ length marks.old }
-    ensures same { (R.state space.new).records ≡ (R.state space.old).records }
-    ensures written { (R.state space.new).written ≡ (R.state space.old).written }
-    ensures onward { R.onward space.old space.new }
+    ensures read { IsRead R.Reads space.old space.new }
     ensures cause { HasCause (R.faults space.old) (R.faults space.new) result }
 {
     match heads.list(alloc, space, id)? {
@@ -136,9 +133,7 @@ pub fn list_heads<R: Reads, H: Heads>(
         (H.has heads.now (R.state space.old).records)
         (H.lists heads.now (R.state space.old).records) count marks.old)) }
     ensures len { length marks.new ≡ length marks.old }
-    ensures same { (R.state space.new).records ≡ (R.state space.old).records }
-    ensures written { (R.state space.new).written ≡ (R.state space.old).written }
-    ensures onward { R.onward space.old space.new }
+    ensures read { IsRead R.Reads space.old space.new }
     ensures cause { HasCause (R.faults space.old) (R.faults space.new) result }
 {
     for id in 0..count {

@@ -1,6 +1,7 @@
 ghost use Rattle.std.specs.Prelude.{◌≡◌, ◌≤◌, ◌<◌, IfNone, IfOk, IfSome, List, true, ℕ};
 ghost use Rattle.std.specs.List.{All};
 ghost use Rattle.rec_bytes.specs.Format.{most_ids};
+ghost use Rattle.rec_bytes.specs.Frame.{IsRead};
 ghost use Rattle.rec_bytes.specs.RecordFiles.{is_record_file};
 ghost use Rattle.rec_bytes.specs.Space.{HasCause};
 ghost use Rattle.record_lists.specs.Lines.{IsLineIn, LineKind};
@@ -43,9 +44,7 @@ pub fn follow<R: Reads, L: Line>(
     ensures none { R.tells → IfOk result (λ found. IfNone found ((xs : List ℕ)
         → ¬ IsLineIn (L.kind line.now) (R.state space.old).records high first xs)) }
     ensures low { IfOk result (λ found. IfSome found (λ ids. All (λ x. x < high) ids.items)) }
-    ensures same { (R.state space.new).records ≡ (R.state space.old).records }
-    ensures written { (R.state space.new).written ≡ (R.state space.old).written }
-    ensures onward { R.onward space.old space.new }
+    ensures read { IsRead R.Reads space.old space.new }
     ensures cause { HasCause (R.faults space.old) (R.faults space.new) result }
 {
     let mut ids = Vec::new(alloc);

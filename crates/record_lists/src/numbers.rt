@@ -1,6 +1,7 @@
 ghost use Rattle.std.specs.Prelude.{◌≡◌, ◌+◌, ◌<◌, ◌≤◌, IfOk, map, true};
 ghost use Rattle.std.specs.List.{All};
 ghost use Rattle.rec_bytes.specs.Format.{most_ids};
+ghost use Rattle.rec_bytes.specs.Frame.{IsRead};
 ghost use Rattle.rec_bytes.specs.RecordFiles.{is_record_file};
 ghost use Rattle.rec_bytes.specs.Space.{HasCause};
 ghost use Rattle.record_lists.specs.Numbers.{number_at};
@@ -21,9 +22,7 @@ pub fn numbers_of<R: Reads>(
     requires low { All (λ x. x < most_ids) ids.now }
     ensures numbers { R.tells → IfOk result (λ numbers. numbers.items
         ≡ map (number_at (R.state space.old).records file place) ids.now) }
-    ensures same { (R.state space.new).records ≡ (R.state space.old).records }
-    ensures written { (R.state space.new).written ≡ (R.state space.old).written }
-    ensures onward { R.onward space.old space.new }
+    ensures read { IsRead R.Reads space.old space.new }
     ensures cause { HasCause (R.faults space.old) (R.faults space.new) result }
 {
     let mut numbers = Vec::new(alloc);

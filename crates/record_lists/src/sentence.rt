@@ -1,5 +1,6 @@
-ghost use Rattle.std.specs.Prelude.{◌≡◌, ◌<◌, ◌≤◌, IfNone, IfOk, IfSome, ℕ};
+ghost use Rattle.std.specs.Prelude.{◌<◌, ◌≤◌, IfNone, IfOk, IfSome, ℕ};
 ghost use Rattle.std.specs.Bool.{Decides};
+ghost use Rattle.rec_bytes.specs.Frame.{IsRead};
 ghost use Rattle.rec_bytes.specs.Space.{HasCause};
 ghost use Rattle.store_rules.specs.Views.{Records};
 
@@ -22,9 +23,7 @@ pub trait Sentence {
         requires suits { suits self.now (R.state space.old).records }
         ensures told { R.tells → IfOk result
             (λ holds. Decides holds (says self.now (R.state space.old).records id)) }
-        ensures same { (R.state space.new).records ≡ (R.state space.old).records }
-        ensures written { (R.state space.new).written ≡ (R.state space.old).written }
-        ensures onward { R.onward space.old space.new }
+        ensures read { IsRead R.Reads space.old space.new }
         ensures cause { HasCause (R.faults space.old) (R.faults space.new) result };
 }
 
@@ -40,9 +39,7 @@ pub fn find_false<R: Reads, S: Sentence>(
         ((x : ℕ) → x < count → S.says sentence.now (R.state space.old).records x)) }
     ensures found { R.tells → IfOk result (λ found. IfSome found
         (λ x. (x < count) × (¬ S.says sentence.now (R.state space.old).records x))) }
-    ensures same { (R.state space.new).records ≡ (R.state space.old).records }
-    ensures written { (R.state space.new).written ≡ (R.state space.old).written }
-    ensures onward { R.onward space.old space.new }
+    ensures read { IsRead R.Reads space.old space.new }
     ensures cause { HasCause (R.faults space.old) (R.faults space.new) result }
 {
     for id in 0..count {

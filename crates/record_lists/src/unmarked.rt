@@ -1,5 +1,6 @@
 ghost use Rattle.std.specs.Prelude.{◌≡◌, ◌<◌, ◌≤◌, IfNone, IfOk, IfSome, length, true, ℕ};
 ghost use Rattle.rec_bytes.specs.Format.{most_ids};
+ghost use Rattle.rec_bytes.specs.Frame.{IsRead};
 ghost use Rattle.rec_bytes.specs.RecordFiles.{is_meta_file};
 ghost use Rattle.rec_bytes.specs.Space.{HasCause};
 ghost use Rattle.store_rules.specs.Views.{high, is_live};
@@ -46,9 +47,7 @@ pub fn find_unmarked<R: Reads>(
         → is_live (R.state space.old).records file x ≡ true → marked marks.now x ≡ true)) }
     ensures found { R.tells → IfOk result (λ found. IfSome found
         (λ x. ¬ (is_live (R.state space.old).records file x ≡ true → marked marks.now x ≡ true))) }
-    ensures same { (R.state space.new).records ≡ (R.state space.old).records }
-    ensures written { (R.state space.new).written ≡ (R.state space.old).written }
-    ensures onward { R.onward space.old space.new }
+    ensures read { IsRead R.Reads space.old space.new }
     ensures cause { HasCause (R.faults space.old) (R.faults space.new) result }
 {
     let count = space.meta(file).high;

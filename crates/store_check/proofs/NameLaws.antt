@@ -26,9 +26,3 @@ name_breaks records shape d keeps (WrongText x lt form bad) = breaks_by records 
 name_breaks records shape d keeps (SameText x earlier lt form below same) =
     breaks_by records shape 6 _ (damage format.names_file x 6) refl refl
     (WrongName x lt (λ (k : NameKeeps records x). let e = k.alone earlier (omega arith) same in absurd (omega arith)))
-
--- reads leave what was written
-pub written-after_gets : (n : ℕ) (s : State) → (after_gets n s).written ≡ s.written
-unfolding after_gets
-written-after_gets zero s = refl
-written-after_gets (suc n) s = written-after_gets n s

@@ -1,6 +1,7 @@
 //! One rule after another: the first that is broken ends the check.
 
 ghost use Rattle.std.specs.Prelude.{◌≡◌, ◌<◌, ◌≤◌, IfNone, IfOk};
+ghost use Rattle.rec_bytes.specs.Frame.{IsRead};
 ghost use Rattle.rec_bytes.specs.RuleNumbers.{chain_rule, degree_rule, index_rule, range_rule};
 ghost use Rattle.rec_bytes.specs.Space.{HasCause, SameButReads};
 ghost use Rattle.store_rules.specs.Ranges.{AreInRange};
@@ -39,9 +40,7 @@ fn decide<R: Reads>(alloc: Global, space: &mut R, rule: u8) -> Result<Option<Dam
         (DecidesRule (R.state space.old).records (R.state space.old).shape rule) }
     ensures low { rule ≡ range_rule → IfOk result
         (λ found. IfNone found (AreMarksLow (R.state space.old).records)) }
-    ensures same { (R.state space.new).records ≡ (R.state space.old).records }
-    ensures written { (R.state space.new).written ≡ (R.state space.old).written }
-    ensures onward { R.onward space.old space.new }
+    ensures read { IsRead R.Reads space.old space.new }
     ensures cause { HasCause (R.faults space.old) (R.faults space.new) result }
 {
     match rule {

@@ -1,6 +1,7 @@
 //! The fifth rule of definitions of indexes: their labels and keys are names.
 
-ghost use Rattle.std.specs.Prelude.{◌≡◌, IfNone, IfOk, IfSome};
+ghost use Rattle.std.specs.Prelude.{IfNone, IfOk, IfSome};
+ghost use Rattle.rec_bytes.specs.Frame.{IsRead};
 ghost use Rattle.rec_bytes.specs.Space.{HasCause};
 ghost use Rattle.record_lists.specs.Deciding.{AreMarksLow, BreaksRule};
 ghost use Rattle.store_check.specs.Definitions.{HasNames, IsOnIndex};
@@ -41,9 +42,7 @@ pub(crate) fn check_definitions<R: Reads>(space: &mut R) -> Result<Option<Damage
         (AreDefinitionsRight (R.state space.old).records)) }
     ensures found { R.tells → IfOk result (λ found. IfSome found
         (BreaksRule (R.state space.old).records (R.state space.old).shape 5)) }
-    ensures same { (R.state space.new).records ≡ (R.state space.old).records }
-    ensures written { (R.state space.new).written ≡ (R.state space.old).written }
-    ensures onward { R.onward space.old space.new }
+    ensures read { IsRead R.Reads space.old space.new }
     ensures cause { HasCause (R.faults space.old) (R.faults space.new) result }
 {
     let mark = space.meta(INDEX).high;

@@ -5,6 +5,7 @@ ghost use Rattle.std.specs.Prelude.{true, ℕ};
 ghost use Rattle.std.specs.Bool.{Decides};
 ghost use Rattle.std.specs.List.{All, list_all};
 ghost use Rattle.rec_bytes.specs.Format.{most_ids, properties_file};
+ghost use Rattle.rec_bytes.specs.Frame.{IsRead};
 ghost use Rattle.rec_bytes.specs.Space.{HasCause};
 ghost use Rattle.store_rules.specs.PropertyChange.{property_place};
 ghost use Rattle.store_rules.specs.Views.{high};
@@ -67,9 +68,7 @@ fn property_list<R: Reads>(
     ensures none { R.tells → IfOk result (λ found. IfNone found ((xs : List ℕ)
         → ¬ IsPropertyList (R.state space.old).records first xs)) }
     ensures low { IfOk result (λ found. IfSome found (λ ids. All (λ x. x < mark) ids.items)) }
-    ensures same { (R.state space.new).records ≡ (R.state space.old).records }
-    ensures written { (R.state space.new).written ≡ (R.state space.old).written }
-    ensures onward { R.onward space.old space.new }
+    ensures read { IsRead R.Reads space.old space.new }
     ensures cause { HasCause (R.faults space.old) (R.faults space.new) result }
 {
     let line = LiveLine::new(PROPERTIES, PROPERTY_NEXT);
@@ -172,9 +171,7 @@ fn check_file<R: Reads>(
     ensures found { R.tells → IfOk result (λ found. IfSome found
         (IsUnlisted (R.state space.old).records file marks.old)) }
     ensures len { length marks.new ≡ length marks.old }
-    ensures same { (R.state space.new).records ≡ (R.state space.old).records }
-    ensures written { (R.state space.new).written ≡ (R.state space.old).written }
-    ensures onward { R.onward space.old space.new }
+    ensures read { IsRead R.Reads space.old space.new }
     ensures cause { HasCause (R.faults space.old) (R.faults space.new) result }
 {
     let elements = space.meta(file).high;
@@ -209,9 +206,7 @@ fn check_marked<R: Reads>(
         (AreElementsRight (R.state space.old).records)) }
     ensures found { R.tells → IfOk result (λ found. IfSome found
         (BreaksRule (R.state space.old).records (R.state space.old).shape 5)) }
-    ensures same { (R.state space.new).records ≡ (R.state space.old).records }
-    ensures written { (R.state space.new).written ≡ (R.state space.old).written }
-    ensures onward { R.onward space.old space.new }
+    ensures read { IsRead R.Reads space.old space.new }
     ensures cause { HasCause (R.faults space.old) (R.faults space.new) result }
 {
     if let Some(damage) = check_file(alloc, space, NODES, marks)? {
@@ -236,9 +231,7 @@ pub(crate) fn check_elements<R: Reads>(
         (AreElementsRight (R.state space.old).records)) }
     ensures found { R.tells → IfOk result (λ found. IfSome found
         (BreaksRule (R.state space.old).records (R.state space.old).shape 5)) }
-    ensures same { (R.state space.new).records ≡ (R.state space.old).records }
-    ensures written { (R.state space.new).written ≡ (R.state space.old).written }
-    ensures onward { R.onward space.old space.new }
+    ensures read { IsRead R.Reads space.old space.new }
     ensures cause { HasCause (R.faults space.old) (R.faults space.new) result }
 {
     let Ok(mut marks) = no_marks(alloc, space.meta(PROPERTIES).high as usize) else {

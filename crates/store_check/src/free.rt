@@ -2,6 +2,7 @@
 
 ghost use Rattle.std.specs.Prelude.{◌≡◌, ◌≤◌, IfNone, IfOk, IfSome, List, length, true, ℕ};
 ghost use Rattle.rec_bytes.specs.Format.{most_ids};
+ghost use Rattle.rec_bytes.specs.Frame.{IsRead};
 ghost use Rattle.rec_bytes.specs.RecordFiles.{is_meta_file, is_record_file};
 ghost use Rattle.rec_bytes.specs.Space.{HasCause};
 ghost use Rattle.store_rules.specs.Ranges.{is_reused};
@@ -40,7 +41,7 @@ impl Line for FreeLine {
 }
 
 /// How many records are in use, or one that isn't and has no mark.
-#[derive(Clone, Copy, Debug, PartialEq, Eq)]
+#[derive(Clone, Copy)]
 pub enum Counted {
     Live(u32),
     OffList(u32),
@@ -53,9 +54,7 @@ fn count_live<R: Reads>(space: &mut R, file: u8, marks: &[bool]) -> Result<Count
     requires marks { length marks.now ≡ high (R.state space.old).records file }
     ensures counted { R.tells
         → IfOk result (IsCounted (R.state space.old).records file marks.now) }
-    ensures same { (R.state space.new).records ≡ (R.state space.old).records }
-    ensures written { (R.state space.new).written ≡ (R.state space.old).written }
-    ensures onward { R.onward space.old space.new }
+    ensures read { IsRead R.Reads space.old space.new }
     ensures cause { HasCause (R.faults space.old) (R.faults space.new) result }
 {
     let mut live = 0;
@@ -83,9 +82,7 @@ fn check_free<R: Reads>(
         (is_live (R.state space.old).records file) free)) }
     ensures broken { R.tells → IfOk result (λ found. IfSome found
         (BreaksRule (R.state space.old).records (R.state space.old).shape 2)) }
-    ensures same { (R.state space.new).records ≡ (R.state space.old).records }
-    ensures written { (R.state space.new).written ≡ (R.state space.old).written }
-    ensures onward { R.onward space.old space.new }
+    ensures read { IsRead R.Reads space.old space.new }
     ensures cause { HasCause (R.faults space.old) (R.faults space.new) result }
 {
     let on_meta = Damage {
@@ -121,9 +118,7 @@ fn check_reused<R: Reads>(alloc: Global, space: &mut R) -> Result<Option<Damage>
         (is_live (R.state space.old).records file) free)) }
     ensures broken { R.tells → IfOk result (λ found. IfSome found
         (BreaksRule (R.state space.old).records (R.state space.old).shape 2)) }
-    ensures same { (R.state space.new).records ≡ (R.state space.old).records }
-    ensures written { (R.state space.new).written ≡ (R.state space.old).written }
-    ensures onward { R.onward space.old space.new }
+    ensures read { IsRead R.Reads space.old space.new }
     ensures cause { HasCause (R.faults space.old) (R.faults space.new) result }
 {
     for entry in RecordFile::all_but_meta() {
@@ -145,9 +140,7 @@ pub(crate) fn check_split<R: Reads>(
     requires { AreMarksLow (R.state space.old).records }
     ensures decided { R.tells → IfOk result
         (DecidesRule (R.state space.old).records (R.state space.old).shape 2) }
-    ensures same { (R.state space.new).records ≡ (R.state space.old).records }
-    ensures written { (R.state space.new).written ≡ (R.state space.old).written }
-    ensures onward { R.onward space.old space.new }
+    ensures read { IsRead R.Reads space.old space.new }
     ensures cause { HasCause (R.faults space.old) (R.faults space.new) result }
 {
     if let Some(damage) = check_reused(alloc, space)? {

@@ -43,7 +43,7 @@ use rec_bytes::{
 
 /// A number of a record that names a record: its place, the file of that record, and whether it may
 /// be none.
-#[derive(Clone, Copy, Debug, PartialEq, Eq)]
+#[derive(Clone, Copy)]
 pub(crate) struct Pointer {
     place: u8,
     into: u8,
@@ -84,7 +84,7 @@ impl Pointer {
 }
 
 /// So many bytes of a record from a place on.
-#[derive(Clone, Copy, Debug, PartialEq, Eq)]
+#[derive(Clone, Copy)]
 pub(crate) struct Range {
     at: u8,
     size: u8,

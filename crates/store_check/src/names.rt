@@ -1,6 +1,7 @@
 //! The sixth rule: names have their form, and none comes twice.
 
-ghost use Rattle.std.specs.Prelude.{◌≡◌, IfOk};
+ghost use Rattle.std.specs.Prelude.{IfOk};
+ghost use Rattle.rec_bytes.specs.Frame.{IsRead};
 ghost use Rattle.rec_bytes.specs.Space.{HasCause};
 ghost use Rattle.store_rules.specs.Ranges.{AreInRange};
 ghost use Rattle.record_lists.specs.Deciding.{DecidesRule};
@@ -17,9 +18,7 @@ pub(crate) fn check_names<R: Reads>(
     requires { R.tells → AreInRange (R.state space.old).records (R.state space.old).shape }
     ensures decided { R.tells → IfOk result
         (DecidesRule (R.state space.old).records (R.state space.old).shape 6) }
-    ensures same { (R.state space.new).records ≡ (R.state space.old).records }
-    ensures written { (R.state space.new).written ≡ (R.state space.old).written }
-    ensures onward { R.onward space.old space.new }
+    ensures read { IsRead R.Reads space.old space.new }
     ensures cause { HasCause (R.faults space.old) (R.faults space.new) result }
 {
     match load(alloc, space) {

@@ -3,6 +3,7 @@
 ghost use Rattle.std.specs.Prelude.{◌≡◌, ◌<◌, ◌≤◌, IfNone, IfOk, IfSome, true, ℕ};
 ghost use Rattle.std.specs.Bool.{Decides};
 ghost use Rattle.rec_bytes.specs.Format.{meta_records, most_ids};
+ghost use Rattle.rec_bytes.specs.Frame.{IsRead};
 ghost use Rattle.rec_bytes.specs.RecordFiles.{is_meta_file, room_of};
 ghost use Rattle.rec_bytes.specs.Space.{HasCause};
 ghost use Rattle.store_rules.specs.Views.{high};
@@ -21,9 +22,7 @@ use record_lists::{Sentence, find_false};
 fn is_own_right<R: Reads>(space: &mut R) -> Result<bool, SpaceFault>
     ensures right { R.tells → IfOk result (λ right. Decides right
         (IsOwnRight (R.state space.old).records (R.state space.old).shape)) }
-    ensures same { (R.state space.new).records ≡ (R.state space.old).records }
-    ensures written { (R.state space.new).written ≡ (R.state space.old).written }
-    ensures onward { R.onward space.old space.new }
+    ensures read { IsRead R.Reads space.old space.new }
     ensures cause { HasCause (R.faults space.old) (R.faults space.new) result }
 {
     let rec = space.get(OWN_KEY)?;
@@ -47,9 +46,7 @@ fn is_meta_kept<R: Reads>(space: &mut R, id: u32) -> Result<bool, SpaceFault>
         (IsMetaKept (R.state space.old).records (R.state space.old).shape id)) }
     ensures low { IfOk result (λ right. right ≡ true → is_meta_file id ≡ true
         → high (R.state space.old).records id ≤ most_ids) }
-    ensures same { (R.state space.new).records ≡ (R.state space.old).records }
-    ensures written { (R.state space.new).written ≡ (R.state space.old).written }
-    ensures onward { R.onward space.old space.new }
+    ensures read { IsRead R.Reads space.old space.new }
     ensures cause { HasCause (R.faults space.old) (R.faults space.new) result }
 {
     let rec = space.get(Key { file: META, id })?;
@@ -93,9 +90,7 @@ fn find_wrong<R: Reads>(space: &mut R, file: u8) -> Result<Option<u32>, SpaceFau
     ensures found { R.tells → IfOk result (λ found. IfSome found
         (λ x. (x < high (R.state space.old).records file)
         × (¬ FitsAt (R.state space.old).records file x))) }
-    ensures same { (R.state space.new).records ≡ (R.state space.old).records }
-    ensures written { (R.state space.new).written ≡ (R.state space.old).written }
-    ensures onward { R.onward space.old space.new }
+    ensures read { IsRead R.Reads space.old space.new }
     ensures cause { HasCause (R.faults space.old) (R.faults space.new) result }
 {
     let records = space.meta(file).high;
@@ -112,9 +107,7 @@ fn find_wrong_meta<R: Reads>(space: &mut R) -> Result<Option<u32>, SpaceFault>
     ensures id { IfOk result (λ found. IfSome found (λ id. id < meta_records)) }
     ensures low { IfOk result
         (λ found. IfNone found (AreMarksLow (R.state space.old).records)) }
-    ensures same { (R.state space.new).records ≡ (R.state space.old).records }
-    ensures written { (R.state space.new).written ≡ (R.state space.old).written }
-    ensures onward { R.onward space.old space.new }
+    ensures read { IsRead R.Reads space.old space.new }
     ensures cause { HasCause (R.faults space.old) (R.faults space.new) result }
 {
     for id in 0..META_RECORDS {
@@ -135,9 +128,7 @@ fn find_wrong_record<R: Reads>(space: &mut R) -> Result<Option<Key>, SpaceFault>
         (λ key. (key.id < high (R.state space.old).records key.file)
         × (¬ FitsAt (R.state space.old).records key.file key.id))) }
     ensures file { IfOk result (λ found. IfSome found (λ key. is_meta_file key.file ≡ true)) }
-    ensures same { (R.state space.new).records ≡ (R.state space.old).records }
-    ensures written { (R.state space.new).written ≡ (R.state space.old).written }
-    ensures onward { R.onward space.old space.new }
+    ensures read { IsRead R.Reads space.old space.new }
     ensures cause { HasCause (R.faults space.old) (R.faults space.new) result }
 {
     for entry in RecordFile::all_but_meta() {
@@ -157,9 +148,7 @@ pub(crate) fn check_ranges<R: Reads>(space: &mut R) -> Result<Option<Damage>, Sp
         (DecidesRule (R.state space.old).records (R.state space.old).shape 1) }
     ensures low { IfOk result
         (λ found. IfNone found (AreMarksLow (R.state space.old).records)) }
-    ensures same { (R.state space.new).records ≡ (R.state space.old).records }
-    ensures written { (R.state space.new).written ≡ (R.state space.old).written }
-    ensures onward { R.onward space.old space.new }
+    ensures read { IsRead R.Reads space.old space.new }
     ensures cause { HasCause (R.faults space.old) (R.faults space.new) result }
 {
     if !is_own_right(space)? {

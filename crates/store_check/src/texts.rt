@@ -3,6 +3,7 @@
 ghost use Rattle.std.specs.Prelude.{◌≡◌, ◌<◌, IfNone, IfOk, IfSome, false, length, map, ℕ};
 ghost use Rattle.std.specs.List.{All};
 ghost use Rattle.rec_bytes.specs.Format.{most_ids, strings_file};
+ghost use Rattle.rec_bytes.specs.Frame.{IsRead};
 ghost use Rattle.rec_bytes.specs.Space.{HasCause};
 ghost use Rattle.store_rules.specs.Breaking.{IsBlockList, IsLong, block_size};
 ghost use Rattle.store_check.specs.Holding.{AreTextsRight};
@@ -26,9 +27,7 @@ fn lengths_of<R: Reads>(alloc: Global, space: &mut R, ids: &[u32]) -> Result<Vec
     requires { All (λ x. x < most_ids) ids.now }
     ensures lengths { R.tells → IfOk result
         (λ lengths. lengths.items ≡ map (block_size (R.state space.old).records) ids.now) }
-    ensures same { (R.state space.new).records ≡ (R.state space.old).records }
-    ensures written { (R.state space.new).written ≡ (R.state space.old).written }
-    ensures onward { R.onward space.old space.new }
+    ensures read { IsRead R.Reads space.old space.new }
     ensures cause { HasCause (R.faults space.old) (R.faults space.new) result }
 {
     let mut lengths = Vec::new(alloc);
@@ -97,9 +96,7 @@ fn check_marked<R: Reads>(
         (AreTextsRight (R.state space.old).records)) }
     ensures found { R.tells → IfOk result (λ found. IfSome found
         (BreaksRule (R.state space.old).records (R.state space.old).shape 5)) }
-    ensures same { (R.state space.new).records ≡ (R.state space.old).records }
-    ensures written { (R.state space.new).written ≡ (R.state space.old).written }
-    ensures onward { R.onward space.old space.new }
+    ensures read { IsRead R.Reads space.old space.new }
     ensures cause { HasCause (R.faults space.old) (R.faults space.new) result }
 {
     let properties = space.meta(PROPERTIES).high;
@@ -126,9 +123,7 @@ pub(crate) fn check_texts<R: Reads>(
         (AreTextsRight (R.state space.old).records)) }
     ensures found { R.tells → IfOk result (λ found. IfSome found
         (BreaksRule (R.state space.old).records (R.state space.old).shape 5)) }
-    ensures same { (R.state space.new).records ≡ (R.state space.old).records }
-    ensures written { (R.state space.new).written ≡ (R.state space.old).written }
-    ensures onward { R.onward space.old space.new }
+    ensures read { IsRead R.Reads space.old space.new }
     ensures cause { HasCause (R.faults space.old) (R.faults space.new) result }
 {
     let Ok(mut marks) = no_marks(alloc, space.meta(STRINGS).high as usize) else {

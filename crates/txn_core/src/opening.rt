@@ -51,7 +51,6 @@ ghost use Rattle.txn_core.specs.Opening.{
 };
 
 use crate::base::{Base, KEPT_PAGES};
-use crate::base::{Base, KEPT_PAGES, MOST_CHANGED};
 use crate::marks::Marks;
 use crate::{Config, NotOpened, OpenFault};
 use disk_model::Disk;

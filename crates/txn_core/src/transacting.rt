@@ -15,7 +15,6 @@ ghost use Rattle.txn_core.specs.Base.{SameBeneath};
 ghost use Rattle.txn_core.specs.Kept.{FitsTransaction};
 
 use crate::base::Base;
-use crate::base::{Base, MOST_OWN};
 use crate::marks::Marks;
 use disk_model::Disk;
 use rec_bytes::{MOST_WRITES, WriteSet};

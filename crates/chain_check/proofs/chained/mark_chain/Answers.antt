@@ -5,7 +5,9 @@ use Rattle.record_lists.proofs.RecordLaws.{kind_read}
 use Rattle.chain_check.specs.NodeChains.{IsDense}
 use Rattle.chain_check.proofs.ChainedLaws.{not_dense}
 use Rattle.record_lists.proofs.Causes.{cause_passed}
-use Rattle.rec_bytes.proofs.Causes.{never_ok}
+use Rattle.chain_check.proofs.Causes.{cause_later}
+use Rattle.rec_bytes.proofs.Causes.{never_ok, ok_cause}
+use Rattle.record_lists.proofs.OnlyReads.{is_read-get, is_read-on}
 use Rattle.chain_check.proofs.chained.mark_chain.Goals as goal
 
 pub returns-then-byte-ne-DENSE-clause-marks : goal.returns-then-byte-ne-DENSE-clause-marks
@@ -27,11 +29,23 @@ returns-in_err-rec-clause-cause g c =
 pub returns-in_err-rec-clause-marks : goal.returns-in_err-rec-clause-marks
 returns-in_err-rec-clause-marks g c _ = never_ok c.from_residual.result _ _ c.from_residual.ensures.1
 
-pub returns-in_err-rec-clause-onward : goal.returns-in_err-rec-clause-onward
-returns-in_err-rec-clause-onward g c = search rules
+pub returns-in_err-rec-clause-read : goal.returns-in_err-rec-clause-read
+returns-in_err-rec-clause-read g c =
+    is_read-get g.R.Reads _ _ c.in_err-rec.ensures.state c.in_err-rec.ensures.onward c.in_err-rec.ensures.cause.later
 
-pub returns-in_err-rec-clause-same : goal.returns-in_err-rec-clause-same
-returns-in_err-rec-clause-same g c = search rules
+pub returns-clause-read : goal.returns-clause-read
+returns-clause-read g c =
+    is_read-on g.R.Reads g.met.R.Reads.further_onward _ _ _ (is_read-get g.R.Reads _ _ c.in_ok-rec.ensures.state c.in_ok-rec.ensures.onward
+    c.in_ok-rec.ensures.cause.later) c.mark_from.ensures.read
 
-pub returns-in_err-rec-clause-written : goal.returns-in_err-rec-clause-written
-returns-in_err-rec-clause-written g c = search rules
+pub returns-clause-cause : goal.returns-clause-cause
+returns-clause-cause g c =
+    cause_later _ _ _ c.mark_from.result (is_read-get g.R.Reads _ _ c.in_ok-rec.ensures.state c.in_ok-rec.ensures.onward
+    c.in_ok-rec.ensures.cause.later).later c.mark_from.ensures.cause
+
+pub returns-then-byte-ne-DENSE-clause-read : goal.returns-then-byte-ne-DENSE-clause-read
+returns-then-byte-ne-DENSE-clause-read g c =
+    is_read-get g.R.Reads _ _ c.in_ok-rec.ensures.state c.in_ok-rec.ensures.onward c.in_ok-rec.ensures.cause.later
+
+pub returns-then-byte-ne-DENSE-clause-cause : goal.returns-then-byte-ne-DENSE-clause-cause
+returns-then-byte-ne-DENSE-clause-cause g c = ok_cause _ _ _ _ (returns-then-byte-ne-DENSE-clause-read g c).later

@@ -6,34 +6,32 @@ use Rattle.store_rules.specs.Views.{Records, high}
 use Rattle.chain_check.specs.Chained.{MarksChain}
 use Rattle.chain_check.proofs.ChainedLaws.{MarksBelow, below_all, below_clear, below_more, below_none}
 use Rattle.record_lists.proofs.Causes.{cause_passed}
+use Rattle.record_lists.proofs.OnlyReads.{is_read-none, is_read-on}
+use Rattle.rec_bytes.proofs.Causes.{ok_cause}
 use Rattle.chain_check.proofs.chained.mark_chains.Goals as goal
 
 pub loop-node-init : goal.loop-node-init
 loop-node-init g c = record {
-  same = refl;
-  written = refl;
   marks = λ t. below_none (g.R.Reads.state c.args.space.now).records c.args.marks.now c.requires.clear;
-  onward = g.met.R.Reads.stays_onward c.args.space.now;
-  faults = omega arith;
+  read = is_read-none g.R.Reads g.met.R.Reads.stays_onward c.args.space.now;
 }
 
 pub mark_chain-requires-clause-clear : goal.mark_chain-requires-clause-clear
 mark_chain-requires-clause-clear g c = λ t k own.
     let inv = c.loop-node.invariant in
     below_clear (g.R.Reads.state c.args.space.now).records c.loop-node.node c.loop-node.marks (inv.marks t) k
-    (subst (λ (r : Records). IsOwnedBy r c.loop-node.node k) inv.same own)
+    (subst (λ (r : Records). IsOwnedBy r c.loop-node.node k) inv.read.records own)
 
 pub loop-node-preserved : goal.loop-node-preserved
 loop-node-preserved g c =
     let records = (g.R.Reads.state c.args.space.now).records in
     let inv = c.loop-node.invariant in
     record {
-      same = c.in_ok-mark_chain.ensures.same ∙ inv.same;
-      written = c.in_ok-mark_chain.ensures.written ∙ inv.written;
       marks = λ t. below_more records c.loop-node.node c.loop-node.marks c.mark_chain.new.marks (inv.marks t)
-          (subst (λ (r : Records). MarksChain r c.loop-node.node c.loop-node.marks c.mark_chain.new.marks) inv.same (c.in_ok-mark_chain.ensures.marks t));
-      onward = g.met.R.Reads.further_onward c.args.space.now c.loop-node.space c.mark_chain.new.space inv.onward c.in_ok-mark_chain.ensures.onward;
-      faults = let cause = c.in_ok-mark_chain.ensures.cause in omega (arith, inv.faults, cause.later);
+          (subst (λ (r : Records). MarksChain r c.loop-node.node c.loop-node.marks c.mark_chain.new.marks) inv.read.records
+          (c.in_ok-mark_chain.ensures.marks t));
+      read = is_read-on g.R.Reads g.met.R.Reads.further_onward c.args.space.now c.loop-node.space c.mark_chain.new.space inv.read
+          c.in_ok-mark_chain.ensures.read;
     }
 
 pub returns-clause-marks : goal.returns-clause-marks
@@ -44,11 +42,15 @@ returns-clause-marks g c = λ t.
 
 pub returns-in_err-mark_chain-clause-cause : goal.returns-in_err-mark_chain-clause-cause
 returns-in_err-mark_chain-clause-cause g c =
-    cause_passed _ _ _ c.from_residual.result c.in_err-mark_chain.field-0.0 c.loop-node.invariant.faults c.in_err-mark_chain.ensures.cause
+    cause_passed _ _ _ c.from_residual.result c.in_err-mark_chain.field-0.0 c.loop-node.invariant.read.later c.in_err-mark_chain.ensures.cause
     c.from_residual.ensures.1
 
-pub returns-in_err-mark_chain-clause-same : goal.returns-in_err-mark_chain-clause-same
-returns-in_err-mark_chain-clause-same g c = search (rules, c.loop-node.invariant)
+pub returns-in_err-mark_chain-clause-read : goal.returns-in_err-mark_chain-clause-read
+returns-in_err-mark_chain-clause-read g c =
+    is_read-on g.R.Reads g.met.R.Reads.further_onward _ _ _ c.loop-node.invariant.read c.in_err-mark_chain.ensures.read
 
-pub returns-in_err-mark_chain-clause-written : goal.returns-in_err-mark_chain-clause-written
-returns-in_err-mark_chain-clause-written g c = search (rules, c.loop-node.invariant)
+pub returns-clause-read : goal.returns-clause-read
+returns-clause-read g c = c.loop-node.invariant.read
+
+pub returns-clause-cause : goal.returns-clause-cause
+returns-clause-cause g c = ok_cause _ _ _ _ (returns-clause-read g c).later

@@ -4,6 +4,7 @@ use Rattle.rec_bytes.specs.Record.{field}
 use Rattle.record_lists.proofs.RecordLaws.{kind_read}
 use Rattle.record_lists.proofs.Causes.{cause_passed}
 use Rattle.rec_bytes.proofs.Causes.{never_ok, ok_cause}
+use Rattle.record_lists.proofs.OnlyReads.{is_read-get}
 use Rattle.chain_check.proofs.chained.next_owned.Goals as goal
 
 pub returns-then-byte-eq-FREE-clause-none : goal.returns-then-byte-eq-FREE-clause-none
@@ -34,14 +35,27 @@ returns-in_err-rec-clause-owned g c _ = never_ok c.from_residual.result _ _ c.fr
 pub returns-in_err-rec-clause-none : goal.returns-in_err-rec-clause-none
 returns-in_err-rec-clause-none g c _ = never_ok c.from_residual.result _ _ c.from_residual.ensures.1
 
-pub returns-in_err-rec-clause-onward : goal.returns-in_err-rec-clause-onward
-returns-in_err-rec-clause-onward g c = search rules
+pub returns-in_err-rec-clause-read : goal.returns-in_err-rec-clause-read
+returns-in_err-rec-clause-read g c =
+    is_read-get g.R.Reads _ _ c.in_err-rec.ensures.state c.in_err-rec.ensures.onward c.in_err-rec.ensures.cause.later
 
 pub returns-clause-cause : goal.returns-clause-cause
-returns-clause-cause g c = ok_cause _ _ _ _ (omega arith)
+returns-clause-cause g c = ok_cause _ _ _ _ c.in_ok-rec.ensures.cause.later
 
-pub returns-in_err-rec-clause-same : goal.returns-in_err-rec-clause-same
-returns-in_err-rec-clause-same g c = search rules
+pub returns-clause-read : goal.returns-clause-read
+returns-clause-read g c =
+    is_read-get g.R.Reads _ _ c.in_ok-rec.ensures.state c.in_ok-rec.ensures.onward c.in_ok-rec.ensures.cause.later
 
-pub returns-in_err-rec-clause-written : goal.returns-in_err-rec-clause-written
-returns-in_err-rec-clause-written g c = search rules
+pub returns-then-byte-eq-FREE-clause-read : goal.returns-then-byte-eq-FREE-clause-read
+returns-then-byte-eq-FREE-clause-read g c =
+    is_read-get g.R.Reads _ _ c.in_ok-rec.ensures.state c.in_ok-rec.ensures.onward c.in_ok-rec.ensures.cause.later
+
+pub returns-then-byte-eq-FREE-clause-cause : goal.returns-then-byte-eq-FREE-clause-cause
+returns-then-byte-eq-FREE-clause-cause g c = ok_cause _ _ _ _ (returns-then-byte-eq-FREE-clause-read g c).later
+
+pub returns-then-number-node-clause-read : goal.returns-then-number-node-clause-read
+returns-then-number-node-clause-read g c =
+    is_read-get g.R.Reads _ _ c.in_ok-rec.ensures.state c.in_ok-rec.ensures.onward c.in_ok-rec.ensures.cause.later
+
+pub returns-then-number-node-clause-cause : goal.returns-then-number-node-clause-cause
+returns-then-number-node-clause-cause g c = ok_cause _ _ _ _ (returns-then-number-node-clause-read g c).later

@@ -14,7 +14,8 @@ use Rattle.chain_check.proofs.EndLaws.{keeps_of_heads, met_once, never_twice, no
 use Rattle.record_lists.proofs.HeadLaws.{told_clear}
 use Rattle.record_lists.proofs.DecidingLaws.{breaks_by}
 use Rattle.record_lists.proofs.Causes.{cause_passed}
-use Rattle.rec_bytes.proofs.Causes.{never_ok}
+use Rattle.rec_bytes.proofs.Causes.{never_ok, ok_cause}
+use Rattle.record_lists.proofs.OnlyReads.{is_read-on}
 use Rattle.chain_check.proofs.chains.mark_ends.Goals as goal
 
 pub returns-in-Some-Head-clause-broken : goal.returns-in-Some-Head-clause-broken
@@ -44,7 +45,7 @@ returns-in-Some-Head-2-clause-broken g c = λ tells.
     let group_mark : c.meta-groups.result.high ≡ high s.records groups_file = ap (λ (m : Meta). m.high) c.meta-groups.ensures in
     let told : IfSome c.in_ok-id-2.field-0 (BrokeIs (λ k. IsChained chained s.records (group_of k)) (AreGroupEnds s.records) groups first)
     = subst (λ (r : Records). IfSome c.in_ok-id-2.field-0 (BrokeIs (λ k. IsChained chained r (group_of k)) (AreGroupEnds r) groups first))
-    c.in_ok-id.ensures.same (c.in_ok-id-2.ensures.broken tells) in
+    c.in_ok-id.ensures.read.records (c.in_ok-id-2.ensures.broken tells) in
     let b : BrokeIs (λ k. IsChained chained s.records (group_of k)) (AreGroupEnds s.records) groups first (Head id) = search (rules, told) in
     breaks_by s.records s.shape 3 c.broken-in-Some-Head-2.result (damage 3 (id / 3) 3) c.broken-in-Some-Head-2.ensures refl
     (GroupChains (id / 3) (omega (arith, b.0)) (own_chain s.records chained right id b.1) (λ k. b.1 (heads_of_keeps s.records chained right id k)))
@@ -61,7 +62,7 @@ returns-in-Some-Item-2-clause-broken g c = λ tells.
     search (rules, c.in_ok-id.ensures.marks tells) in
     let twice : IfSome c.in_ok-id-2.field-0 (BrokeIs (λ k. IsChained chained s.records (group_of k)) (AreGroupEnds s.records) groups first)
     = subst (λ (r : Records). IfSome c.in_ok-id-2.field-0 (BrokeIs (λ k. IsChained chained r (group_of k)) (AreGroupEnds r) groups first))
-    c.in_ok-id.ensures.same (c.in_ok-id-2.ensures.broken tells) in
+    c.in_ok-id.ensures.read.records (c.in_ok-id-2.ensures.broken tells) in
     let b : BrokeIs (λ k. IsChained chained s.records (group_of k)) (AreGroupEnds s.records) groups first (Item end) = search (rules, twice) in
     let bad = group_twice s.records chained (c.requires.chained tells) nodes groups first end
     (told_clear (IsSparse s.records) (AreNodeEnds s.records) nodes c.args.marks.now first c.requires.clear told) b in
@@ -84,15 +85,16 @@ returns-in-None-2-clause-met g c = λ tells.
     told_clear (IsSparse s.records) (AreNodeEnds s.records) nodes c.args.marks.now first c.requires.clear told in
     let node_heads : (k : ℕ) → k < nodes → HeadKeeps (IsSparse s.records) (AreNodeEnds s.records) k = search (rules, c.in_ok-id.ensures.keeps tells) in
     let marks : IfNone c.in_ok-id-2.field-0 ((p : ℕ) → Decides (marked last p) ((marked first p ≡ true) ⊎ AmongHeads (λ k. IsChained chained s.records (group_of k)) (AreGroupEnds s.records) groups p))
-    = subst (λ (r : Records). IfNone c.in_ok-id-2.field-0 ((p : ℕ) → Decides (marked last p) ((marked first p ≡ true) ⊎ AmongHeads (λ k. IsChained chained r (group_of k)) (AreGroupEnds r) groups p))) c.in_ok-id.ensures.same (c.in_ok-id-2.ensures.marks tells) in
+    = subst (λ (r : Records). IfNone c.in_ok-id-2.field-0 ((p : ℕ) → Decides (marked last p) ((marked first p ≡ true) ⊎ AmongHeads
+    (λ k. IsChained chained r (group_of k)) (AreGroupEnds r) groups p))) c.in_ok-id.ensures.read.records (c.in_ok-id-2.ensures.marks tells) in
     let group_told : (p : ℕ) → Decides (marked last p) ((marked first p ≡ true) ⊎ AmongHeads (λ k. IsChained chained s.records (group_of k)) (AreGroupEnds s.records) groups p) = search (rules, marks) in
     let keeps : IfNone c.in_ok-id-2.field-0 ((k : ℕ) → k < groups → HeadKeeps (λ k. IsChained chained s.records (group_of k)) (AreGroupEnds s.records) k)
     = subst (λ (r : Records). IfNone c.in_ok-id-2.field-0 ((k : ℕ) → k < groups → HeadKeeps (λ k. IsChained chained r (group_of k)) (AreGroupEnds r) k))
-    c.in_ok-id.ensures.same (c.in_ok-id-2.ensures.keeps tells) in
+    c.in_ok-id.ensures.read.records (c.in_ok-id-2.ensures.keeps tells) in
     let group_heads : (k : ℕ) → k < groups → HeadKeeps (λ k. IsChained chained s.records (group_of k)) (AreGroupEnds s.records) k = search (rules, keeps) in
     let once : IfNone c.in_ok-id-2.field-0 ((p : ℕ) → IsOnce (λ k. IsChained chained s.records (group_of k)) (AreGroupEnds s.records) groups p)
     = subst (λ (r : Records). IfNone c.in_ok-id-2.field-0 ((p : ℕ) → IsOnce (λ k. IsChained chained r (group_of k)) (AreGroupEnds r) groups p))
-    c.in_ok-id.ensures.same (c.in_ok-id-2.ensures.once tells) in
+    c.in_ok-id.ensures.read.records (c.in_ok-id-2.ensures.once tells) in
     let group_once : (p : ℕ) → IsOnce (λ k. IsChained chained s.records (group_of k)) (AreGroupEnds s.records) groups p = search (rules, once) in
     let all_told = subst (λ m. (p : ℕ) → Decides (marked last p) ((marked first p ≡ true) ⊎ AmongHeads (λ k. IsChained chained s.records (group_of k)) (AreGroupEnds s.records) (3 * m) p)) group_mark group_told in
     record {
@@ -112,21 +114,21 @@ returns-in_err-id-2-clause-cause g c =
     cause_passed _ _ _ c.from_residual-in_err-id-2.result c.in_err-id-2.field-0.0 c.in_ok-id.ensures.cause.later c.in_err-id-2.ensures.cause
     c.from_residual-in_err-id-2.ensures.1
 
-pub returns-in_err-id-2-clause-onward : goal.returns-in_err-id-2-clause-onward
-returns-in_err-id-2-clause-onward g c =
-    g.met.R.Reads.further_onward _ _ _ c.in_ok-id.ensures.onward c.in_err-id-2.ensures.onward
+pub returns-in_err-id-2-clause-read : goal.returns-in_err-id-2-clause-read
+returns-in_err-id-2-clause-read g c =
+    is_read-on g.R.Reads g.met.R.Reads.further_onward _ _ _ c.in_ok-id.ensures.read c.in_err-id-2.ensures.read
 
-pub returns-in-Some-Head-2-clause-onward : goal.returns-in-Some-Head-2-clause-onward
-returns-in-Some-Head-2-clause-onward g c =
-    g.met.R.Reads.further_onward _ _ _ c.in_ok-id.ensures.onward c.in_ok-id-2.ensures.onward
+pub returns-in-Some-Head-2-clause-read : goal.returns-in-Some-Head-2-clause-read
+returns-in-Some-Head-2-clause-read g c =
+    is_read-on g.R.Reads g.met.R.Reads.further_onward _ _ _ c.in_ok-id.ensures.read c.in_ok-id-2.ensures.read
 
-pub returns-in-Some-Item-2-clause-onward : goal.returns-in-Some-Item-2-clause-onward
-returns-in-Some-Item-2-clause-onward g c =
-    g.met.R.Reads.further_onward _ _ _ c.in_ok-id.ensures.onward c.in_ok-id-2.ensures.onward
+pub returns-in-Some-Item-2-clause-read : goal.returns-in-Some-Item-2-clause-read
+returns-in-Some-Item-2-clause-read g c =
+    is_read-on g.R.Reads g.met.R.Reads.further_onward _ _ _ c.in_ok-id.ensures.read c.in_ok-id-2.ensures.read
 
-pub returns-in-None-2-clause-onward : goal.returns-in-None-2-clause-onward
-returns-in-None-2-clause-onward g c =
-    g.met.R.Reads.further_onward _ _ _ c.in_ok-id.ensures.onward c.in_ok-id-2.ensures.onward
+pub returns-in-None-2-clause-read : goal.returns-in-None-2-clause-read
+returns-in-None-2-clause-read g c =
+    is_read-on g.R.Reads g.met.R.Reads.further_onward _ _ _ c.in_ok-id.ensures.read c.in_ok-id-2.ensures.read
 
 pub returns-in_err-id-clause-met : goal.returns-in_err-id-clause-met
 returns-in_err-id-clause-met g c _ = never_ok c.from_residual.result _ _ c.from_residual.ensures.1
@@ -134,8 +136,9 @@ returns-in_err-id-clause-met g c _ = never_ok c.from_residual.result _ _ c.from_
 pub returns-in_err-id-clause-broken : goal.returns-in_err-id-clause-broken
 returns-in_err-id-clause-broken g c _ = never_ok c.from_residual.result _ _ c.from_residual.ensures.1
 
-pub returns-in_err-id-clause-onward : goal.returns-in_err-id-clause-onward
-returns-in_err-id-clause-onward g c = search rules
+pub returns-in_err-id-clause-read : goal.returns-in_err-id-clause-read
+returns-in_err-id-clause-read g c =
+    c.in_err-id.ensures.read
 
 pub returns-in_err-id-2-clause-met : goal.returns-in_err-id-2-clause-met
 returns-in_err-id-2-clause-met g c _ = never_ok c.from_residual-in_err-id-2.result _ _ c.from_residual-in_err-id-2.ensures.1
@@ -143,14 +146,23 @@ returns-in_err-id-2-clause-met g c _ = never_ok c.from_residual-in_err-id-2.resu
 pub returns-in_err-id-2-clause-broken : goal.returns-in_err-id-2-clause-broken
 returns-in_err-id-2-clause-broken g c _ = never_ok c.from_residual-in_err-id-2.result _ _ c.from_residual-in_err-id-2.ensures.1
 
-pub returns-in_err-id-clause-same : goal.returns-in_err-id-clause-same
-returns-in_err-id-clause-same g c = search rules
+pub returns-in-Some-Head-clause-read : goal.returns-in-Some-Head-clause-read
+returns-in-Some-Head-clause-read g c = c.in_ok-id.ensures.read
 
-pub returns-in_err-id-clause-written : goal.returns-in_err-id-clause-written
-returns-in_err-id-clause-written g c = search rules
+pub returns-in-Some-Head-clause-cause : goal.returns-in-Some-Head-clause-cause
+returns-in-Some-Head-clause-cause g c = ok_cause _ _ _ _ (returns-in-Some-Head-clause-read g c).later
 
-pub returns-in_err-id-2-clause-same : goal.returns-in_err-id-2-clause-same
-returns-in_err-id-2-clause-same g c = search rules
+pub returns-in-Some-Item-clause-read : goal.returns-in-Some-Item-clause-read
+returns-in-Some-Item-clause-read g c = c.in_ok-id.ensures.read
 
-pub returns-in_err-id-2-clause-written : goal.returns-in_err-id-2-clause-written
-returns-in_err-id-2-clause-written g c = search rules
+pub returns-in-Some-Item-clause-cause : goal.returns-in-Some-Item-clause-cause
+returns-in-Some-Item-clause-cause g c = ok_cause _ _ _ _ (returns-in-Some-Item-clause-read g c).later
+
+pub returns-in-None-2-clause-cause : goal.returns-in-None-2-clause-cause
+returns-in-None-2-clause-cause g c = ok_cause _ _ _ _ (returns-in-None-2-clause-read g c).later
+
+pub returns-in-Some-Head-2-clause-cause : goal.returns-in-Some-Head-2-clause-cause
+returns-in-Some-Head-2-clause-cause g c = ok_cause _ _ _ _ (returns-in-Some-Head-2-clause-read g c).later
+
+pub returns-in-Some-Item-2-clause-cause : goal.returns-in-Some-Item-2-clause-cause
+returns-in-Some-Item-2-clause-cause g c = ok_cause _ _ _ _ (returns-in-Some-Item-2-clause-read g c).later

@@ -8,9 +8,11 @@ use Rattle.store_rules.specs.Views.{Records, high}
 use Rattle.record_lists.specs.Heads.{AmongHeads, BrokeIs, HeadKeeps}
 use Rattle.record_lists.specs.Marks.{marked}
 use Rattle.record_lists.proofs.Causes.{cause_passed}
+use Rattle.chain_check.proofs.Causes.{cause_later}
 use Rattle.chain_check.specs.LinkRows.{AreLinkRows, AreRowEndsOf}
 use Rattle.chain_check.specs.NodeChains.{IsSparse}
 use Rattle.chain_check.proofs.RowLaws.{broken_found, keeps_found, marks_found}
+use Rattle.record_lists.proofs.OnlyReads.{is_read-on}
 use Rattle.chain_check.proofs.chains.mark_node_ends.Goals as goal
 
 pub returns-clause-keeps : goal.returns-clause-keeps
@@ -20,7 +22,7 @@ returns-clause-keeps g c = λ tells.
     let rows = c.deref.result.now in
     let is : rows ≡ c.in_ok-rows.rows.items = c.deref.ensures.value in
     let nodes = c.meta-nodes.result.high in
-    let same = c.in_ok-rows.ensures.same in
+    let same = c.in_ok-rows.ensures.read.records in
     let mark : nodes ≡ high records nodes_file = ap (λ (m : Meta). m.high) c.meta-nodes.ensures ∙ ap (λ (r : Records). high r nodes_file) same in
     IfOk-weaker c.list_heads.result (λ found. IfNone found ((k : ℕ) → k < nodes → HeadKeeps (IsSparse after) (AreRowEndsOf rows after) k)) _
     (keeps_found records after rows nodes same mark (subst (AreLinkRows records) (sym is) (c.in_ok-rows.ensures.rows tells))
@@ -33,7 +35,7 @@ returns-clause-marks g c = λ tells.
     let rows = c.deref.result.now in
     let is : rows ≡ c.in_ok-rows.rows.items = c.deref.ensures.value in
     let nodes = c.meta-nodes.result.high in
-    let same = c.in_ok-rows.ensures.same in
+    let same = c.in_ok-rows.ensures.read.records in
     let old = c.args.marks.now in
     let new = c.list_heads.new.marks in
     let mark : nodes ≡ high records nodes_file = ap (λ (m : Meta). m.high) c.meta-nodes.ensures ∙ ap (λ (r : Records). high r nodes_file) same in
@@ -49,7 +51,7 @@ returns-clause-broken g c = λ tells.
     let rows = c.deref.result.now in
     let is : rows ≡ c.in_ok-rows.rows.items = c.deref.ensures.value in
     let nodes = c.meta-nodes.result.high in
-    let same = c.in_ok-rows.ensures.same in
+    let same = c.in_ok-rows.ensures.read.records in
     let old = c.args.marks.now in
     let mark : nodes ≡ high records nodes_file = ap (λ (m : Meta). m.high) c.meta-nodes.ensures ∙ ap (λ (r : Records). high r nodes_file) same in
     IfOk-weaker c.list_heads.result (λ found. IfSome found (BrokeIs (IsSparse after) (AreRowEndsOf rows after) nodes old)) _
@@ -58,7 +60,7 @@ returns-clause-broken g c = λ tells.
 
 pub list_heads-requires-clause-suits : goal.list_heads-requires-clause-suits
 list_heads-requires-clause-suits g c =
-    let same = c.in_ok-rows.ensures.same in
+    let same = c.in_ok-rows.ensures.read.records in
     let few : high (g.R.Reads.state c.args.space.now).records relationships_file ≤ most_ids = c.requires.low relationships_file refl in
     record {
       nodes = ap (λ (m : Meta). m.high) c.meta-nodes.ensures;
@@ -75,15 +77,16 @@ returns-in_err-rows-clause-marks g c _ = never_ok c.from_residual.result _ _ c.f
 pub returns-in_err-rows-clause-broken : goal.returns-in_err-rows-clause-broken
 returns-in_err-rows-clause-broken g c _ = never_ok c.from_residual.result _ _ c.from_residual.ensures.1
 
-pub returns-in_err-rows-clause-same : goal.returns-in_err-rows-clause-same
-returns-in_err-rows-clause-same g c = search rules
-
-pub returns-in_err-rows-clause-written : goal.returns-in_err-rows-clause-written
-returns-in_err-rows-clause-written g c = search rules
-
-pub returns-in_err-rows-clause-onward : goal.returns-in_err-rows-clause-onward
-returns-in_err-rows-clause-onward g c = search rules
+pub returns-in_err-rows-clause-read : goal.returns-in_err-rows-clause-read
+returns-in_err-rows-clause-read g c =
+    c.in_err-rows.ensures.read
 
 pub returns-in_err-rows-clause-cause : goal.returns-in_err-rows-clause-cause
 returns-in_err-rows-clause-cause g c =
     cause_passed _ _ _ c.from_residual.result c.in_err-rows.field-0.0 (omega arith) c.in_err-rows.ensures.cause c.from_residual.ensures.1
+
+pub returns-clause-read : goal.returns-clause-read
+returns-clause-read g c = is_read-on g.R.Reads g.met.R.Reads.further_onward _ _ _ c.link_rows.ensures.read c.list_heads.ensures.read
+
+pub returns-clause-cause : goal.returns-clause-cause
+returns-clause-cause g c = cause_later _ _ _ c.list_heads.result c.link_rows.ensures.read.later c.list_heads.ensures.cause

@@ -1,6 +1,7 @@
 use Rattle.std.proofs.Common.{arith, rules}
 use Rattle.record_lists.proofs.Causes.{cause_passed}
-use Rattle.rec_bytes.proofs.Causes.{never_ok}
+use Rattle.rec_bytes.proofs.Causes.{never_ok, ok_cause}
+use Rattle.record_lists.proofs.OnlyReads.{is_read-on}
 use Rattle.chain_check.proofs.counts.are_as_long.Goals as goal
 
 pub returns-in_err-out-clause-cause : goal.returns-in_err-out-clause-cause
@@ -22,33 +23,31 @@ returns-in_err-loops-clause-cause g c =
 pub returns-then-into-clause-told : goal.returns-then-into-clause-told
 returns-then-into-clause-told g c = search rules
 
-pub returns-in_err-into-clause-onward : goal.returns-in_err-into-clause-onward
-returns-in_err-into-clause-onward g c =
-    g.met.R.Reads.further_onward _ _ _ c.in_ok-out.ensures.onward c.in_err-into.ensures.onward
+pub returns-in_err-into-clause-read : goal.returns-in_err-into-clause-read
+returns-in_err-into-clause-read g c =
+    is_read-on g.R.Reads g.met.R.Reads.further_onward _ _ _ c.in_ok-out.ensures.read c.in_err-into.ensures.read
 
-pub returns-in_err-loops-clause-onward : goal.returns-in_err-loops-clause-onward
-returns-in_err-loops-clause-onward g c =
-    g.met.R.Reads.further_onward _ _ _
-    (g.met.R.Reads.further_onward _ _ _ c.in_ok-out.ensures.onward c.in_ok-into.ensures.onward)
-    c.in_err-loops.ensures.onward
+pub returns-in_err-loops-clause-read : goal.returns-in_err-loops-clause-read
+returns-in_err-loops-clause-read g c =
+    is_read-on g.R.Reads g.met.R.Reads.further_onward _ _ _ (is_read-on g.R.Reads g.met.R.Reads.further_onward _ _ _ c.in_ok-out.ensures.read
+    c.in_ok-into.ensures.read) c.in_err-loops.ensures.read
 
-pub returns-then-into-clause-onward : goal.returns-then-into-clause-onward
-returns-then-into-clause-onward g c =
-    g.met.R.Reads.further_onward _ _ _
-    (g.met.R.Reads.further_onward _ _ _ c.in_ok-out.ensures.onward c.in_ok-into.ensures.onward)
-    c.in_ok-loops.ensures.onward
+pub returns-then-into-clause-read : goal.returns-then-into-clause-read
+returns-then-into-clause-read g c =
+    is_read-on g.R.Reads g.met.R.Reads.further_onward _ _ _ (is_read-on g.R.Reads g.met.R.Reads.further_onward _ _ _ c.in_ok-out.ensures.read
+    c.in_ok-into.ensures.read) c.in_ok-loops.ensures.read
 
-pub returns-else-into-clause-onward : goal.returns-else-into-clause-onward
-returns-else-into-clause-onward g c =
-    g.met.R.Reads.further_onward _ _ _
-    (g.met.R.Reads.further_onward _ _ _ c.in_ok-out.ensures.onward c.in_ok-into.ensures.onward)
-    c.in_ok-loops.ensures.onward
+pub returns-else-into-clause-read : goal.returns-else-into-clause-read
+returns-else-into-clause-read g c =
+    is_read-on g.R.Reads g.met.R.Reads.further_onward _ _ _ (is_read-on g.R.Reads g.met.R.Reads.further_onward _ _ _ c.in_ok-out.ensures.read
+    c.in_ok-into.ensures.read) c.in_ok-loops.ensures.read
 
 pub returns-in_err-out-clause-told : goal.returns-in_err-out-clause-told
 returns-in_err-out-clause-told g c _ = never_ok c.from_residual.result _ _ c.from_residual.ensures.1
 
-pub returns-in_err-out-clause-onward : goal.returns-in_err-out-clause-onward
-returns-in_err-out-clause-onward g c = search rules
+pub returns-in_err-out-clause-read : goal.returns-in_err-out-clause-read
+returns-in_err-out-clause-read g c =
+    c.in_err-out.ensures.read
 
 pub returns-in_err-into-clause-told : goal.returns-in_err-into-clause-told
 returns-in_err-into-clause-told g c _ = never_ok c.from_residual-in_err-into.result _ _ c.from_residual-in_err-into.ensures.1
@@ -56,20 +55,8 @@ returns-in_err-into-clause-told g c _ = never_ok c.from_residual-in_err-into.res
 pub returns-in_err-loops-clause-told : goal.returns-in_err-loops-clause-told
 returns-in_err-loops-clause-told g c _ = never_ok c.from_residual-in_err-loops.result _ _ c.from_residual-in_err-loops.ensures.1
 
-pub returns-in_err-out-clause-same : goal.returns-in_err-out-clause-same
-returns-in_err-out-clause-same g c = search rules
+pub returns-else-into-clause-cause : goal.returns-else-into-clause-cause
+returns-else-into-clause-cause g c = ok_cause _ _ _ _ (returns-else-into-clause-read g c).later
 
-pub returns-in_err-out-clause-written : goal.returns-in_err-out-clause-written
-returns-in_err-out-clause-written g c = search rules
-
-pub returns-in_err-into-clause-same : goal.returns-in_err-into-clause-same
-returns-in_err-into-clause-same g c = search rules
-
-pub returns-in_err-into-clause-written : goal.returns-in_err-into-clause-written
-returns-in_err-into-clause-written g c = search rules
-
-pub returns-in_err-loops-clause-same : goal.returns-in_err-loops-clause-same
-returns-in_err-loops-clause-same g c = search rules
-
-pub returns-in_err-loops-clause-written : goal.returns-in_err-loops-clause-written
-returns-in_err-loops-clause-written g c = search rules
+pub returns-then-into-clause-cause : goal.returns-then-into-clause-cause
+returns-then-into-clause-cause g c = ok_cause _ _ _ _ (returns-then-into-clause-read g c).later

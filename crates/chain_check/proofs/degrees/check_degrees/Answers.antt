@@ -11,6 +11,7 @@ use Rattle.chain_check.proofs.DegreeLaws.{are_counted}
 use Rattle.record_lists.proofs.DecidingLaws.{breaks_by}
 use Rattle.rec_bytes.proofs.Causes.{never_ok, ok_cause}
 use Rattle.record_lists.proofs.Causes.{cause_passed}
+use Rattle.record_lists.proofs.OnlyReads.{is_read-on}
 use Rattle.chain_check.proofs.degrees.check_degrees.Goals as goal
 
 pub returns-in-Some-clause-decided : goal.returns-in-Some-clause-decided
@@ -19,10 +20,10 @@ returns-in-Some-clause-decided g c = λ tells.
     let degrees = c.in_ok-degrees.degrees in
     let id = c.in-Some.id in
     let mark : c.meta-nodes.result.high ≡ high s.records nodes_file = ap (λ (m : Meta). m.high) c.meta-nodes.ensures
-    ∙ ap (λ (r : Records). high r nodes_file) c.in_ok-degrees.ensures.same in
+    ∙ ap (λ (r : Records). high r nodes_file) c.in_ok-degrees.ensures.read.records in
     let counts = c.in_ok-degrees.ensures.counts tells in
     let found : IfSome c.in_ok-id.field-0 (λ x. (x < c.meta-nodes.result.high) × (¬ HasDegree degrees s.records x))
-    = subst (λ (r : Records). IfSome c.in_ok-id.field-0 (λ x. (x < c.meta-nodes.result.high) × (¬ HasDegree degrees r x))) c.in_ok-degrees.ensures.same
+    = subst (λ (r : Records). IfSome c.in_ok-id.field-0 (λ x. (x < c.meta-nodes.result.high) × (¬ HasDegree degrees r x))) c.in_ok-degrees.ensures.read.records
     (c.in_ok-id.ensures.found tells) in
     let bad : (id < c.meta-nodes.result.high) × (¬ HasDegree degrees s.records id) = search (rules, found) in
     let low : id < length degrees.counts.items = let len = c.in_ok-degrees.ensures.len in omega (arith, bad.0) in
@@ -34,11 +35,11 @@ returns-clause-decided g c = λ tells.
     let s = g.R.Reads.state c.args.space.now in
     let degrees = c.in_ok-degrees.degrees in
     let mark : c.meta-nodes.result.high ≡ high s.records nodes_file = ap (λ (m : Meta). m.high) c.meta-nodes.ensures
-    ∙ ap (λ (r : Records). high r nodes_file) c.in_ok-degrees.ensures.same in
+    ∙ ap (λ (r : Records). high r nodes_file) c.in_ok-degrees.ensures.read.records in
     let counts = c.in_ok-degrees.ensures.counts tells in
     let len = c.in_ok-degrees.ensures.len in
     let none : IfNone c.in_ok-id.field-0 ((x : ℕ) → x < c.meta-nodes.result.high → HasDegree degrees s.records x)
-    = subst (λ (r : Records). IfNone c.in_ok-id.field-0 ((x : ℕ) → x < c.meta-nodes.result.high → HasDegree degrees r x)) c.in_ok-degrees.ensures.same
+    = subst (λ (r : Records). IfNone c.in_ok-id.field-0 ((x : ℕ) → x < c.meta-nodes.result.high → HasDegree degrees r x)) c.in_ok-degrees.ensures.read.records
     (c.in_ok-id.ensures.none tells) in
     let each : (x : ℕ) → x < c.meta-nodes.result.high → HasDegree degrees s.records x = search (rules, none) in
     are_counted s.records s.shape.threshold (λ n. ⊎_elim
@@ -53,8 +54,9 @@ returns-clause-decided g c = λ tells.
 pub returns-in_err-degrees-clause-decided : goal.returns-in_err-degrees-clause-decided
 returns-in_err-degrees-clause-decided g c _ = never_ok c.from_residual.result _ _ c.from_residual.ensures.1
 
-pub returns-in_err-degrees-clause-onward : goal.returns-in_err-degrees-clause-onward
-returns-in_err-degrees-clause-onward g c = search rules
+pub returns-in_err-degrees-clause-read : goal.returns-in_err-degrees-clause-read
+returns-in_err-degrees-clause-read g c =
+    c.in_err-degrees.ensures.read
 
 pub returns-in_err-id-clause-decided : goal.returns-in_err-id-clause-decided
 returns-in_err-id-clause-decided g c _ = never_ok c.from_residual-in_err-id.result _ _ c.from_residual-in_err-id.ensures.1
@@ -62,23 +64,24 @@ returns-in_err-id-clause-decided g c _ = never_ok c.from_residual-in_err-id.resu
 pub returns-clause-cause : goal.returns-clause-cause
 returns-clause-cause g c = ok_cause _ _ _ _ (omega arith)
 
-pub returns-in_err-degrees-clause-same : goal.returns-in_err-degrees-clause-same
-returns-in_err-degrees-clause-same g c = search rules
-
-pub returns-in_err-degrees-clause-written : goal.returns-in_err-degrees-clause-written
-returns-in_err-degrees-clause-written g c = search rules
-
 pub returns-in_err-degrees-clause-cause : goal.returns-in_err-degrees-clause-cause
 returns-in_err-degrees-clause-cause g c =
     cause_passed _ _ _ c.from_residual.result c.in_err-degrees.field-0.0 (omega arith) c.in_err-degrees.ensures.cause c.from_residual.ensures.1
 
-pub returns-in_err-id-clause-same : goal.returns-in_err-id-clause-same
-returns-in_err-id-clause-same g c = search rules
-
-pub returns-in_err-id-clause-written : goal.returns-in_err-id-clause-written
-returns-in_err-id-clause-written g c = search rules
+pub returns-in_err-id-clause-read : goal.returns-in_err-id-clause-read
+returns-in_err-id-clause-read g c =
+    is_read-on g.R.Reads g.met.R.Reads.further_onward _ _ _ c.count_degrees.ensures.read c.in_err-id.ensures.read
 
 pub returns-in_err-id-clause-cause : goal.returns-in_err-id-clause-cause
 returns-in_err-id-clause-cause g c =
     cause_passed _ _ _ c.from_residual-in_err-id.result c.in_err-id.field-0.0 c.in_ok-degrees.ensures.cause.later
     c.in_err-id.ensures.cause c.from_residual-in_err-id.ensures.1
+
+pub returns-clause-read : goal.returns-clause-read
+returns-clause-read g c = is_read-on g.R.Reads g.met.R.Reads.further_onward _ _ _ c.count_degrees.ensures.read c.find_false.ensures.read
+
+pub returns-in-Some-clause-read : goal.returns-in-Some-clause-read
+returns-in-Some-clause-read g c = is_read-on g.R.Reads g.met.R.Reads.further_onward _ _ _ c.count_degrees.ensures.read c.find_false.ensures.read
+
+pub returns-in-Some-clause-cause : goal.returns-in-Some-clause-cause
+returns-in-Some-clause-cause g c = ok_cause _ _ _ _ (returns-in-Some-clause-read g c).later

@@ -6,6 +6,7 @@ use Rattle.chain_check.specs.NodeChains.{is_of_node}
 use Rattle.chain_check.proofs.DegreeLaws.{degree_more}
 use Rattle.rec_bytes.proofs.Causes.{never_ok, ok_cause}
 use Rattle.record_lists.proofs.Causes.{cause_passed}
+use Rattle.record_lists.proofs.OnlyReads.{is_read-none, is_read-on, is_read-get}
 use Rattle.chain_check.proofs.degrees.count_ends.Goals as goal
 
 small : (b : Bool) → cond b 1 0 ≤ 1
@@ -14,13 +15,10 @@ small false = omega arith
 
 pub loop-id-init : goal.loop-id-init
 loop-id-init g c = record {
-  same = refl;
-  written = refl;
   len = refl;
   low = λ n lt. let e = c.requires.none n in omega arith;
   counts = λ t n lt. c.requires.none n;
-  onward = g.met.R.Reads.stays_onward c.args.space.now;
-  faults = omega arith;
+  read = is_read-none g.R.Reads g.met.R.Reads.stays_onward c.args.space.now;
 }
 
 pub loop-id-preserved : goal.loop-id-preserved
@@ -31,8 +29,6 @@ loop-id-preserved g c =
     let lt : c.loop-id.id < high records relationships_file = omega (arith, c.loop-id-test.true) in
     let len = c.count_rel.ensures.len in
     record {
-      same = ap (λ s. s.records) c.in_ok-rec.ensures.state ∙ inv.same;
-      written = ap (λ s. s.written) c.in_ok-rec.ensures.state ∙ inv.written;
       len = len ∙ inv.len;
       low = λ n low.
           let was : n < length c.loop-id.counts = omega arith in
@@ -40,25 +36,28 @@ loop-id-preserved g c =
       counts = λ t n low.
           let was : n < length c.loop-id.counts = omega arith in
           let got : c.in_ok-rec.rec ≡ rec_at records relationships_file c.loop-id.id = c.in_ok-rec.ensures.got t
-          ∙ ap (λ rs. rec_at rs relationships_file c.loop-id.id) inv.same in
+          ∙ ap (λ rs. rec_at rs relationships_file c.loop-id.id) inv.read.records in
           c.count_rel.ensures.count n was ∙ ap (λ m. m + cond (is_of_node n c.in_ok-rec.rec) 1 0) (inv.counts t n was)
           ∙ sym (degree_more records c.loop-id.id (c.loop-id.id + 1) n c.in_ok-rec.rec lt got refl);
-      onward = g.met.R.Reads.further_onward c.args.space.now c.loop-id.space c.get.new.self inv.onward c.in_ok-rec.ensures.onward;
-      faults = let cause = c.in_ok-rec.ensures.cause in omega (arith, inv.faults, cause.later);
+      read = is_read-on g.R.Reads g.met.R.Reads.further_onward c.args.space.now c.loop-id.space c.get.new.self inv.read (is_read-get g.R.Reads _ _
+          c.in_ok-rec.ensures.state c.in_ok-rec.ensures.onward c.in_ok-rec.ensures.cause.later);
     }
 
 pub returns-in_err-rec-clause-counts : goal.returns-in_err-rec-clause-counts
 returns-in_err-rec-clause-counts g c _ = never_ok c.from_residual.result _ _ c.from_residual.ensures.1
 
 pub returns-clause-cause : goal.returns-clause-cause
-returns-clause-cause g c = ok_cause _ _ _ _ (omega arith)
+returns-clause-cause g c = ok_cause _ _ _ _ c.loop-id.invariant.read.later
 
-pub returns-in_err-rec-clause-same : goal.returns-in_err-rec-clause-same
-returns-in_err-rec-clause-same g c = search (rules, c.loop-id.invariant)
-
-pub returns-in_err-rec-clause-written : goal.returns-in_err-rec-clause-written
-returns-in_err-rec-clause-written g c = search (rules, c.loop-id.invariant)
+pub returns-in_err-rec-clause-read : goal.returns-in_err-rec-clause-read
+returns-in_err-rec-clause-read g c =
+    is_read-on g.R.Reads g.met.R.Reads.further_onward _ _ _ c.loop-id.invariant.read (is_read-get g.R.Reads _ _ c.in_err-rec.ensures.state
+    c.in_err-rec.ensures.onward c.in_err-rec.ensures.cause.later)
 
 pub returns-in_err-rec-clause-cause : goal.returns-in_err-rec-clause-cause
 returns-in_err-rec-clause-cause g c =
-    cause_passed _ _ _ c.from_residual.result c.in_err-rec.field-0.0 c.loop-id.invariant.faults c.in_err-rec.ensures.cause c.from_residual.ensures.1
+    cause_passed _ _ _ c.from_residual.result c.in_err-rec.field-0.0 c.loop-id.invariant.read.later c.in_err-rec.ensures.cause c.from_residual.ensures.1
+
+pub returns-clause-read : goal.returns-clause-read
+returns-clause-read g c =
+    c.loop-id.invariant.read

@@ -8,7 +8,9 @@ use Rattle.chain_check.proofs.GroupCountLaws.{are_exact, counts_hold}
 use Rattle.store_rules.proofs.ChainRules.{Grouped, linked_of}
 use Rattle.record_lists.proofs.DecidingLaws.{breaks_by}
 use Rattle.record_lists.proofs.Causes.{cause_passed}
+use Rattle.chain_check.proofs.Causes.{no_memory}
 use Rattle.rec_bytes.proofs.Causes.{never_ok, ok_cause}
+use Rattle.record_lists.proofs.OnlyReads.{is_read-none, is_read-on}
 use Rattle.chain_check.proofs.groups.check_groups.Goals as goal
 
 pub returns-in-Some-2-clause-decided : goal.returns-in-Some-2-clause-decided
@@ -16,7 +18,7 @@ returns-in-Some-2-clause-decided g c = λ tells.
     let s = g.R.Reads.state c.args.space.now in
     let id = c.in-Some-2.id in
     let found : IfSome c.in_ok-id.field-0 (λ k. ¬ CountsHold s.records k)
-    = subst (λ (r : Records). IfSome c.in_ok-id.field-0 (λ k. ¬ CountsHold r k)) c.in_ok-damage.ensures.same (c.in_ok-id.ensures.found tells) in
+    = subst (λ (r : Records). IfSome c.in_ok-id.field-0 (λ k. ¬ CountsHold r k)) c.in_ok-damage.ensures.read.records (c.in_ok-id.ensures.found tells) in
     let grouped : Grouped s.records = search (rules, c.in_ok-damage.ensures.grouped tells) in
     let bad : ¬ CountsHold s.records id = search (rules, found) in
     breaks_by s.records s.shape 4 c.broken.result (damage 3 id 4) c.broken.ensures refl
@@ -27,7 +29,7 @@ returns-clause-decided g c = λ tells.
     let s = g.R.Reads.state c.args.space.now in
     let grouped : Grouped s.records = search (rules, c.in_ok-damage.ensures.grouped tells) in
     let none : IfNone c.in_ok-id.field-0 ((k : ℕ) → k < high s.records groups_file → CountsHold s.records k)
-    = subst (λ (r : Records). IfNone c.in_ok-id.field-0 ((k : ℕ) → k < high r groups_file → CountsHold r k)) c.in_ok-damage.ensures.same
+    = subst (λ (r : Records). IfNone c.in_ok-id.field-0 ((k : ℕ) → k < high r groups_file → CountsHold r k)) c.in_ok-damage.ensures.read.records
     (c.in_ok-id.ensures.none tells) in
     let hold : (k : ℕ) → k < high s.records groups_file → CountsHold s.records k = search (rules, none) in
     record { grouped = grouped; exact = are_exact s.records (linked_of s.records grouped (c.requires.chained tells)) (c.requires.low relationships_file refl) grouped hold }
@@ -41,22 +43,24 @@ returns-in_err-id-clause-cause g c =
     cause_passed _ _ _ c.from_residual-in_err-id.result c.in_err-id.field-0.0 c.in_ok-damage.ensures.cause.later c.in_err-id.ensures.cause
     c.from_residual-in_err-id.ensures.1
 
-pub returns-in_err-id-clause-onward : goal.returns-in_err-id-clause-onward
-returns-in_err-id-clause-onward g c =
-    g.met.R.Reads.further_onward _ _ _ c.in_ok-damage.ensures.onward c.in_err-id.ensures.onward
+pub returns-in_err-id-clause-read : goal.returns-in_err-id-clause-read
+returns-in_err-id-clause-read g c =
+    is_read-on g.R.Reads g.met.R.Reads.further_onward _ _ _ c.in_ok-damage.ensures.read c.in_err-id.ensures.read
 
-pub returns-in-Some-2-clause-onward : goal.returns-in-Some-2-clause-onward
-returns-in-Some-2-clause-onward g c =
-    g.met.R.Reads.further_onward _ _ _ c.in_ok-damage.ensures.onward c.in_ok-id.ensures.onward
+pub returns-in-Some-2-clause-read : goal.returns-in-Some-2-clause-read
+returns-in-Some-2-clause-read g c =
+    is_read-on g.R.Reads g.met.R.Reads.further_onward _ _ _ c.in_ok-damage.ensures.read c.in_ok-id.ensures.read
 
-pub returns-clause-onward : goal.returns-clause-onward
-returns-clause-onward g c = g.met.R.Reads.further_onward _ _ _ c.in_ok-damage.ensures.onward c.in_ok-id.ensures.onward
+pub returns-clause-read : goal.returns-clause-read
+returns-clause-read g c =
+    is_read-on g.R.Reads g.met.R.Reads.further_onward _ _ _ c.in_ok-damage.ensures.read c.in_ok-id.ensures.read
 
 pub returns-in_err-damage-clause-decided : goal.returns-in_err-damage-clause-decided
 returns-in_err-damage-clause-decided g c _ = never_ok c.from_residual.result _ _ c.from_residual.ensures.1
 
-pub returns-in_err-damage-clause-onward : goal.returns-in_err-damage-clause-onward
-returns-in_err-damage-clause-onward g c = search rules
+pub returns-in_err-damage-clause-read : goal.returns-in_err-damage-clause-read
+returns-in_err-damage-clause-read g c =
+    c.in_err-damage.ensures.read
 
 pub returns-in_err-id-clause-decided : goal.returns-in_err-id-clause-decided
 returns-in_err-id-clause-decided g c _ = never_ok c.from_residual-in_err-id.result _ _ c.from_residual-in_err-id.ensures.1
@@ -64,14 +68,17 @@ returns-in_err-id-clause-decided g c _ = never_ok c.from_residual-in_err-id.resu
 pub returns-clause-cause : goal.returns-clause-cause
 returns-clause-cause g c = ok_cause _ _ _ _ (omega arith)
 
-pub returns-in_err-damage-clause-same : goal.returns-in_err-damage-clause-same
-returns-in_err-damage-clause-same g c = search rules
+pub returns-in-Some-clause-read : goal.returns-in-Some-clause-read
+returns-in-Some-clause-read g c = c.find_ungrouped.ensures.read
 
-pub returns-in_err-damage-clause-written : goal.returns-in_err-damage-clause-written
-returns-in_err-damage-clause-written g c = search rules
+pub returns-in-Some-clause-cause : goal.returns-in-Some-clause-cause
+returns-in-Some-clause-cause g c = ok_cause _ _ _ _ (returns-in-Some-clause-read g c).later
 
-pub returns-in_err-id-clause-same : goal.returns-in_err-id-clause-same
-returns-in_err-id-clause-same g c = search rules
+pub returns-in-Some-2-clause-cause : goal.returns-in-Some-2-clause-cause
+returns-in-Some-2-clause-cause g c = ok_cause _ _ _ _ (returns-in-Some-2-clause-read g c).later
 
-pub returns-in_err-id-clause-written : goal.returns-in_err-id-clause-written
-returns-in_err-id-clause-written g c = search rules
+pub returns-in_default-clause-read : goal.returns-in_default-clause-read
+returns-in_default-clause-read g c = is_read-none g.R.Reads g.met.R.Reads.stays_onward c.args.space.now
+
+pub returns-in_default-clause-cause : goal.returns-in_default-clause-cause
+returns-in_default-clause-cause g c = no_memory _ _ (returns-in_default-clause-read g c).later

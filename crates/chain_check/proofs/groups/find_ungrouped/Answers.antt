@@ -13,7 +13,8 @@ use Rattle.chain_check.proofs.GroupChainLaws.{are_grouped, head_of_keeps, keeps_
 use Rattle.record_lists.proofs.HeadLaws.{told_clear}
 use Rattle.record_lists.proofs.DecidingLaws.{breaks_by}
 use Rattle.record_lists.proofs.Causes.{cause_passed}
-use Rattle.rec_bytes.proofs.Causes.{never_ok}
+use Rattle.rec_bytes.proofs.Causes.{never_ok, ok_cause}
+use Rattle.record_lists.proofs.OnlyReads.{is_read-on}
 use Rattle.chain_check.proofs.groups.find_ungrouped.Goals as goal
 
 pub returns-in-Some-Head-clause-broken : goal.returns-in-Some-Head-clause-broken
@@ -44,7 +45,7 @@ returns-in-Some-clause-broken g c = λ tells.
     = subst (λ m. (p : ℕ) → Decides (marked marks p) (AmongHeads (IsDense s.records) (IsGroupChain s.records) m p)) mark
     (told_clear (IsDense s.records) (IsGroupChain s.records) c.meta-nodes.result.high c.args.marks.now marks c.requires.clear told) in
     let found : IfSome c.in_ok-id-2.field-0 (λ x. ¬ (is_live s.records groups_file x ≡ true → marked marks x ≡ true))
-    = subst (λ (r : Records). IfSome c.in_ok-id-2.field-0 (λ x. ¬ (is_live r groups_file x ≡ true → marked marks x ≡ true))) c.in_ok-id.ensures.same
+    = subst (λ (r : Records). IfSome c.in_ok-id-2.field-0 (λ x. ¬ (is_live r groups_file x ≡ true → marked marks x ≡ true))) c.in_ok-id.ensures.read.records
     (c.in_ok-id-2.ensures.found tells) in
     let bad : ¬ (is_live s.records groups_file id ≡ true → marked marks id ≡ true) = search (rules, found) in
     breaks_by s.records s.shape 4 c.broken-in-Some.result (damage 3 id 4) c.broken-in-Some.ensures refl
@@ -63,7 +64,7 @@ returns-in-None-2-clause-grouped g c = λ tells.
     search (rules, c.in_ok-id.ensures.keeps tells) in
     let none : IfNone c.in_ok-id-2.field-0 ((x : ℕ) → x < high s.records groups_file → is_live s.records groups_file x ≡ true → marked marks x ≡ true)
     = subst (λ (r : Records). IfNone c.in_ok-id-2.field-0 ((x : ℕ) → x < high r groups_file → is_live r groups_file x ≡ true → marked marks x ≡ true))
-    c.in_ok-id.ensures.same (c.in_ok-id-2.ensures.none tells) in
+    c.in_ok-id.ensures.read.records (c.in_ok-id-2.ensures.none tells) in
     let held : (x : ℕ) → x < high s.records groups_file → is_live s.records groups_file x ≡ true → marked marks x ≡ true = search (rules, none) in
     are_grouped s.records (λ n lt. keeps_of_head s.records n (heads n (omega arith))) (λ x lt. member_of_mark s.records marks told2 x (held x lt))
 
@@ -76,17 +77,17 @@ returns-in_err-id-2-clause-cause g c =
     cause_passed _ _ _ c.from_residual-in_err-id-2.result c.in_err-id-2.field-0.0 c.in_ok-id.ensures.cause.later c.in_err-id-2.ensures.cause
     c.from_residual-in_err-id-2.ensures.1
 
-pub returns-in_err-id-2-clause-onward : goal.returns-in_err-id-2-clause-onward
-returns-in_err-id-2-clause-onward g c =
-    g.met.R.Reads.further_onward _ _ _ c.in_ok-id.ensures.onward c.in_err-id-2.ensures.onward
+pub returns-in_err-id-2-clause-read : goal.returns-in_err-id-2-clause-read
+returns-in_err-id-2-clause-read g c =
+    is_read-on g.R.Reads g.met.R.Reads.further_onward _ _ _ c.in_ok-id.ensures.read c.in_err-id-2.ensures.read
 
-pub returns-in-Some-clause-onward : goal.returns-in-Some-clause-onward
-returns-in-Some-clause-onward g c =
-    g.met.R.Reads.further_onward _ _ _ c.in_ok-id.ensures.onward c.in_ok-id-2.ensures.onward
+pub returns-in-Some-clause-read : goal.returns-in-Some-clause-read
+returns-in-Some-clause-read g c =
+    is_read-on g.R.Reads g.met.R.Reads.further_onward _ _ _ c.in_ok-id.ensures.read c.in_ok-id-2.ensures.read
 
-pub returns-in-None-2-clause-onward : goal.returns-in-None-2-clause-onward
-returns-in-None-2-clause-onward g c =
-    g.met.R.Reads.further_onward _ _ _ c.in_ok-id.ensures.onward c.in_ok-id-2.ensures.onward
+pub returns-in-None-2-clause-read : goal.returns-in-None-2-clause-read
+returns-in-None-2-clause-read g c =
+    is_read-on g.R.Reads g.met.R.Reads.further_onward _ _ _ c.in_ok-id.ensures.read c.in_ok-id-2.ensures.read
 
 pub returns-in_err-id-clause-grouped : goal.returns-in_err-id-clause-grouped
 returns-in_err-id-clause-grouped g c _ = never_ok c.from_residual.result _ _ c.from_residual.ensures.1
@@ -94,8 +95,9 @@ returns-in_err-id-clause-grouped g c _ = never_ok c.from_residual.result _ _ c.f
 pub returns-in_err-id-clause-broken : goal.returns-in_err-id-clause-broken
 returns-in_err-id-clause-broken g c _ = never_ok c.from_residual.result _ _ c.from_residual.ensures.1
 
-pub returns-in_err-id-clause-onward : goal.returns-in_err-id-clause-onward
-returns-in_err-id-clause-onward g c = search rules
+pub returns-in_err-id-clause-read : goal.returns-in_err-id-clause-read
+returns-in_err-id-clause-read g c =
+    c.in_err-id.ensures.read
 
 pub returns-in_err-id-2-clause-grouped : goal.returns-in_err-id-2-clause-grouped
 returns-in_err-id-2-clause-grouped g c _ = never_ok c.from_residual-in_err-id-2.result _ _ c.from_residual-in_err-id-2.ensures.1
@@ -103,14 +105,20 @@ returns-in_err-id-2-clause-grouped g c _ = never_ok c.from_residual-in_err-id-2.
 pub returns-in_err-id-2-clause-broken : goal.returns-in_err-id-2-clause-broken
 returns-in_err-id-2-clause-broken g c _ = never_ok c.from_residual-in_err-id-2.result _ _ c.from_residual-in_err-id-2.ensures.1
 
-pub returns-in_err-id-clause-same : goal.returns-in_err-id-clause-same
-returns-in_err-id-clause-same g c = search rules
+pub returns-in-Some-Head-clause-read : goal.returns-in-Some-Head-clause-read
+returns-in-Some-Head-clause-read g c = c.in_ok-id.ensures.read
 
-pub returns-in_err-id-clause-written : goal.returns-in_err-id-clause-written
-returns-in_err-id-clause-written g c = search rules
+pub returns-in-Some-Head-clause-cause : goal.returns-in-Some-Head-clause-cause
+returns-in-Some-Head-clause-cause g c = ok_cause _ _ _ _ (returns-in-Some-Head-clause-read g c).later
 
-pub returns-in_err-id-2-clause-same : goal.returns-in_err-id-2-clause-same
-returns-in_err-id-2-clause-same g c = search rules
+pub returns-in-Some-Item-clause-read : goal.returns-in-Some-Item-clause-read
+returns-in-Some-Item-clause-read g c = c.in_ok-id.ensures.read
 
-pub returns-in_err-id-2-clause-written : goal.returns-in_err-id-2-clause-written
-returns-in_err-id-2-clause-written g c = search rules
+pub returns-in-Some-Item-clause-cause : goal.returns-in-Some-Item-clause-cause
+returns-in-Some-Item-clause-cause g c = ok_cause _ _ _ _ (returns-in-Some-Item-clause-read g c).later
+
+pub returns-in-None-2-clause-cause : goal.returns-in-None-2-clause-cause
+returns-in-None-2-clause-cause g c = ok_cause _ _ _ _ (returns-in-None-2-clause-read g c).later
+
+pub returns-in-Some-clause-cause : goal.returns-in-Some-clause-cause
+returns-in-Some-clause-cause g c = ok_cause _ _ _ _ (returns-in-Some-clause-read g c).later

@@ -10,6 +10,7 @@ use Rattle.index_check.specs.declared.head_records.HeadRecord.{HeadRecord}
 use Rattle.index_check.proofs.BucketLaws.{IsBucketLine, bucket_of_line, line_is, line_of_bucket}
 use Rattle.record_lists.proofs.Causes.{cause_passed}
 use Rattle.rec_bytes.proofs.Causes.{never_ok, ok_cause}
+use Rattle.record_lists.proofs.OnlyReads.{is_read-on}
 use Rattle.index_check.proofs.buckets.bucket_at.Goals as goal
 
 pub returns-in_default-clause-none : goal.returns-in_default-clause-none
@@ -41,7 +42,7 @@ returns-clause-found g c = λ tells.
     let d = c.args.definition in
     let b = c.args.number in
     let read : IsHeadRead records d (b / 15) c.in-Some.head = search (rules, c.in_ok-head.ensures.found tells) in
-    let is = first_is records _ d b c.in-Some.head c.args.records c.number-first.result read c.in_ok-head.ensures.same c.requires.records
+    let is = first_is records _ d b c.in-Some.head c.args.records c.number-first.result read c.in_ok-head.ensures.read.records c.requires.records
     c.number-first.ensures in
     let room : high records format.index_file ≤ format.most_ids = omega (arith, c.requires.records, c.requires.low) in
     some_is c.in_ok-ids.ids (λ v line. bucket_of_line records d b room read.kind v.items (subst (λ (l : List ℕ → Type 0). l v.items) is line))
@@ -53,7 +54,7 @@ returns-clause-none g c = λ tells.
     let d = c.args.definition in
     let b = c.args.number in
     let read : IsHeadRead records d (b / 15) c.in-Some.head = search (rules, c.in_ok-head.ensures.found tells) in
-    let is = first_is records _ d b c.in-Some.head c.args.records c.number-first.result read c.in_ok-head.ensures.same c.requires.records
+    let is = first_is records _ d b c.in-Some.head c.args.records c.number-first.result read c.in_ok-head.ensures.read.records c.requires.records
     c.number-first.ensures in
     none_is c.in_ok-ids.ids (λ none xs h. none xs (subst (λ (l : List ℕ → Type 0). l xs) (sym is) (line_of_bucket records d b xs h)))
     (c.in_ok-ids.ensures.none tells)
@@ -72,8 +73,9 @@ returns-in_err-head-clause-none g c _ = never_ok c.from_residual.result _ _ c.fr
 pub returns-in_err-head-clause-low : goal.returns-in_err-head-clause-low
 returns-in_err-head-clause-low g c = never_ok c.from_residual.result _ _ c.from_residual.ensures.1
 
-pub returns-in_err-head-clause-onward : goal.returns-in_err-head-clause-onward
-returns-in_err-head-clause-onward g c = search rules
+pub returns-in_err-head-clause-read : goal.returns-in_err-head-clause-read
+returns-in_err-head-clause-read g c =
+    c.in_err-head.ensures.read
 
 pub returns-in_err-ids-clause-found : goal.returns-in_err-ids-clause-found
 returns-in_err-ids-clause-found g c _ = never_ok c.from_residual-in_err-ids.result _ _ c.from_residual-in_err-ids.ensures.1
@@ -87,22 +89,10 @@ returns-in_err-ids-clause-low g c = never_ok c.from_residual-in_err-ids.result _
 pub returns-clause-cause : goal.returns-clause-cause
 returns-clause-cause g c = ok_cause _ _ _ _ (omega arith)
 
-pub returns-in_err-head-clause-same : goal.returns-in_err-head-clause-same
-returns-in_err-head-clause-same g c = search rules
-
-pub returns-in_err-head-clause-written : goal.returns-in_err-head-clause-written
-returns-in_err-head-clause-written g c = search rules
-
 pub returns-in_err-head-clause-cause : goal.returns-in_err-head-clause-cause
 returns-in_err-head-clause-cause g c =
     cause_passed _ _ _ c.from_residual.result c.in_err-head.field-0.0 (omega arith) c.in_err-head.ensures.cause c.from_residual.ensures.1
 
-pub returns-in_err-ids-clause-same : goal.returns-in_err-ids-clause-same
-returns-in_err-ids-clause-same g c = search rules
-
-pub returns-in_err-ids-clause-written : goal.returns-in_err-ids-clause-written
-returns-in_err-ids-clause-written g c = search rules
-
-pub returns-in_err-ids-clause-onward : goal.returns-in_err-ids-clause-onward
-returns-in_err-ids-clause-onward g c =
-    g.met.R.Reads.further_onward _ _ _ c.in_ok-head.ensures.onward c.in_err-ids.ensures.onward
+pub returns-in_err-ids-clause-read : goal.returns-in_err-ids-clause-read
+returns-in_err-ids-clause-read g c =
+    is_read-on g.R.Reads g.met.R.Reads.further_onward _ _ _ c.in_ok-head.ensures.read c.in_err-ids.ensures.read

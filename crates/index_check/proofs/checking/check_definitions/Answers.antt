@@ -15,6 +15,7 @@ use Rattle.rec_bytes.proofs.Causes.{never_ok}
 use Rattle.prop_store.proofs.Exits.{space_exit}
 use Rattle.index_check.proofs.SoundExits.{sound_exit}
 use Rattle.index_check.specs.Values.{AreReadable}
+use Rattle.record_lists.proofs.OnlyReads.{is_read-on}
 use Rattle.index_check.proofs.checking.check_definitions.Goals as goal
 
 pub returns-in-Some-clause-decided : goal.returns-in-Some-clause-decided
@@ -38,7 +39,7 @@ check_each-requires-clause-given g c = λ tells.
     let records = (g.R.Reads.state c.args.space.now).records in
     let given : All (IsGiven records) c.args.definitions.now = subst (All (IsGiven records)) (sym (c.requires.are tells))
     (all_given records c.args.ids.now (c.requires.listed tells)) in
-    subst (λ (r : Records). All (IsGiven r) c.args.definitions.now) (sym c.in_ok-damage.ensures.same) given
+    subst (λ (r : Records). All (IsGiven r) c.args.definitions.now) (sym c.in_ok-damage.ensures.read.records) given
 
 pub returns-in-None-clause-decided : goal.returns-in-None-clause-decided
 returns-in-None-clause-decided g c = λ tells.
@@ -51,21 +52,21 @@ returns-in-None-clause-decided g c = λ tells.
     let all : AreAllHeld records ids = search (rules, c.in_ok-damage.ensures.right tells) in
     let rights : IfNone c.in_ok-damage-2.field-0 ((d : ℕ) → In d (map (λ (a : Definition). a.id) c.args.definitions.now) → IsRight records d)
     = subst (λ (r : Records). IfNone c.in_ok-damage-2.field-0 ((d : ℕ) → In d (map (λ (a : Definition). a.id) c.args.definitions.now) → IsRight r d))
-    c.in_ok-damage.ensures.same (c.in_ok-damage-2.ensures.right tells) in
+    c.in_ok-damage.ensures.read.records (c.in_ok-damage-2.ensures.right tells) in
     let right : (d : ℕ) → In d (map (λ (a : Definition). a.id) c.args.definitions.now) → IsRight records d = search (rules, rights) in
     indexed_of records (each_keeps records ids listed (λ d e i j l k. twin_none records ids ids none d e i j l k) all (λ d i. right d (subst (In d) (sym c.requires.named) i)))
 
-pub returns-in_err-damage-2-clause-onward : goal.returns-in_err-damage-2-clause-onward
-returns-in_err-damage-2-clause-onward g c =
-    g.met.R.Reads.further_onward _ _ _ c.in_ok-damage.ensures.onward c.in_err-damage-2.ensures.onward
+pub returns-in_err-damage-2-clause-read : goal.returns-in_err-damage-2-clause-read
+returns-in_err-damage-2-clause-read g c =
+    is_read-on g.R.Reads g.met.R.Reads.further_onward _ _ _ c.in_ok-damage.ensures.read c.in_err-damage-2.ensures.read
 
-pub returns-in-Some-3-clause-onward : goal.returns-in-Some-3-clause-onward
-returns-in-Some-3-clause-onward g c =
-    g.met.R.Reads.further_onward _ _ _ c.in_ok-damage.ensures.onward c.in_ok-damage-2.ensures.onward
+pub returns-in-Some-3-clause-read : goal.returns-in-Some-3-clause-read
+returns-in-Some-3-clause-read g c =
+    is_read-on g.R.Reads g.met.R.Reads.further_onward _ _ _ c.in_ok-damage.ensures.read c.in_ok-damage-2.ensures.read
 
-pub returns-in-None-clause-onward : goal.returns-in-None-clause-onward
-returns-in-None-clause-onward g c =
-    g.met.R.Reads.further_onward _ _ _ c.in_ok-damage.ensures.onward c.in_ok-damage-2.ensures.onward
+pub returns-in-None-clause-read : goal.returns-in-None-clause-read
+returns-in-None-clause-read g c =
+    is_read-on g.R.Reads g.met.R.Reads.further_onward _ _ _ c.in_ok-damage.ensures.read c.in_ok-damage-2.ensures.read
 
 pub returns-in_err-damage-2-clause-cause : goal.returns-in_err-damage-2-clause-cause
 returns-in_err-damage-2-clause-cause g c =
@@ -76,20 +77,15 @@ returns-in_err-damage-2-clause-cause g c =
 pub returns-in_err-damage-clause-decided : goal.returns-in_err-damage-clause-decided
 returns-in_err-damage-clause-decided g c _ = never_ok c.from_residual.result _ _ c.from_residual.ensures.1
 
-pub returns-in_err-damage-clause-onward : goal.returns-in_err-damage-clause-onward
-returns-in_err-damage-clause-onward g c = search rules
+pub returns-in_err-damage-clause-read : goal.returns-in_err-damage-clause-read
+returns-in_err-damage-clause-read g c =
+    c.in_err-damage.ensures.read
 
 pub returns-in_err-damage-2-clause-decided : goal.returns-in_err-damage-2-clause-decided
 returns-in_err-damage-2-clause-decided g c _ = never_ok c.from_residual-in_err-damage-2.result _ _ c.from_residual-in_err-damage-2.ensures.1
 
 pub returns-in_err-damage-clause-sound : goal.returns-in_err-damage-clause-sound
 returns-in_err-damage-clause-sound g c _ _ = space_exit c.from_residual.result c.in_err-damage.field-0.0 c.from_residual.ensures.1
-
-pub returns-in_err-damage-clause-same : goal.returns-in_err-damage-clause-same
-returns-in_err-damage-clause-same g c = c.in_err-damage.ensures.same
-
-pub returns-in_err-damage-clause-written : goal.returns-in_err-damage-clause-written
-returns-in_err-damage-clause-written g c = c.in_err-damage.ensures.written
 
 pub returns-in_err-damage-clause-cause : goal.returns-in_err-damage-clause-cause
 returns-in_err-damage-clause-cause g c =
@@ -98,10 +94,4 @@ returns-in_err-damage-clause-cause g c =
 pub returns-in_err-damage-2-clause-sound : goal.returns-in_err-damage-2-clause-sound
 returns-in_err-damage-2-clause-sound g c tells readable =
     sound_exit c.from_residual-in_err-damage-2.result c.in_err-damage-2.field-0.0 c.from_residual-in_err-damage-2.ensures.1
-    (c.in_err-damage-2.ensures.sound tells (subst AreReadable (sym (c.in_ok-damage.ensures.same)) readable))
-
-pub returns-in_err-damage-2-clause-same : goal.returns-in_err-damage-2-clause-same
-returns-in_err-damage-2-clause-same g c = c.in_err-damage-2.ensures.same ∙ c.in_ok-damage.ensures.same
-
-pub returns-in_err-damage-2-clause-written : goal.returns-in_err-damage-2-clause-written
-returns-in_err-damage-2-clause-written g c = c.in_err-damage-2.ensures.written ∙ c.in_ok-damage.ensures.written
+    (c.in_err-damage-2.ensures.sound tells (subst AreReadable (sym (c.in_ok-damage.ensures.read.records)) readable))

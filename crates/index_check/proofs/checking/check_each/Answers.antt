@@ -9,6 +9,7 @@ use Rattle.index_check.specs.Values.{AreReadable}
 use Rattle.index_check.specs.declared.definitions.Definition.{Definition}
 use Rattle.index_check.proofs.SoundExits.{sound_exit}
 use Rattle.rec_bytes.proofs.Causes.{never_ok}
+use Rattle.record_lists.proofs.OnlyReads.{is_read-none, is_read-on}
 use Rattle.index_check.proofs.checking.check_each.Goals as goal
 
 abbrev blank : Definition
@@ -27,11 +28,8 @@ one_more_right P all i lt before here d m = ⊎_elim
 
 pub loop-definition-init : goal.loop-definition-init
 loop-definition-init g c = record {
-  same = refl;
-  written = refl;
   right = λ tells d i. elim i [ ];
-  onward = g.met.R.Reads.stays_onward c.args.space.now;
-  faults = omega arith;
+  read = is_read-none g.R.Reads g.met.R.Reads.stays_onward c.args.space.now;
 }
 
 pub loop-definition-preserved : goal.loop-definition-preserved
@@ -42,13 +40,10 @@ loop-definition-preserved g c =
     let i = c.loop-definition.definition-index in
     let d = get_or all i blank in
     record {
-      same = c.in_ok-damage.ensures.same ∙ inv.same;
-      written = c.in_ok-damage.ensures.written ∙ inv.written;
       right = λ tells.
           let right : IsRight (g.R.Reads.state c.loop-definition.space).records d.id = search (rules, c.in_ok-damage.ensures.right tells) in
-          one_more_right (IsRight records) all i c.loop-definition-test.true (inv.right tells) (subst (λ (r : Records). IsRight r d.id) inv.same right);
-      onward = g.met.R.Reads.further_onward c.args.space.now c.loop-definition.space c.check_index.new.space inv.onward c.in_ok-damage.ensures.onward;
-      faults = let cause = c.in_ok-damage.ensures.cause in omega (arith, inv.faults, cause.later);
+          one_more_right (IsRight records) all i c.loop-definition-test.true (inv.right tells) (subst (λ (r : Records). IsRight r d.id) inv.read.records right);
+      read = is_read-on g.R.Reads g.met.R.Reads.further_onward c.args.space.now c.loop-definition.space c.check_index.new.space inv.read c.in_ok-damage.ensures.read;
     }
 
 pub returns-clause-right : goal.returns-clause-right
@@ -60,21 +55,15 @@ returns-clause-right g c = λ tells d m.
 pub returns-in_err-damage-clause-sound : goal.returns-in_err-damage-clause-sound
 returns-in_err-damage-clause-sound g c = λ tells readable.
     sound_exit c.from_residual.result c.in_err-damage.field-0.0 c.from_residual.ensures.1
-    (c.in_err-damage.ensures.sound tells (subst AreReadable (sym c.loop-definition.invariant.same) readable))
+    (c.in_err-damage.ensures.sound tells (subst AreReadable (sym c.loop-definition.invariant.read.records) readable))
 
-pub returns-in_err-damage-clause-same : goal.returns-in_err-damage-clause-same
-returns-in_err-damage-clause-same g c = c.in_err-damage.ensures.same ∙ c.loop-definition.invariant.same
-
-pub returns-in_err-damage-clause-written : goal.returns-in_err-damage-clause-written
-returns-in_err-damage-clause-written g c = c.in_err-damage.ensures.written ∙ c.loop-definition.invariant.written
-
-pub returns-in_err-damage-clause-onward : goal.returns-in_err-damage-clause-onward
-returns-in_err-damage-clause-onward g c = g.met.R.Reads.further_onward c.args.space.now c.loop-definition.space c.check_index.new.space
-    c.loop-definition.invariant.onward c.in_err-damage.ensures.onward
+pub returns-in_err-damage-clause-read : goal.returns-in_err-damage-clause-read
+returns-in_err-damage-clause-read g c =
+    is_read-on g.R.Reads g.met.R.Reads.further_onward c.args.space.now c.loop-definition.space c.check_index.new.space c.loop-definition.invariant.read c.in_err-damage.ensures.read
 
 pub returns-in_err-damage-clause-cause : goal.returns-in_err-damage-clause-cause
 returns-in_err-damage-clause-cause g c =
-    cause_passed _ _ _ c.from_residual.result c.in_err-damage.field-0.0 c.loop-definition.invariant.faults c.in_err-damage.ensures.cause
+    cause_passed _ _ _ c.from_residual.result c.in_err-damage.field-0.0 c.loop-definition.invariant.read.later c.in_err-damage.ensures.cause
     c.from_residual.ensures.1
 
 pub returns-in_err-damage-clause-right : goal.returns-in_err-damage-clause-right

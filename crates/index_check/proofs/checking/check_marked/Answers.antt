@@ -7,6 +7,7 @@ use Rattle.index_check.specs.Indexing.{AreAllMarked}
 use Rattle.index_check.proofs.IndexLaws.{breaks_by}
 use Rattle.index_check.proofs.ListedLaws.{all_held, left_over}
 use Rattle.rec_bytes.proofs.Causes.{never_ok}
+use Rattle.record_lists.proofs.OnlyReads.{is_read-on}
 use Rattle.index_check.proofs.checking.check_marked.Goals as goal
 
 pub returns-in-Some-2-clause-broken : goal.returns-in-Some-2-clause-broken
@@ -15,7 +16,7 @@ returns-in-Some-2-clause-broken g c = λ tells.
     let marks = c.mark_lists.new.marks in
     let all : AreAllMarked records c.args.ids.now marks = search (rules, c.in_ok-damage.ensures.right tells) in
     let found : IfSome c.in_ok-id.field-0 (λ x. ¬ (is_live records format.index_file x ≡ true → marked marks x ≡ true))
-    = subst (λ (r : Records). IfSome c.in_ok-id.field-0 (λ x. ¬ (is_live r format.index_file x ≡ true → marked marks x ≡ true))) c.in_ok-damage.ensures.same
+    = subst (λ (r : Records). IfSome c.in_ok-id.field-0 (λ x. ¬ (is_live r format.index_file x ≡ true → marked marks x ≡ true))) c.in_ok-damage.ensures.read.records
     (c.in_ok-id.ensures.found tells) in
     let bad : ¬ (is_live records format.index_file c.in-Some-2.id ≡ true → marked marks c.in-Some-2.id ≡ true) = search (rules, found) in
     breaks_by records c.broken.result format.index_file c.in-Some-2.id c.broken.ensures (left_over records c.args.ids.now marks all c.in-Some-2.id bad)
@@ -27,7 +28,7 @@ returns-in-None-clause-right g c = λ tells.
     let all : AreAllMarked records c.args.ids.now marks = search (rules, c.in_ok-damage.ensures.right tells) in
     let none : IfNone c.in_ok-id.field-0 ((x : ℕ) → x < high records format.index_file → is_live records format.index_file x ≡ true → marked marks x ≡ true)
     = subst (λ (r : Records). IfNone c.in_ok-id.field-0 ((x : ℕ) → x < high r format.index_file → is_live r format.index_file x ≡ true → marked marks x ≡ true))
-    c.in_ok-damage.ensures.same (c.in_ok-id.ensures.none tells) in
+    c.in_ok-damage.ensures.read.records (c.in_ok-id.ensures.none tells) in
     let each : (x : ℕ) → x < high records format.index_file → is_live records format.index_file x ≡ true → marked marks x ≡ true = search (rules, none) in
     all_held records c.args.ids.now marks all each
 
@@ -40,17 +41,17 @@ returns-in_err-id-clause-cause g c =
     cause_passed _ _ _ c.from_residual-in_err-id.result c.in_err-id.field-0.0 c.in_ok-damage.ensures.cause.later c.in_err-id.ensures.cause
     c.from_residual-in_err-id.ensures.1
 
-pub returns-in_err-id-clause-onward : goal.returns-in_err-id-clause-onward
-returns-in_err-id-clause-onward g c =
-    g.met.R.Reads.further_onward _ _ _ c.in_ok-damage.ensures.onward c.in_err-id.ensures.onward
+pub returns-in_err-id-clause-read : goal.returns-in_err-id-clause-read
+returns-in_err-id-clause-read g c =
+    is_read-on g.R.Reads g.met.R.Reads.further_onward _ _ _ c.in_ok-damage.ensures.read c.in_err-id.ensures.read
 
-pub returns-in-Some-2-clause-onward : goal.returns-in-Some-2-clause-onward
-returns-in-Some-2-clause-onward g c =
-    g.met.R.Reads.further_onward _ _ _ c.in_ok-damage.ensures.onward c.in_ok-id.ensures.onward
+pub returns-in-Some-2-clause-read : goal.returns-in-Some-2-clause-read
+returns-in-Some-2-clause-read g c =
+    is_read-on g.R.Reads g.met.R.Reads.further_onward _ _ _ c.in_ok-damage.ensures.read c.in_ok-id.ensures.read
 
-pub returns-in-None-clause-onward : goal.returns-in-None-clause-onward
-returns-in-None-clause-onward g c =
-    g.met.R.Reads.further_onward _ _ _ c.in_ok-damage.ensures.onward c.in_ok-id.ensures.onward
+pub returns-in-None-clause-read : goal.returns-in-None-clause-read
+returns-in-None-clause-read g c =
+    is_read-on g.R.Reads g.met.R.Reads.further_onward _ _ _ c.in_ok-damage.ensures.read c.in_ok-id.ensures.read
 
 pub returns-in_err-damage-clause-right : goal.returns-in_err-damage-clause-right
 returns-in_err-damage-clause-right g c _ = never_ok c.from_residual.result _ _ c.from_residual.ensures.1
@@ -58,23 +59,12 @@ returns-in_err-damage-clause-right g c _ = never_ok c.from_residual.result _ _ c
 pub returns-in_err-damage-clause-broken : goal.returns-in_err-damage-clause-broken
 returns-in_err-damage-clause-broken g c _ = never_ok c.from_residual.result _ _ c.from_residual.ensures.1
 
-pub returns-in_err-damage-clause-onward : goal.returns-in_err-damage-clause-onward
-returns-in_err-damage-clause-onward g c = search rules
+pub returns-in_err-damage-clause-read : goal.returns-in_err-damage-clause-read
+returns-in_err-damage-clause-read g c =
+    c.in_err-damage.ensures.read
 
 pub returns-in_err-id-clause-right : goal.returns-in_err-id-clause-right
 returns-in_err-id-clause-right g c _ = never_ok c.from_residual-in_err-id.result _ _ c.from_residual-in_err-id.ensures.1
 
 pub returns-in_err-id-clause-broken : goal.returns-in_err-id-clause-broken
 returns-in_err-id-clause-broken g c _ = never_ok c.from_residual-in_err-id.result _ _ c.from_residual-in_err-id.ensures.1
-
-pub returns-in_err-damage-clause-same : goal.returns-in_err-damage-clause-same
-returns-in_err-damage-clause-same g c = c.in_err-damage.ensures.same
-
-pub returns-in_err-damage-clause-written : goal.returns-in_err-damage-clause-written
-returns-in_err-damage-clause-written g c = c.in_err-damage.ensures.written
-
-pub returns-in_err-id-clause-same : goal.returns-in_err-id-clause-same
-returns-in_err-id-clause-same g c = c.in_err-id.ensures.same ∙ c.in_ok-damage.ensures.same
-
-pub returns-in_err-id-clause-written : goal.returns-in_err-id-clause-written
-returns-in_err-id-clause-written g c = c.in_err-id.ensures.written ∙ c.in_ok-damage.ensures.written

@@ -16,6 +16,7 @@ use Rattle.index_check.proofs.IndexLaws.{breaks_by}
 use Rattle.index_check.proofs.ListedLaws.{Always, all_told, buckets_kept, entries_once, entry_twice, head_twice, heads_kept, heads_once, no_bucket, no_heads}
 use Rattle.index_check.proofs.PlaceLaws.{many_place, twelve_place}
 use Rattle.rec_bytes.proofs.Causes.{never_ok}
+use Rattle.record_lists.proofs.OnlyReads.{is_read-on}
 use Rattle.index_check.proofs.checking.mark_lists.Goals as goal
 
 -- what was marked after the records of heads
@@ -55,7 +56,7 @@ returns-in-Some-Head-2-clause-broken g c = λ tells.
     let first = c.list_heads.new.marks in
     let id = c.in-Some-Head-2.id in
     let told : IfSome c.in_ok-id-2.field-0 (BrokeIs Always (AreItsEntries records ids) (180 * length ids) first)
-    = subst (λ (r : Records). IfSome c.in_ok-id-2.field-0 (BrokeIs Always (AreItsEntries r ids) (180 * length ids) first)) c.in_ok-id.ensures.same
+    = subst (λ (r : Records). IfSome c.in_ok-id-2.field-0 (BrokeIs Always (AreItsEntries r ids) (180 * length ids) first)) c.in_ok-id.ensures.read.records
     (c.in_ok-id-2.ensures.broken tells) in
     let b : BrokeIs Always (AreItsEntries records ids) (180 * length ids) first (Head id) = search (rules, told) in
     let at : c.named_at-in-Some-Head-2.result ≡ definition_of 180 ids id = c.named_at-in-Some-Head-2.ensures (many_place (length ids) id b.0).0 in
@@ -72,7 +73,7 @@ returns-in-Some-Item-2-clause-broken g c = λ tells.
     let marks : (p : ℕ) → Decides (marked first p) ((marked c.args.marks.now p ≡ true) ⊎ AmongHeads Always (IsHeadItem records ids) (12 * length ids) p) =
     search (rules, c.in_ok-id.ensures.marks tells) in
     let told : IfSome c.in_ok-id-2.field-0 (BrokeIs Always (AreItsEntries records ids) (180 * length ids) first)
-    = subst (λ (r : Records). IfSome c.in_ok-id-2.field-0 (BrokeIs Always (AreItsEntries r ids) (180 * length ids) first)) c.in_ok-id.ensures.same
+    = subst (λ (r : Records). IfSome c.in_ok-id-2.field-0 (BrokeIs Always (AreItsEntries r ids) (180 * length ids) first)) c.in_ok-id.ensures.read.records
     (c.in_ok-id-2.ensures.broken tells) in
     let b : BrokeIs Always (AreItsEntries records ids) (180 * length ids) first (Item id) = search (rules, told) in
     breaks_by records c.broken-in-Some-Item-2.result format.index_file id c.broken-in-Some-Item-2.ensures
@@ -91,15 +92,15 @@ returns-in-None-2-clause-right g c = λ tells.
     let keeps : (k : ℕ) → k < 12 * length ids → HeadKeeps Always (IsHeadItem records ids) k = search (rules, c.in_ok-id.ensures.keeps tells) in
     let once : (p : ℕ) → IsOnce Always (IsHeadItem records ids) (12 * length ids) p = search (rules, c.in_ok-id.ensures.once tells) in
     let marks_after : IfNone c.in_ok-id-2.field-0 ((p : ℕ) → Decides (marked last p) ((marked first p ≡ true) ⊎ AmongHeads Always (AreItsEntries records ids) (180 * length ids) p))
-    = subst (λ (r : Records). IfNone c.in_ok-id-2.field-0 ((p : ℕ) → Decides (marked last p) ((marked first p ≡ true) ⊎ AmongHeads Always (AreItsEntries r ids) (180 * length ids) p))) c.in_ok-id.ensures.same (c.in_ok-id-2.ensures.marks tells) in
+    = subst (λ (r : Records). IfNone c.in_ok-id-2.field-0 ((p : ℕ) → Decides (marked last p) ((marked first p ≡ true) ⊎ AmongHeads Always (AreItsEntries r ids) (180 * length ids) p))) c.in_ok-id.ensures.read.records (c.in_ok-id-2.ensures.marks tells) in
     let last_marks : (p : ℕ) → Decides (marked last p) ((marked first p ≡ true) ⊎ AmongHeads Always (AreItsEntries records ids) (180 * length ids) p) =
     search (rules, marks_after) in
     let keeps_after : IfNone c.in_ok-id-2.field-0 ((k : ℕ) → k < 180 * length ids → HeadKeeps Always (AreItsEntries records ids) k)
-    = subst (λ (r : Records). IfNone c.in_ok-id-2.field-0 ((k : ℕ) → k < 180 * length ids → HeadKeeps Always (AreItsEntries r ids) k)) c.in_ok-id.ensures.same
+    = subst (λ (r : Records). IfNone c.in_ok-id-2.field-0 ((k : ℕ) → k < 180 * length ids → HeadKeeps Always (AreItsEntries r ids) k)) c.in_ok-id.ensures.read.records
     (c.in_ok-id-2.ensures.keeps tells) in
     let last_keeps : (k : ℕ) → k < 180 * length ids → HeadKeeps Always (AreItsEntries records ids) k = search (rules, keeps_after) in
     let once_after : IfNone c.in_ok-id-2.field-0 ((p : ℕ) → IsOnce Always (AreItsEntries records ids) (180 * length ids) p)
-    = subst (λ (r : Records). IfNone c.in_ok-id-2.field-0 ((p : ℕ) → IsOnce Always (AreItsEntries r ids) (180 * length ids) p)) c.in_ok-id.ensures.same
+    = subst (λ (r : Records). IfNone c.in_ok-id-2.field-0 ((p : ℕ) → IsOnce Always (AreItsEntries r ids) (180 * length ids) p)) c.in_ok-id.ensures.read.records
     (c.in_ok-id-2.ensures.once tells) in
     let last_once : (p : ℕ) → IsOnce Always (AreItsEntries records ids) (180 * length ids) p = search (rules, once_after) in
     record {
@@ -121,21 +122,21 @@ returns-in_err-id-2-clause-cause g c =
     cause_passed _ _ _ c.from_residual-in_err-id-2.result c.in_err-id-2.field-0.0 c.in_ok-id.ensures.cause.later c.in_err-id-2.ensures.cause
     c.from_residual-in_err-id-2.ensures.1
 
-pub returns-in_err-id-2-clause-onward : goal.returns-in_err-id-2-clause-onward
-returns-in_err-id-2-clause-onward g c =
-    g.met.R.Reads.further_onward _ _ _ c.in_ok-id.ensures.onward c.in_err-id-2.ensures.onward
+pub returns-in_err-id-2-clause-read : goal.returns-in_err-id-2-clause-read
+returns-in_err-id-2-clause-read g c =
+    is_read-on g.R.Reads g.met.R.Reads.further_onward _ _ _ c.in_ok-id.ensures.read c.in_err-id-2.ensures.read
 
-pub returns-in-Some-Head-2-clause-onward : goal.returns-in-Some-Head-2-clause-onward
-returns-in-Some-Head-2-clause-onward g c =
-    g.met.R.Reads.further_onward _ _ _ c.in_ok-id.ensures.onward c.in_ok-id-2.ensures.onward
+pub returns-in-Some-Head-2-clause-read : goal.returns-in-Some-Head-2-clause-read
+returns-in-Some-Head-2-clause-read g c =
+    is_read-on g.R.Reads g.met.R.Reads.further_onward _ _ _ c.in_ok-id.ensures.read c.in_ok-id-2.ensures.read
 
-pub returns-in-Some-Item-2-clause-onward : goal.returns-in-Some-Item-2-clause-onward
-returns-in-Some-Item-2-clause-onward g c =
-    g.met.R.Reads.further_onward _ _ _ c.in_ok-id.ensures.onward c.in_ok-id-2.ensures.onward
+pub returns-in-Some-Item-2-clause-read : goal.returns-in-Some-Item-2-clause-read
+returns-in-Some-Item-2-clause-read g c =
+    is_read-on g.R.Reads g.met.R.Reads.further_onward _ _ _ c.in_ok-id.ensures.read c.in_ok-id-2.ensures.read
 
-pub returns-in-None-2-clause-onward : goal.returns-in-None-2-clause-onward
-returns-in-None-2-clause-onward g c =
-    g.met.R.Reads.further_onward _ _ _ c.in_ok-id.ensures.onward c.in_ok-id-2.ensures.onward
+pub returns-in-None-2-clause-read : goal.returns-in-None-2-clause-read
+returns-in-None-2-clause-read g c =
+    is_read-on g.R.Reads g.met.R.Reads.further_onward _ _ _ c.in_ok-id.ensures.read c.in_ok-id-2.ensures.read
 
 pub returns-in_err-id-clause-right : goal.returns-in_err-id-clause-right
 returns-in_err-id-clause-right g c _ = never_ok c.from_residual.result _ _ c.from_residual.ensures.1
@@ -143,8 +144,9 @@ returns-in_err-id-clause-right g c _ = never_ok c.from_residual.result _ _ c.fro
 pub returns-in_err-id-clause-broken : goal.returns-in_err-id-clause-broken
 returns-in_err-id-clause-broken g c _ = never_ok c.from_residual.result _ _ c.from_residual.ensures.1
 
-pub returns-in_err-id-clause-onward : goal.returns-in_err-id-clause-onward
-returns-in_err-id-clause-onward g c = search rules
+pub returns-in_err-id-clause-read : goal.returns-in_err-id-clause-read
+returns-in_err-id-clause-read g c =
+    c.in_err-id.ensures.read
 
 pub returns-in_err-id-2-clause-right : goal.returns-in_err-id-2-clause-right
 returns-in_err-id-2-clause-right g c _ = never_ok c.from_residual-in_err-id-2.result _ _ c.from_residual-in_err-id-2.ensures.1
@@ -155,17 +157,5 @@ returns-in_err-id-2-clause-broken g c _ = never_ok c.from_residual-in_err-id-2.r
 pub returns-in_err-id-clause-len : goal.returns-in_err-id-clause-len
 returns-in_err-id-clause-len g c = c.in_err-id.ensures.len
 
-pub returns-in_err-id-clause-same : goal.returns-in_err-id-clause-same
-returns-in_err-id-clause-same g c = c.in_err-id.ensures.same
-
-pub returns-in_err-id-clause-written : goal.returns-in_err-id-clause-written
-returns-in_err-id-clause-written g c = c.in_err-id.ensures.written
-
 pub returns-in_err-id-2-clause-len : goal.returns-in_err-id-2-clause-len
 returns-in_err-id-2-clause-len g c = c.in_err-id-2.ensures.len ∙ c.in_ok-id.ensures.len
-
-pub returns-in_err-id-2-clause-same : goal.returns-in_err-id-2-clause-same
-returns-in_err-id-2-clause-same g c = c.in_err-id-2.ensures.same ∙ c.in_ok-id.ensures.same
-
-pub returns-in_err-id-2-clause-written : goal.returns-in_err-id-2-clause-written
-returns-in_err-id-2-clause-written g c = c.in_err-id-2.ensures.written ∙ c.in_ok-id.ensures.written

@@ -8,6 +8,7 @@ use Rattle.index_check.specs.Definitions.{definition_line}
 use Rattle.index_check.proofs.DefinitionLaws.{definitions_of, line_is, line_of_definitions, same_line}
 use Rattle.rec_bytes.proofs.Causes.{never_ok, ok_cause}
 use Rattle.record_lists.proofs.Causes.{cause_passed}
+use Rattle.record_lists.proofs.OnlyReads.{is_read-on, is_read-get}
 use Rattle.index_check.proofs.definitions.find_definitions.Goals as goal
 
 pub returns-in_default-clause-none : goal.returns-in_default-clause-none
@@ -50,20 +51,21 @@ returns-clause-found g c = λ tells.
     let room : high records format.index_file ≤ format.most_ids = omega (arith, c.requires.records, c.requires.low) in
     definitions_of records room ids (subst (λ (l : List ℕ → Type 0). l ids) (same_line records _ _ _ read c.requires.records first) found) few
 
-pub returns-in_err-ids-clause-onward : goal.returns-in_err-ids-clause-onward
-returns-in_err-ids-clause-onward g c =
-    g.met.R.Reads.further_onward _ _ _ c.in_ok-meta.ensures.onward c.in_err-ids.ensures.onward
+pub returns-in_err-ids-clause-read : goal.returns-in_err-ids-clause-read
+returns-in_err-ids-clause-read g c =
+    is_read-on g.R.Reads g.met.R.Reads.further_onward _ _ _ (is_read-get g.R.Reads _ _ c.in_ok-meta.ensures.state c.in_ok-meta.ensures.onward c.in_ok-meta.ensures.cause.later) c.in_err-ids.ensures.read
 
-pub returns-in_default-clause-onward : goal.returns-in_default-clause-onward
-returns-in_default-clause-onward g c =
-    g.met.R.Reads.further_onward _ _ _ c.in_ok-meta.ensures.onward c.in_ok-ids.ensures.onward
+pub returns-in_default-clause-read : goal.returns-in_default-clause-read
+returns-in_default-clause-read g c =
+    is_read-on g.R.Reads g.met.R.Reads.further_onward _ _ _ (is_read-get g.R.Reads _ _ c.in_ok-meta.ensures.state c.in_ok-meta.ensures.onward c.in_ok-meta.ensures.cause.later) c.in_ok-ids.ensures.read
 
-pub returns-then-len-gt-MOST_INDEXES-clause-onward : goal.returns-then-len-gt-MOST_INDEXES-clause-onward
-returns-then-len-gt-MOST_INDEXES-clause-onward g c =
-    g.met.R.Reads.further_onward _ _ _ c.in_ok-meta.ensures.onward c.in_ok-ids.ensures.onward
+pub returns-then-len-gt-MOST_INDEXES-clause-read : goal.returns-then-len-gt-MOST_INDEXES-clause-read
+returns-then-len-gt-MOST_INDEXES-clause-read g c =
+    is_read-on g.R.Reads g.met.R.Reads.further_onward _ _ _ (is_read-get g.R.Reads _ _ c.in_ok-meta.ensures.state c.in_ok-meta.ensures.onward c.in_ok-meta.ensures.cause.later) c.in_ok-ids.ensures.read
 
-pub returns-clause-onward : goal.returns-clause-onward
-returns-clause-onward g c = g.met.R.Reads.further_onward _ _ _ c.in_ok-meta.ensures.onward c.in_ok-ids.ensures.onward
+pub returns-clause-read : goal.returns-clause-read
+returns-clause-read g c =
+    is_read-on g.R.Reads g.met.R.Reads.further_onward _ _ _ (is_read-get g.R.Reads _ _ c.in_ok-meta.ensures.state c.in_ok-meta.ensures.onward c.in_ok-meta.ensures.cause.later) c.in_ok-ids.ensures.read
 
 pub returns-in_err-meta-clause-found : goal.returns-in_err-meta-clause-found
 returns-in_err-meta-clause-found g c _ = never_ok c.from_residual.result _ _ c.from_residual.ensures.1
@@ -77,8 +79,9 @@ returns-in_err-meta-clause-low g c = never_ok c.from_residual.result _ _ c.from_
 pub returns-in_err-meta-clause-few : goal.returns-in_err-meta-clause-few
 returns-in_err-meta-clause-few g c = never_ok c.from_residual.result _ _ c.from_residual.ensures.1
 
-pub returns-in_err-meta-clause-onward : goal.returns-in_err-meta-clause-onward
-returns-in_err-meta-clause-onward g c = search rules
+pub returns-in_err-meta-clause-read : goal.returns-in_err-meta-clause-read
+returns-in_err-meta-clause-read g c =
+    is_read-get g.R.Reads _ _ c.in_err-meta.ensures.state c.in_err-meta.ensures.onward c.in_err-meta.ensures.cause.later
 
 pub returns-in_err-ids-clause-found : goal.returns-in_err-ids-clause-found
 returns-in_err-ids-clause-found g c _ = never_ok c.from_residual-in_err-ids.result _ _ c.from_residual-in_err-ids.ensures.1
@@ -95,21 +98,9 @@ returns-in_err-ids-clause-few g c = never_ok c.from_residual-in_err-ids.result _
 pub returns-clause-cause : goal.returns-clause-cause
 returns-clause-cause g c = ok_cause _ _ _ _ (omega arith)
 
-pub returns-in_err-meta-clause-same : goal.returns-in_err-meta-clause-same
-returns-in_err-meta-clause-same g c = search rules
-
-pub returns-in_err-meta-clause-written : goal.returns-in_err-meta-clause-written
-returns-in_err-meta-clause-written g c = search rules
-
 pub returns-in_err-meta-clause-cause : goal.returns-in_err-meta-clause-cause
 returns-in_err-meta-clause-cause g c =
     cause_passed _ _ _ c.from_residual.result c.in_err-meta.field-0.0 (omega arith) c.in_err-meta.ensures.cause c.from_residual.ensures.1
-
-pub returns-in_err-ids-clause-same : goal.returns-in_err-ids-clause-same
-returns-in_err-ids-clause-same g c = search rules
-
-pub returns-in_err-ids-clause-written : goal.returns-in_err-ids-clause-written
-returns-in_err-ids-clause-written g c = search rules
 
 pub returns-in_err-ids-clause-cause : goal.returns-in_err-ids-clause-cause
 returns-in_err-ids-clause-cause g c =

@@ -5,16 +5,14 @@ use Rattle.record_lists.proofs.Causes.{cause_passed}
 use Rattle.index_check.specs.Definitions.{definition_at}
 use Rattle.index_check.specs.declared.definitions.Definition.{Definition}
 use Rattle.rec_bytes.proofs.Causes.{never_ok, ok_cause}
+use Rattle.record_lists.proofs.OnlyReads.{is_read-none, is_read-on}
 use Rattle.index_check.proofs.definitions.read_definitions.Goals as goal
 
 pub loop-id-init : goal.loop-id-init
 loop-id-init g c = record {
-  same = refl;
-  written = refl;
   are = λ tells. search rules;
   ids = search rules;
-  onward = g.met.R.Reads.stays_onward c.args.space.now;
-  faults = omega arith;
+  read = is_read-none g.R.Reads g.met.R.Reads.stays_onward c.args.space.now;
 }
 
 pub loop-id-preserved : goal.loop-id-preserved
@@ -26,42 +24,32 @@ loop-id-preserved g c =
     let id = get_or ids at 0 in
     let one = c.in_ok-definition.definition in
     record {
-      same = c.in_ok-definition.ensures.same ∙ inv.same;
-      written = c.in_ok-definition.ensures.written ∙ inv.written;
       are = λ tells.
           c.in-Ok.ensures.items
           ∙ ap (λ xs. xs ++ one ∷ []) (inv.are tells)
           ∙ ap (λ x. map (definition_at records) (take at ids) ++ x ∷ [])
-          (c.in_ok-definition.ensures.is tells ∙ ap (λ (r : Records). definition_at r id) inv.same)
+          (c.in_ok-definition.ensures.is tells ∙ ap (λ (r : Records). definition_at r id) inv.read.records)
           ∙ sym (map_more (definition_at records) ids at 0 c.loop-id-test.true);
       ids = ap (map (λ (d : Definition). d.id)) c.in-Ok.ensures.items
           ∙ map-append (λ (d : Definition). d.id) c.loop-id.definitions.items (one ∷ [])
           ∙ ap (λ xs. xs ++ one.id ∷ []) inv.ids
           ∙ ap (λ x. take at ids ++ x ∷ []) c.in_ok-definition.ensures.id
           ∙ sym (take_more ids at 0 c.loop-id-test.true);
-      onward = g.met.R.Reads.further_onward c.args.space.now c.loop-id.space c.read_definition.new.space inv.onward c.in_ok-definition.ensures.onward;
-      faults = let cause = c.in_ok-definition.ensures.cause in omega (arith, inv.faults, cause.later);
+      read = is_read-on g.R.Reads g.met.R.Reads.further_onward c.args.space.now c.loop-id.space c.read_definition.new.space inv.read c.in_ok-definition.ensures.read;
     }
 
-pub returns-in_err-definition-clause-same : goal.returns-in_err-definition-clause-same
-returns-in_err-definition-clause-same g c = c.in_err-definition.ensures.same ∙ c.loop-id.invariant.same
-
-pub returns-in_err-definition-clause-written : goal.returns-in_err-definition-clause-written
-returns-in_err-definition-clause-written g c = c.in_err-definition.ensures.written ∙ c.loop-id.invariant.written
-
-pub returns-in_err-definition-clause-onward : goal.returns-in_err-definition-clause-onward
-returns-in_err-definition-clause-onward g c =
-    g.met.R.Reads.further_onward c.args.space.now c.loop-id.space c.read_definition.new.space
-    c.loop-id.invariant.onward c.in_err-definition.ensures.onward
+pub returns-in_err-definition-clause-read : goal.returns-in_err-definition-clause-read
+returns-in_err-definition-clause-read g c =
+    is_read-on g.R.Reads g.met.R.Reads.further_onward c.args.space.now c.loop-id.space c.read_definition.new.space c.loop-id.invariant.read c.in_err-definition.ensures.read
 
 pub returns-in_err-definition-clause-cause : goal.returns-in_err-definition-clause-cause
 returns-in_err-definition-clause-cause g c =
-    cause_passed _ _ _ c.from_residual.result c.in_err-definition.field-0.0 c.loop-id.invariant.faults c.in_err-definition.ensures.cause
+    cause_passed _ _ _ c.from_residual.result c.in_err-definition.field-0.0 c.loop-id.invariant.read.later c.in_err-definition.ensures.cause
     c.from_residual.ensures.1
 
-pub returns-in_default-clause-onward : goal.returns-in_default-clause-onward
-returns-in_default-clause-onward g c =
-    g.met.R.Reads.further_onward _ _ _ c.loop-id.invariant.onward c.in_ok-definition.ensures.onward
+pub returns-in_default-clause-read : goal.returns-in_default-clause-read
+returns-in_default-clause-read g c =
+    is_read-on g.R.Reads g.met.R.Reads.further_onward _ _ _ c.loop-id.invariant.read c.in_ok-definition.ensures.read
 
 pub returns-clause-are : goal.returns-clause-are
 returns-clause-are g c = λ tells.
@@ -74,7 +62,7 @@ returns-clause-ids g c = c.loop-id.invariant.ids ∙ take_all c.loop-id.id-index
 
 pub returns-in_default-clause-cause : goal.returns-in_default-clause-cause
 returns-in_default-clause-cause g c = record {
-  later = let later = c.in_ok-definition.ensures.cause.later in omega (arith, c.loop-id.invariant.faults, later);
+  later = let later = c.in_ok-definition.ensures.cause.later in omega (arith, c.loop-id.invariant.read.later, later);
   disk = λ blamed. absurd cc;
 }
 
@@ -85,4 +73,8 @@ pub returns-in_err-definition-clause-ids : goal.returns-in_err-definition-clause
 returns-in_err-definition-clause-ids g c = never_ok c.from_residual.result _ _ c.from_residual.ensures.1
 
 pub returns-clause-cause : goal.returns-clause-cause
-returns-clause-cause g c = ok_cause _ _ _ _ (omega arith)
+returns-clause-cause g c = ok_cause _ _ _ _ c.loop-id.invariant.read.later
+
+pub returns-clause-read : goal.returns-clause-read
+returns-clause-read g c =
+    c.loop-id.invariant.read

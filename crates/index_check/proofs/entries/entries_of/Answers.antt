@@ -8,18 +8,16 @@ use Rattle.record_lists.proofs.Causes.{cause_passed}
 use Rattle.index_check.specs.Entries.{AreEntriesTo}
 use Rattle.index_check.proofs.EntryLaws.{entries_more, entries_none, low_more}
 use Rattle.rec_bytes.proofs.Causes.{never_ok}
+use Rattle.record_lists.proofs.OnlyReads.{is_read-none, is_read-on}
 use Rattle.index_check.proofs.entries.entries_of.Goals as goal
 
 pub loop-number-init : goal.loop-number-init
 loop-number-init g c =
     let records = (g.R.Reads.state c.args.space.now).records in
     record {
-      same = refl;
-      written = refl;
       are = λ tells. subst (AreEntriesTo records c.args.definition 0) (sym c.new-entries.ensures.items) (entries_none records c.args.definition);
       low = λ k d lt. let none : length c.new-entries.result.items ≡ 0 = ap length c.new-entries.ensures.items in absurd (omega arith);
-      onward = g.met.R.Reads.stays_onward c.args.space.now;
-      faults = omega arith;
+      read = is_read-none g.R.Reads g.met.R.Reads.stays_onward c.args.space.now;
     }
 
 pub loop-number-preserved : goal.loop-number-preserved
@@ -34,31 +32,21 @@ loop-number-preserved g c =
     let mark : c.meta-records.result.high ≡ high records format.index_file = ap (λ (m : Meta). m.high) c.meta-records.ensures in
     let few : All (λ x. x < c.meta-records.result.high) ids = search (rules, c.in_ok-ids.ensures.low) in
     record {
-      same = c.in_ok-ids.ensures.same ∙ inv.same;
-      written = c.in_ok-ids.ensures.written ∙ inv.written;
       are = λ tells.
           let found : IsBucketList (g.R.Reads.state c.loop-number.space).records d n ids = search (rules, c.in_ok-ids.ensures.found tells) in
-          subst (AreEntriesTo records d (n + 1)) (sym items) (entries_more records d n c.loop-number.entries.items ids (inv.are tells) (subst (λ (r : Records). IsBucketList r d n ids) inv.same found));
+          subst (AreEntriesTo records d (n + 1)) (sym items) (entries_more records d n c.loop-number.entries.items ids (inv.are tells) (subst (λ (r : Records). IsBucketList r d n ids) inv.read.records found));
       low = low_more c.meta-records.result.high format.most_ids c.loop-number.entries.items ids c.extend_from_slice.new.self.items
           (omega (arith, c.requires.low)) items inv.low few;
-      onward = g.met.R.Reads.further_onward c.args.space.now c.loop-number.space c.bucket_at.new.space inv.onward c.in_ok-ids.ensures.onward;
-      faults = let cause = c.in_ok-ids.ensures.cause in omega (arith, inv.faults, cause.later);
+      read = is_read-on g.R.Reads g.met.R.Reads.further_onward c.args.space.now c.loop-number.space c.bucket_at.new.space inv.read c.in_ok-ids.ensures.read;
     }
 
 pub returns-in_err-ids-clause-cause : goal.returns-in_err-ids-clause-cause
 returns-in_err-ids-clause-cause g c =
-    cause_passed _ _ _ c.from_residual.result c.in_err-ids.field-0.0 c.loop-number.invariant.faults c.in_err-ids.ensures.cause c.from_residual.ensures.1
+    cause_passed _ _ _ c.from_residual.result c.in_err-ids.field-0.0 c.loop-number.invariant.read.later c.in_err-ids.ensures.cause c.from_residual.ensures.1
 
-pub returns-in_err-ids-clause-onward : goal.returns-in_err-ids-clause-onward
-returns-in_err-ids-clause-onward g c =
-    g.met.R.Reads.further_onward c.args.space.now c.loop-number.space c.bucket_at.new.space
-    c.loop-number.invariant.onward c.in_err-ids.ensures.onward
-
-pub returns-in_err-ids-clause-same : goal.returns-in_err-ids-clause-same
-returns-in_err-ids-clause-same g c = c.in_err-ids.ensures.same ∙ c.loop-number.invariant.same
-
-pub returns-in_err-ids-clause-written : goal.returns-in_err-ids-clause-written
-returns-in_err-ids-clause-written g c = c.in_err-ids.ensures.written ∙ c.loop-number.invariant.written
+pub returns-in_err-ids-clause-read : goal.returns-in_err-ids-clause-read
+returns-in_err-ids-clause-read g c =
+    is_read-on g.R.Reads g.met.R.Reads.further_onward c.args.space.now c.loop-number.space c.bucket_at.new.space c.loop-number.invariant.read c.in_err-ids.ensures.read
 
 pub returns-clause-found : goal.returns-clause-found
 returns-clause-found g c = λ tells.
@@ -66,17 +54,17 @@ returns-clause-found g c = λ tells.
     let all : c.loop-number.number ≡ 180 = omega arith in
     subst (λ n. AreEntriesTo records c.args.definition n c.loop-number.entries.items) all (c.loop-number.invariant.are tells)
 
-pub returns-in_default-clause-onward : goal.returns-in_default-clause-onward
-returns-in_default-clause-onward g c =
-    g.met.R.Reads.further_onward _ _ _ c.loop-number.invariant.onward c.in_ok-ids.ensures.onward
+pub returns-in_default-clause-read : goal.returns-in_default-clause-read
+returns-in_default-clause-read g c =
+    is_read-on g.R.Reads g.met.R.Reads.further_onward _ _ _ c.loop-number.invariant.read c.in_ok-ids.ensures.read
 
-pub returns-in_default-extend_from_slice-clause-onward : goal.returns-in_default-extend_from_slice-clause-onward
-returns-in_default-extend_from_slice-clause-onward g c =
-    g.met.R.Reads.further_onward _ _ _ c.loop-number.invariant.onward c.in_ok-ids.ensures.onward
+pub returns-in_default-extend_from_slice-clause-read : goal.returns-in_default-extend_from_slice-clause-read
+returns-in_default-extend_from_slice-clause-read g c =
+    is_read-on g.R.Reads g.met.R.Reads.further_onward _ _ _ c.loop-number.invariant.read c.in_ok-ids.ensures.read
 
 pub returns-in_default-extend_from_slice-clause-cause : goal.returns-in_default-extend_from_slice-clause-cause
 returns-in_default-extend_from_slice-clause-cause g c = record {
-  later = let later = c.in_ok-ids.ensures.cause.later in omega (arith, c.loop-number.invariant.faults, later);
+  later = let later = c.in_ok-ids.ensures.cause.later in omega (arith, c.loop-number.invariant.read.later, later);
   disk = λ blamed. absurd cc;
 }
 

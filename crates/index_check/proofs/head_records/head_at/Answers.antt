@@ -8,6 +8,7 @@ use Rattle.store_rules.specs.Views.{high, kind_at}
 use Rattle.store_rules.proofs.ViewLaws.{kind_high}
 use Rattle.rec_bytes.proofs.Causes.{never_ok, ok_cause}
 use Rattle.record_lists.proofs.Causes.{cause_passed}
+use Rattle.record_lists.proofs.OnlyReads.{is_read-on, is_read-get}
 use Rattle.index_check.proofs.head_records.head_at.Goals as goal
 
 pub returns-then-id-records-clause-none : goal.returns-then-id-records-clause-none
@@ -48,16 +49,17 @@ returns-clause-found g c = λ tells.
       rec_is = got ∙ ap (index_rec records) id;
     }
 
-pub returns-in_err-rec-2-clause-onward : goal.returns-in_err-rec-2-clause-onward
-returns-in_err-rec-2-clause-onward g c =
-    g.met.R.Reads.further_onward _ _ _ c.in_ok-rec.ensures.onward c.in_err-rec-2.ensures.onward
+pub returns-in_err-rec-2-clause-read : goal.returns-in_err-rec-2-clause-read
+returns-in_err-rec-2-clause-read g c =
+    is_read-on g.R.Reads g.met.R.Reads.further_onward _ _ _ (is_read-get g.R.Reads _ _ c.in_ok-rec.ensures.state c.in_ok-rec.ensures.onward c.in_ok-rec.ensures.cause.later) (is_read-get g.R.Reads _ _ c.in_err-rec-2.ensures.state c.in_err-rec-2.ensures.onward c.in_err-rec-2.ensures.cause.later)
 
-pub returns-then-byte-ne-HEADS-clause-onward : goal.returns-then-byte-ne-HEADS-clause-onward
-returns-then-byte-ne-HEADS-clause-onward g c =
-    g.met.R.Reads.further_onward _ _ _ c.in_ok-rec.ensures.onward c.in_ok-rec-2.ensures.onward
+pub returns-then-byte-ne-HEADS-clause-read : goal.returns-then-byte-ne-HEADS-clause-read
+returns-then-byte-ne-HEADS-clause-read g c =
+    is_read-on g.R.Reads g.met.R.Reads.further_onward _ _ _ (is_read-get g.R.Reads _ _ c.in_ok-rec.ensures.state c.in_ok-rec.ensures.onward c.in_ok-rec.ensures.cause.later) (is_read-get g.R.Reads _ _ c.in_ok-rec-2.ensures.state c.in_ok-rec-2.ensures.onward c.in_ok-rec-2.ensures.cause.later)
 
-pub returns-clause-onward : goal.returns-clause-onward
-returns-clause-onward g c = g.met.R.Reads.further_onward _ _ _ c.in_ok-rec.ensures.onward c.in_ok-rec-2.ensures.onward
+pub returns-clause-read : goal.returns-clause-read
+returns-clause-read g c =
+    is_read-on g.R.Reads g.met.R.Reads.further_onward _ _ _ (is_read-get g.R.Reads _ _ c.in_ok-rec.ensures.state c.in_ok-rec.ensures.onward c.in_ok-rec.ensures.cause.later) (is_read-get g.R.Reads _ _ c.in_ok-rec-2.ensures.state c.in_ok-rec-2.ensures.onward c.in_ok-rec-2.ensures.cause.later)
 
 pub returns-in_err-rec-clause-found : goal.returns-in_err-rec-clause-found
 returns-in_err-rec-clause-found g c _ = never_ok c.from_residual.result _ _ c.from_residual.ensures.1
@@ -68,8 +70,9 @@ returns-in_err-rec-clause-none g c _ = never_ok c.from_residual.result _ _ c.fro
 pub returns-in_err-rec-clause-low : goal.returns-in_err-rec-clause-low
 returns-in_err-rec-clause-low g c = never_ok c.from_residual.result _ _ c.from_residual.ensures.1
 
-pub returns-in_err-rec-clause-onward : goal.returns-in_err-rec-clause-onward
-returns-in_err-rec-clause-onward g c = search rules
+pub returns-in_err-rec-clause-read : goal.returns-in_err-rec-clause-read
+returns-in_err-rec-clause-read g c =
+    is_read-get g.R.Reads _ _ c.in_err-rec.ensures.state c.in_err-rec.ensures.onward c.in_err-rec.ensures.cause.later
 
 pub returns-in_err-rec-2-clause-found : goal.returns-in_err-rec-2-clause-found
 returns-in_err-rec-2-clause-found g c _ = never_ok c.from_residual-in_err-rec-2.result _ _ c.from_residual-in_err-rec-2.ensures.1
@@ -83,21 +86,9 @@ returns-in_err-rec-2-clause-low g c = never_ok c.from_residual-in_err-rec-2.resu
 pub returns-clause-cause : goal.returns-clause-cause
 returns-clause-cause g c = ok_cause _ _ _ _ (omega arith)
 
-pub returns-in_err-rec-clause-same : goal.returns-in_err-rec-clause-same
-returns-in_err-rec-clause-same g c = search rules
-
-pub returns-in_err-rec-clause-written : goal.returns-in_err-rec-clause-written
-returns-in_err-rec-clause-written g c = search rules
-
 pub returns-in_err-rec-clause-cause : goal.returns-in_err-rec-clause-cause
 returns-in_err-rec-clause-cause g c =
     cause_passed _ _ _ c.from_residual.result c.in_err-rec.field-0.0 (omega arith) c.in_err-rec.ensures.cause c.from_residual.ensures.1
-
-pub returns-in_err-rec-2-clause-same : goal.returns-in_err-rec-2-clause-same
-returns-in_err-rec-2-clause-same g c = search rules
-
-pub returns-in_err-rec-2-clause-written : goal.returns-in_err-rec-2-clause-written
-returns-in_err-rec-2-clause-written g c = search rules
 
 pub returns-in_err-rec-2-clause-cause : goal.returns-in_err-rec-2-clause-cause
 returns-in_err-rec-2-clause-cause g c =

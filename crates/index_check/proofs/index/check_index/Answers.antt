@@ -12,6 +12,7 @@ use Rattle.rec_bytes.proofs.Causes.{never_ok}
 use Rattle.prop_store.proofs.Exits.{space_exit}
 use Rattle.index_check.proofs.SoundExits.{sound_exit}
 use Rattle.index_check.specs.Values.{AreReadable}
+use Rattle.record_lists.proofs.OnlyReads.{is_read-on}
 use Rattle.index_check.proofs.index.check_index.Goals as goal
 
 pub returns-in_default-clause-broken : goal.returns-in_default-clause-broken
@@ -35,7 +36,7 @@ returns-in-Unwanted-clause-broken g c = λ tells.
     let entries = c.in-Some.entries.items in
     let x = c.in-Unwanted.id in
     let are : AreEntriesTo records d.id 180 entries = search (rules, c.in_ok-entries.ensures.found tells) in
-    let told = nodes_told records _ d c.deref.result.now entries c.in_ok-id.field-0 (Unwanted x) c.in_ok-entries.ensures.same c.deref.ensures.value
+    let told = nodes_told records _ d c.deref.result.now entries c.in_ok-id.field-0 (Unwanted x) c.in_ok-entries.ensures.read.records c.deref.ensures.value
     c.in-Unwanted.is (c.in_ok-id.ensures.told tells) in
     breaks_by records c.broken-in-Unwanted.result format.index_file x c.broken-in-Unwanted.ensures (unwanted_breaks records d given entries are x told.0 told.1)
 
@@ -48,13 +49,13 @@ returns-in-Some-2-clause-broken g c = λ tells.
     let nodes = c.in-Nodes.nodes.items in
     let n = c.in-Some-2.node in
     let are : AreEntriesTo records d.id 180 entries = search (rules, c.in_ok-entries.ensures.found tells) in
-    let told = nodes_told records _ d c.deref.result.now entries c.in_ok-id.field-0 (Nodes c.in-Nodes.nodes) c.in_ok-entries.ensures.same c.deref.ensures.value
+    let told = nodes_told records _ d c.deref.result.now entries c.in_ok-id.field-0 (Nodes c.in-Nodes.nodes) c.in_ok-entries.ensures.read.records c.deref.ensures.value
     c.in-Nodes.is (c.in_ok-id.ensures.told tells) in
     let found : IsWrongNode (g.R.Reads.state c.nodes_of.new.space).records d c.deref-in-Nodes.result.now n =
     search (rules, c.in_ok-node-in-Nodes.ensures.found tells) in
     let wrong : IsWrongNode records d nodes n
     = subst (λ ns. IsWrongNode records d ns n) c.deref-in-Nodes.ensures.value
-    (subst (λ (r : Records). IsWrongNode r d c.deref-in-Nodes.result.now n) (c.in_ok-id.ensures.same ∙ c.in_ok-entries.ensures.same) found) in
+    (subst (λ (r : Records). IsWrongNode r d c.deref-in-Nodes.result.now n) (c.in_ok-id.ensures.read.records ∙ c.in_ok-entries.ensures.read.records) found) in
     breaks_by records c.broken-in-Some-2.result format.nodes_file n c.broken-in-Some-2.ensures (wrong_breaks records d given entries are nodes told.0 n wrong)
 
 pub returns-clause-right : goal.returns-clause-right
@@ -65,40 +66,34 @@ returns-clause-right g c = λ tells.
     let entries = c.in-Some.entries.items in
     let nodes = c.in-Nodes.nodes.items in
     let are : AreEntriesTo records d.id 180 entries = search (rules, c.in_ok-entries.ensures.found tells) in
-    let told = nodes_told records _ d c.deref.result.now entries c.in_ok-id.field-0 (Nodes c.in-Nodes.nodes) c.in_ok-entries.ensures.same c.deref.ensures.value
+    let told = nodes_told records _ d c.deref.result.now entries c.in_ok-id.field-0 (Nodes c.in-Nodes.nodes) c.in_ok-entries.ensures.read.records c.deref.ensures.value
     c.in-Nodes.is (c.in_ok-id.ensures.told tells) in
     let found : AreNodesRight (g.R.Reads.state c.nodes_of.new.space).records d c.deref-in-Nodes.result.now =
     search (rules, c.in_ok-node-in-Nodes.ensures.none tells) in
     let right : AreNodesRight records d nodes
     = subst (λ ns. AreNodesRight records d ns) c.deref-in-Nodes.ensures.value
-    (subst (λ (r : Records). AreNodesRight r d c.deref-in-Nodes.result.now) (c.in_ok-id.ensures.same ∙ c.in_ok-entries.ensures.same) found) in
+    (subst (λ (r : Records). AreNodesRight r d c.deref-in-Nodes.result.now) (c.in_ok-id.ensures.read.records ∙ c.in_ok-entries.ensures.read.records) found) in
     right_of records d given entries are nodes told.0 told.1 right
 
-pub returns-in_err-id-clause-onward : goal.returns-in_err-id-clause-onward
-returns-in_err-id-clause-onward g c =
-    g.met.R.Reads.further_onward _ _ _ c.in_ok-entries.ensures.onward c.in_err-id.ensures.onward
+pub returns-in_err-id-clause-read : goal.returns-in_err-id-clause-read
+returns-in_err-id-clause-read g c =
+    is_read-on g.R.Reads g.met.R.Reads.further_onward _ _ _ c.in_ok-entries.ensures.read c.in_err-id.ensures.read
 
-pub returns-in-Unwanted-clause-onward : goal.returns-in-Unwanted-clause-onward
-returns-in-Unwanted-clause-onward g c =
-    g.met.R.Reads.further_onward _ _ _ c.in_ok-entries.ensures.onward c.in_ok-id.ensures.onward
+pub returns-in-Unwanted-clause-read : goal.returns-in-Unwanted-clause-read
+returns-in-Unwanted-clause-read g c =
+    is_read-on g.R.Reads g.met.R.Reads.further_onward _ _ _ c.in_ok-entries.ensures.read c.in_ok-id.ensures.read
 
-pub returns-in_err-node-in-Nodes-clause-onward : goal.returns-in_err-node-in-Nodes-clause-onward
-returns-in_err-node-in-Nodes-clause-onward g c =
-    g.met.R.Reads.further_onward _ _ _
-    (g.met.R.Reads.further_onward _ _ _ c.in_ok-entries.ensures.onward c.in_ok-id.ensures.onward)
-    c.in_err-node-in-Nodes.ensures.onward
+pub returns-in_err-node-in-Nodes-clause-read : goal.returns-in_err-node-in-Nodes-clause-read
+returns-in_err-node-in-Nodes-clause-read g c =
+    is_read-on g.R.Reads g.met.R.Reads.further_onward _ _ _ (is_read-on g.R.Reads g.met.R.Reads.further_onward _ _ _ c.in_ok-entries.ensures.read c.in_ok-id.ensures.read) c.in_err-node-in-Nodes.ensures.read
 
-pub returns-in-Some-2-clause-onward : goal.returns-in-Some-2-clause-onward
-returns-in-Some-2-clause-onward g c =
-    g.met.R.Reads.further_onward _ _ _
-    (g.met.R.Reads.further_onward _ _ _ c.in_ok-entries.ensures.onward c.in_ok-id.ensures.onward)
-    c.in_ok-node-in-Nodes.ensures.onward
+pub returns-in-Some-2-clause-read : goal.returns-in-Some-2-clause-read
+returns-in-Some-2-clause-read g c =
+    is_read-on g.R.Reads g.met.R.Reads.further_onward _ _ _ (is_read-on g.R.Reads g.met.R.Reads.further_onward _ _ _ c.in_ok-entries.ensures.read c.in_ok-id.ensures.read) c.in_ok-node-in-Nodes.ensures.read
 
-pub returns-clause-onward : goal.returns-clause-onward
-returns-clause-onward g c =
-    g.met.R.Reads.further_onward _ _ _
-    (g.met.R.Reads.further_onward _ _ _ c.in_ok-entries.ensures.onward c.in_ok-id.ensures.onward)
-    c.in_ok-node-in-Nodes.ensures.onward
+pub returns-clause-read : goal.returns-clause-read
+returns-clause-read g c =
+    is_read-on g.R.Reads g.met.R.Reads.further_onward _ _ _ (is_read-on g.R.Reads g.met.R.Reads.further_onward _ _ _ c.in_ok-entries.ensures.read c.in_ok-id.ensures.read) c.in_ok-node-in-Nodes.ensures.read
 
 pub returns-in_err-id-clause-cause : goal.returns-in_err-id-clause-cause
 returns-in_err-id-clause-cause g c =
@@ -118,8 +113,9 @@ returns-in_err-entries-clause-right g c _ = never_ok c.from_residual.result _ _ 
 pub returns-in_err-entries-clause-broken : goal.returns-in_err-entries-clause-broken
 returns-in_err-entries-clause-broken g c _ = never_ok c.from_residual.result _ _ c.from_residual.ensures.1
 
-pub returns-in_err-entries-clause-onward : goal.returns-in_err-entries-clause-onward
-returns-in_err-entries-clause-onward g c = search rules
+pub returns-in_err-entries-clause-read : goal.returns-in_err-entries-clause-read
+returns-in_err-entries-clause-read g c =
+    c.in_err-entries.ensures.read
 
 pub returns-in_err-id-clause-right : goal.returns-in_err-id-clause-right
 returns-in_err-id-clause-right g c _ = never_ok c.from_residual-in_err-id.result _ _ c.from_residual-in_err-id.ensures.1
@@ -136,12 +132,6 @@ returns-in_err-node-in-Nodes-clause-broken g c _ = never_ok c.from_residual-in_e
 pub returns-in_err-entries-clause-sound : goal.returns-in_err-entries-clause-sound
 returns-in_err-entries-clause-sound g c _ _ = space_exit c.from_residual.result c.in_err-entries.field-0.0 c.from_residual.ensures.1
 
-pub returns-in_err-entries-clause-same : goal.returns-in_err-entries-clause-same
-returns-in_err-entries-clause-same g c = c.in_err-entries.ensures.same
-
-pub returns-in_err-entries-clause-written : goal.returns-in_err-entries-clause-written
-returns-in_err-entries-clause-written g c = c.in_err-entries.ensures.written
-
 pub returns-in_err-entries-clause-cause : goal.returns-in_err-entries-clause-cause
 returns-in_err-entries-clause-cause g c =
     space_cause_passed _ _ _ c.from_residual.result c.in_err-entries.field-0.0 (omega arith) c.in_err-entries.ensures.cause c.from_residual.ensures.1
@@ -149,21 +139,9 @@ returns-in_err-entries-clause-cause g c =
 pub returns-in_err-id-clause-sound : goal.returns-in_err-id-clause-sound
 returns-in_err-id-clause-sound g c tells readable =
     sound_exit c.from_residual-in_err-id.result c.in_err-id.field-0.0 c.from_residual-in_err-id.ensures.1
-    (c.in_err-id.ensures.sound tells (subst AreReadable (sym (c.in_ok-entries.ensures.same)) readable))
-
-pub returns-in_err-id-clause-same : goal.returns-in_err-id-clause-same
-returns-in_err-id-clause-same g c = c.in_err-id.ensures.same ∙ c.in_ok-entries.ensures.same
-
-pub returns-in_err-id-clause-written : goal.returns-in_err-id-clause-written
-returns-in_err-id-clause-written g c = c.in_err-id.ensures.written ∙ c.in_ok-entries.ensures.written
+    (c.in_err-id.ensures.sound tells (subst AreReadable (sym (c.in_ok-entries.ensures.read.records)) readable))
 
 pub returns-in_err-node-in-Nodes-clause-sound : goal.returns-in_err-node-in-Nodes-clause-sound
 returns-in_err-node-in-Nodes-clause-sound g c tells readable =
     sound_exit c.from_residual-in_err-node-in-Nodes.result c.in_err-node-in-Nodes.field-0.0 c.from_residual-in_err-node-in-Nodes.ensures.1
-    (c.in_err-node-in-Nodes.ensures.sound tells (subst AreReadable (sym (c.in_ok-id.ensures.same ∙ c.in_ok-entries.ensures.same)) readable))
-
-pub returns-in_err-node-in-Nodes-clause-same : goal.returns-in_err-node-in-Nodes-clause-same
-returns-in_err-node-in-Nodes-clause-same g c = c.in_err-node-in-Nodes.ensures.same ∙ c.in_ok-id.ensures.same ∙ c.in_ok-entries.ensures.same
-
-pub returns-in_err-node-in-Nodes-clause-written : goal.returns-in_err-node-in-Nodes-clause-written
-returns-in_err-node-in-Nodes-clause-written g c = c.in_err-node-in-Nodes.ensures.written ∙ c.in_ok-id.ensures.written ∙ c.in_ok-entries.ensures.written
+    (c.in_err-node-in-Nodes.ensures.sound tells (subst AreReadable (sym (c.in_ok-id.ensures.read.records ∙ c.in_ok-entries.ensures.read.records)) readable))

@@ -13,6 +13,7 @@ use Rattle.index_check.specs.declared.definitions.Definition.{Definition}
 use Rattle.index_check.proofs.SoundExits.{sound_exit}
 use Rattle.index_check.proofs.ValueLaws.{value_low}
 use Rattle.rec_bytes.proofs.Causes.{never_ok}
+use Rattle.record_lists.proofs.OnlyReads.{is_read-none, is_read-on}
 use Rattle.index_check.proofs.nodes.find_missing.Goals as goal
 
 -- a node that isn't missing is met, if it has a value
@@ -25,11 +26,8 @@ met_of records d n met missing none told h = ⊎_elim
 
 pub loop-node-init : goal.loop-node-init
 loop-node-init g c = record {
-  same = refl;
-  written = refl;
   met = λ tells n lt. absurd (omega arith);
-  onward = g.met.R.Reads.stays_onward c.args.space.now;
-  faults = omega arith;
+  read = is_read-none g.R.Reads g.met.R.Reads.stays_onward c.args.space.now;
 }
 
 pub loop-node-preserved : goal.loop-node-preserved
@@ -41,12 +39,9 @@ loop-node-preserved g c =
     let marks = c.args.marks.now in
     let no : c.in_ok-is_missing.field-0 ≡ false = search rules in
     record {
-      same = c.in_ok-is_missing.ensures.same ∙ inv.same;
-      written = c.in_ok-is_missing.ensures.written ∙ inv.written;
       met = λ tells. one_more (λ k. HasValue records d k → marked marks k ≡ true) n (inv.met tells)
-          (met_of records d n (marked marks n) c.in_ok-is_missing.field-0 no (subst (λ (r : Records). Decides c.in_ok-is_missing.field-0 (IsMissing r d n (marked marks n))) inv.same (c.in_ok-is_missing.ensures.told tells)));
-      onward = g.met.R.Reads.further_onward c.args.space.now c.loop-node.space c.is_missing.new.space inv.onward c.in_ok-is_missing.ensures.onward;
-      faults = let cause = c.in_ok-is_missing.ensures.cause in omega (arith, inv.faults, cause.later);
+          (met_of records d n (marked marks n) c.in_ok-is_missing.field-0 no (subst (λ (r : Records). Decides c.in_ok-is_missing.field-0 (IsMissing r d n (marked marks n))) inv.read.records (c.in_ok-is_missing.ensures.told tells)));
+      read = is_read-on g.R.Reads g.met.R.Reads.further_onward c.args.space.now c.loop-node.space c.is_missing.new.space inv.read c.in_ok-is_missing.ensures.read;
     }
 
 pub returns-then-branch-clause-found : goal.returns-then-branch-clause-found
@@ -55,7 +50,7 @@ returns-then-branch-clause-found g c = λ tells.
     let n = c.loop-node.node in
     let marks = c.args.marks.now in
     let yes : c.in_ok-is_missing.field-0 ≡ true = search rules in
-    subst (λ (r : Records). IsMissing r d n (marked marks n)) c.loop-node.invariant.same ((c.in_ok-is_missing.ensures.told tells).0 yes)
+    subst (λ (r : Records). IsMissing r d n (marked marks n)) c.loop-node.invariant.read.records ((c.in_ok-is_missing.ensures.told tells).0 yes)
 
 pub returns-clause-none : goal.returns-clause-none
 returns-clause-none g c = λ tells n h.
@@ -68,22 +63,16 @@ returns-clause-none g c = λ tells n h.
 pub returns-in_err-is_missing-clause-sound : goal.returns-in_err-is_missing-clause-sound
 returns-in_err-is_missing-clause-sound g c = λ tells readable.
     sound_exit c.from_residual.result c.in_err-is_missing.field-0.0 c.from_residual.ensures.1
-    (c.in_err-is_missing.ensures.sound tells (subst AreReadable (sym c.loop-node.invariant.same) readable))
+    (c.in_err-is_missing.ensures.sound tells (subst AreReadable (sym c.loop-node.invariant.read.records) readable))
 
 pub returns-in_err-is_missing-clause-cause : goal.returns-in_err-is_missing-clause-cause
 returns-in_err-is_missing-clause-cause g c =
-    cause_passed _ _ _ c.from_residual.result c.in_err-is_missing.field-0.0 c.loop-node.invariant.faults c.in_err-is_missing.ensures.cause
+    cause_passed _ _ _ c.from_residual.result c.in_err-is_missing.field-0.0 c.loop-node.invariant.read.later c.in_err-is_missing.ensures.cause
     c.from_residual.ensures.1
 
-pub returns-in_err-is_missing-clause-onward : goal.returns-in_err-is_missing-clause-onward
-returns-in_err-is_missing-clause-onward g c = g.met.R.Reads.further_onward c.args.space.now c.loop-node.space c.is_missing.new.space
-    c.loop-node.invariant.onward c.in_err-is_missing.ensures.onward
-
-pub returns-in_err-is_missing-clause-same : goal.returns-in_err-is_missing-clause-same
-returns-in_err-is_missing-clause-same g c = c.in_err-is_missing.ensures.same ∙ c.loop-node.invariant.same
-
-pub returns-in_err-is_missing-clause-written : goal.returns-in_err-is_missing-clause-written
-returns-in_err-is_missing-clause-written g c = c.in_err-is_missing.ensures.written ∙ c.loop-node.invariant.written
+pub returns-in_err-is_missing-clause-read : goal.returns-in_err-is_missing-clause-read
+returns-in_err-is_missing-clause-read g c =
+    is_read-on g.R.Reads g.met.R.Reads.further_onward c.args.space.now c.loop-node.space c.is_missing.new.space c.loop-node.invariant.read c.in_err-is_missing.ensures.read
 
 pub returns-in_err-is_missing-clause-none : goal.returns-in_err-is_missing-clause-none
 returns-in_err-is_missing-clause-none g c _ = never_ok c.from_residual.result _ _ c.from_residual.ensures.1

@@ -1,15 +1,13 @@
 use Rattle.std.proofs.Common.{◌≡◌, ◌≤◌, ◌<◌, ℕ, true}
 use Rattle.record_lists.specs.Marks.{marked}
 use Rattle.index_check.specs.Nodes.{HasValue}
+use Rattle.rec_bytes.specs.Frame.{IsRead}
 use Rattle.index_check.proofs.nodes.find_missing.Given as goal
 
 abbrev pub invariant-loop-node : goal.invariant-loop-node
 invariant-loop-node g l =
     let records = (g.R.Reads.state l.fn.space).records in
     record {
-      same : (g.R.Reads.state l.space).records ≡ records;
-      written : (g.R.Reads.state l.space).written ≡ (g.R.Reads.state l.fn.space).written;
+      read : IsRead g.R.Reads l.fn.space l.space;
       met : g.R.Reads.tells → (n : ℕ) → n < l.node → HasValue records l.definition n → marked l.marks n ≡ true;
-      onward : g.R.Reads.onward l.fn.space l.space;
-      faults : g.R.Reads.faults l.fn.space ≤ g.R.Reads.faults l.space;
     }

@@ -31,18 +31,13 @@ returns-clause-told g c = λ tells.
 pub returns-in_err-value-clause-told : goal.returns-in_err-value-clause-told
 returns-in_err-value-clause-told g c _ = never_ok c.from_residual.result _ _ c.from_residual.ensures.1
 
-pub returns-in_err-value-clause-onward : goal.returns-in_err-value-clause-onward
-returns-in_err-value-clause-onward g c = search rules
+pub returns-in_err-value-clause-read : goal.returns-in_err-value-clause-read
+returns-in_err-value-clause-read g c =
+    c.in_err-value.ensures.read
 
 pub returns-in_err-value-clause-sound : goal.returns-in_err-value-clause-sound
 returns-in_err-value-clause-sound g c tells readable =
     sound_exit c.from_residual.result c.in_err-value.field-0.0 c.from_residual.ensures.1 (c.in_err-value.ensures.sound tells readable)
-
-pub returns-in_err-value-clause-same : goal.returns-in_err-value-clause-same
-returns-in_err-value-clause-same g c = c.in_err-value.ensures.same
-
-pub returns-in_err-value-clause-written : goal.returns-in_err-value-clause-written
-returns-in_err-value-clause-written g c = c.in_err-value.ensures.written
 
 pub returns-in_err-value-clause-cause : goal.returns-in_err-value-clause-cause
 returns-in_err-value-clause-cause g c =

@@ -13,6 +13,7 @@ use Rattle.rec_bytes.proofs.Causes.{never_ok}
 use Rattle.prop_store.proofs.Exits.{space_exit}
 use Rattle.index_check.proofs.SoundExits.{sound_exit}
 use Rattle.index_check.specs.Values.{AreReadable}
+use Rattle.record_lists.proofs.OnlyReads.{is_read-on, is_read-get}
 use Rattle.index_check.proofs.nodes.node_of.Goals as goal
 
 -- what was tested is whether the entry is wanted
@@ -53,16 +54,17 @@ pub returns-in_err-rec-clause-cause : goal.returns-in_err-rec-clause-cause
 returns-in_err-rec-clause-cause g c =
     space_cause_passed _ _ _ c.from_residual.result c.in_err-rec.field-0.0 (omega arith) c.in_err-rec.ensures.cause c.from_residual.ensures.1
 
-pub returns-in_err-value-clause-onward : goal.returns-in_err-value-clause-onward
-returns-in_err-value-clause-onward g c =
-    g.met.R.Reads.further_onward _ _ _ c.in_ok-rec.ensures.onward c.in_err-value.ensures.onward
+pub returns-in_err-value-clause-read : goal.returns-in_err-value-clause-read
+returns-in_err-value-clause-read g c =
+    is_read-on g.R.Reads g.met.R.Reads.further_onward _ _ _ (is_read-get g.R.Reads _ _ c.in_ok-rec.ensures.state c.in_ok-rec.ensures.onward c.in_ok-rec.ensures.cause.later) c.in_err-value.ensures.read
 
-pub returns-then-has_hash-clause-onward : goal.returns-then-has_hash-clause-onward
-returns-then-has_hash-clause-onward g c =
-    g.met.R.Reads.further_onward _ _ _ c.in_ok-rec.ensures.onward c.in_ok-value.ensures.onward
+pub returns-then-has_hash-clause-read : goal.returns-then-has_hash-clause-read
+returns-then-has_hash-clause-read g c =
+    is_read-on g.R.Reads g.met.R.Reads.further_onward _ _ _ (is_read-get g.R.Reads _ _ c.in_ok-rec.ensures.state c.in_ok-rec.ensures.onward c.in_ok-rec.ensures.cause.later) c.in_ok-value.ensures.read
 
-pub returns-clause-onward : goal.returns-clause-onward
-returns-clause-onward g c = g.met.R.Reads.further_onward _ _ _ c.in_ok-rec.ensures.onward c.in_ok-value.ensures.onward
+pub returns-clause-read : goal.returns-clause-read
+returns-clause-read g c =
+    is_read-on g.R.Reads g.met.R.Reads.further_onward _ _ _ (is_read-get g.R.Reads _ _ c.in_ok-rec.ensures.state c.in_ok-rec.ensures.onward c.in_ok-rec.ensures.cause.later) c.in_ok-value.ensures.read
 
 pub returns-in_err-rec-clause-wanted : goal.returns-in_err-rec-clause-wanted
 returns-in_err-rec-clause-wanted g c _ = never_ok c.from_residual.result _ _ c.from_residual.ensures.1
@@ -73,8 +75,9 @@ returns-in_err-rec-clause-unwanted g c _ = never_ok c.from_residual.result _ _ c
 pub returns-in_err-rec-clause-low : goal.returns-in_err-rec-clause-low
 returns-in_err-rec-clause-low g c = never_ok c.from_residual.result _ _ c.from_residual.ensures.1
 
-pub returns-in_err-rec-clause-onward : goal.returns-in_err-rec-clause-onward
-returns-in_err-rec-clause-onward g c = search rules
+pub returns-in_err-rec-clause-read : goal.returns-in_err-rec-clause-read
+returns-in_err-rec-clause-read g c =
+    is_read-get g.R.Reads _ _ c.in_err-rec.ensures.state c.in_err-rec.ensures.onward c.in_err-rec.ensures.cause.later
 
 pub returns-in_err-value-clause-wanted : goal.returns-in_err-value-clause-wanted
 returns-in_err-value-clause-wanted g c _ = never_ok c.from_residual-in_err-value.result _ _ c.from_residual-in_err-value.ensures.1
@@ -88,19 +91,7 @@ returns-in_err-value-clause-low g c = never_ok c.from_residual-in_err-value.resu
 pub returns-in_err-rec-clause-sound : goal.returns-in_err-rec-clause-sound
 returns-in_err-rec-clause-sound g c _ _ = space_exit c.from_residual.result c.in_err-rec.field-0.0 c.from_residual.ensures.1
 
-pub returns-in_err-rec-clause-same : goal.returns-in_err-rec-clause-same
-returns-in_err-rec-clause-same g c = ap (λ (s : State). s.records) c.in_err-rec.ensures.state
-
-pub returns-in_err-rec-clause-written : goal.returns-in_err-rec-clause-written
-returns-in_err-rec-clause-written g c = ap (λ (s : State). s.written) c.in_err-rec.ensures.state
-
 pub returns-in_err-value-clause-sound : goal.returns-in_err-value-clause-sound
 returns-in_err-value-clause-sound g c tells readable =
     sound_exit c.from_residual-in_err-value.result c.in_err-value.field-0.0 c.from_residual-in_err-value.ensures.1
     (c.in_err-value.ensures.sound tells (subst AreReadable (sym (ap (λ (s : State). s.records) c.in_ok-rec.ensures.state)) readable))
-
-pub returns-in_err-value-clause-same : goal.returns-in_err-value-clause-same
-returns-in_err-value-clause-same g c = c.in_err-value.ensures.same ∙ ap (λ (s : State). s.records) c.in_ok-rec.ensures.state
-
-pub returns-in_err-value-clause-written : goal.returns-in_err-value-clause-written
-returns-in_err-value-clause-written g c = c.in_err-value.ensures.written ∙ ap (λ (s : State). s.written) c.in_ok-rec.ensures.state

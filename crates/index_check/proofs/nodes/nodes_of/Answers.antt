@@ -15,6 +15,7 @@ use Rattle.index_check.proofs.PlaceLaws.{in_place}
 use Rattle.index_check.proofs.SoundExits.{sound_exit}
 use Rattle.rec_bytes.proofs.Causes.{never_ok}
 use Rattle.prop_store.proofs.Exits.{same_has}
+use Rattle.record_lists.proofs.OnlyReads.{is_read-none, is_read-on}
 use Rattle.index_check.proofs.nodes.nodes_of.Goals as goal
 
 -- what holds of the first ones, and of the next
@@ -32,13 +33,10 @@ one_low n mark lt (suc k) d low = absurd (omega arith)
 pub loop-id-init : goal.loop-id-init
 loop-id-init g c =
     record {
-      same = refl;
-      written = refl;
       nodes = λ tells. search rules;
       wanted = λ tells x i. elim i [ ];
       low = λ k d lt. let none : length c.new-nodes.result.items ≡ 0 = ap length c.new-nodes.ensures.items in absurd (omega arith);
-      onward = g.met.R.Reads.stays_onward c.args.space.now;
-      faults = omega arith;
+      read = is_read-none g.R.Reads g.met.R.Reads.stays_onward c.args.space.now;
     }
 
 pub loop-id-preserved : goal.loop-id-preserved
@@ -52,11 +50,9 @@ loop-id-preserved g c =
     let node = c.in-Some.node in
     let items : c.push.new.self.items ≡ c.loop-id.nodes.items ++ node ∷ [] = search rules in
     let wanted : g.R.Reads.tells → IsNodeOf records d x node
-    = λ tells. subst (λ (r : Records). IsNodeOf r d x node) inv.same (let w : IsNodeOf (g.R.Reads.state c.loop-id.space).records d x node = search (rules, c.in_ok-node.ensures.wanted tells) in w) in
+    = λ tells. subst (λ (r : Records). IsNodeOf r d x node) inv.read.records (let w : IsNodeOf (g.R.Reads.state c.loop-id.space).records d x node = search (rules, c.in_ok-node.ensures.wanted tells) in w) in
     let below : node < high (g.R.Reads.state c.loop-id.space).records format.nodes_file = search (rules, c.in_ok-node.ensures.low) in
     record {
-      same = c.in_ok-node.ensures.same ∙ inv.same;
-      written = c.in_ok-node.ensures.written ∙ inv.written;
       nodes = λ tells.
           items
           ∙ ap (λ xs. xs ++ node ∷ []) (inv.nodes tells)
@@ -65,9 +61,8 @@ loop-id-preserved g c =
       wanted = λ tells. one_more_in (λ y. wanted_in records (said_by records d y) ≡ true) entries i c.loop-id-test.true (inv.wanted tells)
           (wanted tells).wanted;
       low = subst (All (λ n. n < high records format.nodes_file)) (sym items)
-          (All-append (λ n. n < high records format.nodes_file) c.loop-id.nodes.items (node ∷ []) inv.low (one_low node (high records format.nodes_file) (subst (λ (r : Records). node < high r format.nodes_file) inv.same below)));
-      onward = g.met.R.Reads.further_onward c.args.space.now c.loop-id.space c.node_of.new.space inv.onward c.in_ok-node.ensures.onward;
-      faults = let cause = c.in_ok-node.ensures.cause in omega (arith, inv.faults, cause.later);
+          (All-append (λ n. n < high records format.nodes_file) c.loop-id.nodes.items (node ∷ []) inv.low (one_low node (high records format.nodes_file) (subst (λ (r : Records). node < high r format.nodes_file) inv.read.records below)));
+      read = is_read-on g.R.Reads g.met.R.Reads.further_onward c.args.space.now c.loop-id.space c.node_of.new.space inv.read c.in_ok-node.ensures.read;
     }
 
 pub returns-in-None-clause-told : goal.returns-in-None-clause-told
@@ -79,7 +74,7 @@ returns-in-None-clause-told g c = λ tells.
     let d = c.args.definition.now in
     let no : wanted_in (g.R.Reads.state c.loop-id.space).records (said_by (g.R.Reads.state c.loop-id.space).records d x) ≡ false =
     search (rules, c.in_ok-node.ensures.unwanted tells) in
-    (in_place entries i c.loop-id-test.true, subst (λ (r : Records). wanted_in r (said_by r d x) ≡ false) c.loop-id.invariant.same no)
+    (in_place entries i c.loop-id-test.true, subst (λ (r : Records). wanted_in r (said_by r d x) ≡ false) c.loop-id.invariant.read.records no)
 
 pub returns-clause-told : goal.returns-clause-told
 returns-clause-told g c = λ tells.
@@ -89,38 +84,31 @@ returns-clause-told g c = λ tells.
     let all : take i entries ≡ entries = take_all i entries (omega arith) in
     (c.loop-id.invariant.nodes tells ∙ ap (map (entry_node records)) all, (λ (x : ℕ) (m : In x entries). c.loop-id.invariant.wanted tells x (subst (In x) (sym all) m)))
 
-pub returns-in_err-node-clause-same : goal.returns-in_err-node-clause-same
-returns-in_err-node-clause-same g c = c.in_err-node.ensures.same ∙ c.loop-id.invariant.same
-
-pub returns-in_err-node-clause-written : goal.returns-in_err-node-clause-written
-returns-in_err-node-clause-written g c = c.in_err-node.ensures.written ∙ c.loop-id.invariant.written
-
-pub returns-in_err-node-clause-onward : goal.returns-in_err-node-clause-onward
-returns-in_err-node-clause-onward g c =
-    g.met.R.Reads.further_onward c.args.space.now c.loop-id.space c.node_of.new.space
-    c.loop-id.invariant.onward c.in_err-node.ensures.onward
+pub returns-in_err-node-clause-read : goal.returns-in_err-node-clause-read
+returns-in_err-node-clause-read g c =
+    is_read-on g.R.Reads g.met.R.Reads.further_onward c.args.space.now c.loop-id.space c.node_of.new.space c.loop-id.invariant.read c.in_err-node.ensures.read
 
 pub returns-in_err-node-clause-cause : goal.returns-in_err-node-clause-cause
 returns-in_err-node-clause-cause g c =
-    cause_passed _ _ _ c.from_residual.result c.in_err-node.field-0.0 c.loop-id.invariant.faults c.in_err-node.ensures.cause c.from_residual.ensures.1
+    cause_passed _ _ _ c.from_residual.result c.in_err-node.field-0.0 c.loop-id.invariant.read.later c.in_err-node.ensures.cause c.from_residual.ensures.1
 
 pub returns-in_err-node-clause-sound : goal.returns-in_err-node-clause-sound
 returns-in_err-node-clause-sound g c = λ tells readable.
     sound_exit c.from_residual.result c.in_err-node.field-0.0 c.from_residual.ensures.1
-    (c.in_err-node.ensures.sound tells (subst AreReadable (sym c.loop-id.invariant.same) readable))
+    (c.in_err-node.ensures.sound tells (subst AreReadable (sym c.loop-id.invariant.read.records) readable))
 
-pub returns-in_err-push-in-Some-clause-onward : goal.returns-in_err-push-in-Some-clause-onward
-returns-in_err-push-in-Some-clause-onward g c =
-    g.met.R.Reads.further_onward c.args.space.now c.loop-id.space c.node_of.new.space c.loop-id.invariant.onward c.in_ok-node.ensures.onward
+pub returns-in_err-push-in-Some-clause-read : goal.returns-in_err-push-in-Some-clause-read
+returns-in_err-push-in-Some-clause-read g c =
+    is_read-on g.R.Reads g.met.R.Reads.further_onward c.args.space.now c.loop-id.space c.node_of.new.space c.loop-id.invariant.read c.in_ok-node.ensures.read
 
 pub returns-in_err-push-in-Some-clause-cause : goal.returns-in_err-push-in-Some-clause-cause
 returns-in_err-push-in-Some-clause-cause g c =
-    memory_cause _ _ c.from_residual-in_err-push-in-Some.result (later_on c.loop-id.invariant.faults c.in_ok-node.ensures.cause.later)
+    memory_cause _ _ c.from_residual-in_err-push-in-Some.result (later_on c.loop-id.invariant.read.later c.in_ok-node.ensures.cause.later)
     c.from_residual-in_err-push-in-Some.ensures.1
 
-pub returns-in-None-clause-onward : goal.returns-in-None-clause-onward
-returns-in-None-clause-onward g c =
-    g.met.R.Reads.further_onward c.args.space.now c.loop-id.space c.node_of.new.space c.loop-id.invariant.onward c.in_ok-node.ensures.onward
+pub returns-in-None-clause-read : goal.returns-in-None-clause-read
+returns-in-None-clause-read g c =
+    is_read-on g.R.Reads g.met.R.Reads.further_onward c.args.space.now c.loop-id.space c.node_of.new.space c.loop-id.invariant.read c.in_ok-node.ensures.read
 
 pub returns-in_err-node-clause-told : goal.returns-in_err-node-clause-told
 returns-in_err-node-clause-told g c _ = never_ok c.from_residual.result _ _ c.from_residual.ensures.1
@@ -136,9 +124,3 @@ returns-in_err-push-in-Some-clause-low g c = never_ok c.from_residual-in_err-pus
 
 pub returns-in_err-push-in-Some-clause-sound : goal.returns-in_err-push-in-Some-clause-sound
 returns-in_err-push-in-Some-clause-sound g c _ _ = same_has _ c.from_residual-in_err-push-in-Some.result _ c.from_residual-in_err-push-in-Some.ensures.1 tt
-
-pub returns-in_err-push-in-Some-clause-same : goal.returns-in_err-push-in-Some-clause-same
-returns-in_err-push-in-Some-clause-same g c = c.in_ok-node.ensures.same ∙ c.loop-id.invariant.same
-
-pub returns-in_err-push-in-Some-clause-written : goal.returns-in_err-push-in-Some-clause-written
-returns-in_err-push-in-Some-clause-written g c = c.in_ok-node.ensures.written ∙ c.loop-id.invariant.written

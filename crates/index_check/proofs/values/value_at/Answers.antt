@@ -9,7 +9,6 @@ use Rattle.prop_store.specs.Finding.{value_of}
 use Rattle.prop_store.specs.Owner.{HasProperties}
 use Rattle.prop_store.specs.Reading.{properties_met}
 use Rattle.prop_store.proofs.Causes.{cause_passed, space_cause_passed}
-use Rattle.prop_store.proofs.ReadCounts.{reads_records, reads_same}
 use Rattle.record_lists.proofs.RecordLaws.{kind_read}
 use Rattle.store_rules.specs.Views.{high, rec_at}
 use Rattle.store_rules.proofs.ViewLaws.{kind_high}
@@ -17,6 +16,7 @@ use Rattle.index_check.proofs.SoundExits.{sound_exit}
 use Rattle.index_check.proofs.ValueLaws.{value_free, value_met, value_other}
 use Rattle.rec_bytes.proofs.Causes.{never_ok}
 use Rattle.prop_store.proofs.Exits.{space_exit}
+use Rattle.record_lists.proofs.OnlyReads.{is_read-on, is_read-get, is_read-gets}
 use Rattle.index_check.proofs.values.value_at.Goals as goal
 
 pub returns-then-node-meta-clause-is : goal.returns-then-node-meta-clause-is
@@ -56,19 +56,15 @@ returns-clause-is g c = λ tells.
     ∙ sym (value_met records c.args.label c.args.key c.args.node (λ z. c.if-byte-eq-FREE.false (c.byte.ensures ∙ sym kind ∙ z))
     (sym (c.number.ensures ∙ ap (λ (r : Rec). field 4 r format.node_label) got) ∙ same))
 
-pub returns-clause-same : goal.returns-clause-same
-returns-clause-same g c = reads_records 54 _ _ c.in_ok-value.ensures.at_most ∙ ap (λ (s : State). s.records) c.in_ok-rec.ensures.state
+pub returns-clause-read : goal.returns-clause-read
+returns-clause-read g c =
+    is_read-on g.R.Reads g.met.R.Reads.further_onward _ _ _ (is_read-get g.R.Reads _ _ c.in_ok-rec.ensures.state c.in_ok-rec.ensures.onward c.in_ok-rec.ensures.cause.later)
+    (is_read-gets g.R.Reads c.in_ok-value.ensures.at_most.count _ _ c.in_ok-value.ensures.at_most.is c.in_ok-value.ensures.onward c.in_ok-value.ensures.cause.later)
 
-pub returns-clause-written : goal.returns-clause-written
-returns-clause-written g c = ap (λ (s : State). s.written) (reads_same 54 _ _ c.in_ok-value.ensures.at_most)
-    ∙ ap (λ (s : State). s.written) c.in_ok-rec.ensures.state
-
-pub returns-in_err-value-clause-same : goal.returns-in_err-value-clause-same
-returns-in_err-value-clause-same g c = reads_records 54 _ _ c.in_err-value.ensures.at_most ∙ ap (λ (s : State). s.records) c.in_ok-rec.ensures.state
-
-pub returns-in_err-value-clause-written : goal.returns-in_err-value-clause-written
-returns-in_err-value-clause-written g c = ap (λ (s : State). s.written) (reads_same 54 _ _ c.in_err-value.ensures.at_most)
-    ∙ ap (λ (s : State). s.written) c.in_ok-rec.ensures.state
+pub returns-in_err-value-clause-read : goal.returns-in_err-value-clause-read
+returns-in_err-value-clause-read g c =
+    is_read-on g.R.Reads g.met.R.Reads.further_onward _ _ _ (is_read-get g.R.Reads _ _ c.in_ok-rec.ensures.state c.in_ok-rec.ensures.onward c.in_ok-rec.ensures.cause.later)
+    (is_read-gets g.R.Reads c.in_err-value.ensures.at_most.count _ _ c.in_err-value.ensures.at_most.is c.in_err-value.ensures.onward c.in_err-value.ensures.cause.later)
 
 pub returns-in_err-value-clause-sound : goal.returns-in_err-value-clause-sound
 returns-in_err-value-clause-sound g c = λ tells readable.
@@ -89,21 +85,15 @@ pub returns-in_err-rec-clause-cause : goal.returns-in_err-rec-clause-cause
 returns-in_err-rec-clause-cause g c =
     space_cause_passed _ _ _ c.from_residual.result c.in_err-rec.field-0.0 (omega arith) c.in_err-rec.ensures.cause c.from_residual.ensures.1
 
-pub returns-in_err-value-clause-onward : goal.returns-in_err-value-clause-onward
-returns-in_err-value-clause-onward g c =
-    g.met.R.Reads.further_onward _ _ _ c.in_ok-rec.ensures.onward c.in_err-value.ensures.onward
-
-pub returns-clause-onward : goal.returns-clause-onward
-returns-clause-onward g c = g.met.R.Reads.further_onward _ _ _ c.in_ok-rec.ensures.onward c.in_ok-value.ensures.onward
-
 pub returns-in_err-rec-clause-is : goal.returns-in_err-rec-clause-is
 returns-in_err-rec-clause-is g c _ = never_ok c.from_residual.result _ _ c.from_residual.ensures.1
 
 pub returns-in_err-rec-clause-low : goal.returns-in_err-rec-clause-low
 returns-in_err-rec-clause-low g c = never_ok c.from_residual.result _ _ c.from_residual.ensures.1
 
-pub returns-in_err-rec-clause-onward : goal.returns-in_err-rec-clause-onward
-returns-in_err-rec-clause-onward g c = search rules
+pub returns-in_err-rec-clause-read : goal.returns-in_err-rec-clause-read
+returns-in_err-rec-clause-read g c =
+    is_read-get g.R.Reads _ _ c.in_err-rec.ensures.state c.in_err-rec.ensures.onward c.in_err-rec.ensures.cause.later
 
 pub returns-in_err-value-clause-is : goal.returns-in_err-value-clause-is
 returns-in_err-value-clause-is g c _ = never_ok c.from_residual-in_err-value.result _ _ c.from_residual-in_err-value.ensures.1
@@ -113,9 +103,3 @@ returns-in_err-value-clause-low g c = never_ok c.from_residual-in_err-value.resu
 
 pub returns-in_err-rec-clause-sound : goal.returns-in_err-rec-clause-sound
 returns-in_err-rec-clause-sound g c _ _ = space_exit c.from_residual.result c.in_err-rec.field-0.0 c.from_residual.ensures.1
-
-pub returns-in_err-rec-clause-same : goal.returns-in_err-rec-clause-same
-returns-in_err-rec-clause-same g c = ap (λ (s : State). s.records) c.in_err-rec.ensures.state
-
-pub returns-in_err-rec-clause-written : goal.returns-in_err-rec-clause-written
-returns-in_err-rec-clause-written g c = ap (λ (s : State). s.written) c.in_err-rec.ensures.state

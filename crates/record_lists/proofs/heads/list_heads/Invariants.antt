@@ -1,7 +1,8 @@
-use Rattle.std.proofs.Common.{◌≡◌, ◌≤◌, ◌<◌, ◌⊎◌, ℕ, true, false, length}
+use Rattle.std.proofs.Common.{◌≡◌, ◌<◌, ◌⊎◌, ℕ, true, false, length}
 use Rattle.std.specs.Bool.{Decides}
 use Rattle.record_lists.specs.Marks.{marked}
 use Rattle.record_lists.specs.Heads.{AmongHeads, AtHead, HeadKeeps, IsOnce}
+use Rattle.rec_bytes.specs.Frame.{IsRead}
 use Rattle.record_lists.proofs.heads.list_heads.Given as goal
 
 abbrev pub invariant-loop-id : goal.invariant-loop-id
@@ -10,13 +11,10 @@ invariant-loop-id g l =
     let has = g.H.Heads.has l.heads records in
     let lists = g.H.Heads.lists l.heads records in
     record {
-      same : (g.R.Reads.state l.space).records ≡ records;
-      written : (g.R.Reads.state l.space).written ≡ (g.R.Reads.state l.fn.space).written;
+      read : IsRead g.R.Reads l.fn.space l.space;
       keeps : g.R.Reads.tells → (k : ℕ) → k < l.id → HeadKeeps has lists k;
       marks : g.R.Reads.tells → (p : ℕ) → Decides (marked l.marks p) ((marked l.fn.marks p ≡ true) ⊎ AmongHeads has lists l.id p);
       once : g.R.Reads.tells → (p : ℕ) → IsOnce has lists l.id p;
       fresh : g.R.Reads.tells → (k : ℕ) → k < l.id → (p : ℕ) → AtHead has lists k p → marked l.fn.marks p ≡ false;
       len : length l.marks ≡ length l.fn.marks;
-      onward : g.R.Reads.onward l.fn.space l.space;
-      faults : g.R.Reads.faults l.fn.space ≤ g.R.Reads.faults l.space;
     }

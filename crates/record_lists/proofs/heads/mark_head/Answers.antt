@@ -29,27 +29,38 @@ returns-in_default-clause-told g c tells =
 pub returns-in_err-list-clause-told : goal.returns-in_err-list-clause-told
 returns-in_err-list-clause-told g c _ = never_ok c.from_residual.result _ _ c.from_residual.ensures.1
 
-pub returns-in_err-list-clause-onward : goal.returns-in_err-list-clause-onward
-returns-in_err-list-clause-onward g c = search rules
+pub returns-in_err-list-clause-read : goal.returns-in_err-list-clause-read
+returns-in_err-list-clause-read g c =
+    c.in_err-list.ensures.read
 
 pub returns-in-Some-clause-cause : goal.returns-in-Some-clause-cause
-returns-in-Some-clause-cause g c = ok_cause _ _ _ _ (omega arith)
+returns-in-Some-clause-cause g c = ok_cause _ _ _ _ c.in_ok-list.ensures.read.later
 
 pub returns-in-Nothing-clause-cause : goal.returns-in-Nothing-clause-cause
-returns-in-Nothing-clause-cause g c = ok_cause _ _ _ _ (omega arith)
+returns-in-Nothing-clause-cause g c = ok_cause _ _ _ _ c.in_ok-list.ensures.read.later
 
 pub returns-in-Missing-clause-cause : goal.returns-in-Missing-clause-cause
-returns-in-Missing-clause-cause g c = ok_cause _ _ _ _ (omega arith)
+returns-in-Missing-clause-cause g c = ok_cause _ _ _ _ c.in_ok-list.ensures.read.later
 
 pub returns-in_default-clause-cause : goal.returns-in_default-clause-cause
-returns-in_default-clause-cause g c = ok_cause _ _ _ _ (omega arith)
-
-pub returns-in_err-list-clause-same : goal.returns-in_err-list-clause-same
-returns-in_err-list-clause-same g c = search rules
-
-pub returns-in_err-list-clause-written : goal.returns-in_err-list-clause-written
-returns-in_err-list-clause-written g c = search rules
+returns-in_default-clause-cause g c = ok_cause _ _ _ _ c.in_ok-list.ensures.read.later
 
 pub returns-in_err-list-clause-cause : goal.returns-in_err-list-clause-cause
 returns-in_err-list-clause-cause g c =
     cause_passed _ _ _ c.from_residual.result c.in_err-list.field-0.0 (omega arith) c.in_err-list.ensures.cause c.from_residual.ensures.1
+
+pub returns-in-Some-clause-read : goal.returns-in-Some-clause-read
+returns-in-Some-clause-read g c =
+    c.in_ok-list.ensures.read
+
+pub returns-in-Nothing-clause-read : goal.returns-in-Nothing-clause-read
+returns-in-Nothing-clause-read g c =
+    c.in_ok-list.ensures.read
+
+pub returns-in-Missing-clause-read : goal.returns-in-Missing-clause-read
+returns-in-Missing-clause-read g c =
+    c.in_ok-list.ensures.read
+
+pub returns-in_default-clause-read : goal.returns-in_default-clause-read
+returns-in_default-clause-read g c =
+    c.in_ok-list.ensures.read

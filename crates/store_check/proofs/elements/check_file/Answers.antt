@@ -10,7 +10,8 @@ use Rattle.record_lists.specs.Heads.{AmongHeads, AtHead, BrokeIs, HeadKeeps, IsO
 use Rattle.record_lists.specs.Marks.{marked}
 use Rattle.store_check.proofs.ElementLaws.{are_listed, element_head, had_twice}
 use Rattle.record_lists.proofs.Causes.{cause_passed}
-use Rattle.rec_bytes.proofs.Causes.{never_ok}
+use Rattle.rec_bytes.proofs.Causes.{never_ok, ok_cause}
+use Rattle.record_lists.proofs.OnlyReads.{is_read-on}
 use Rattle.store_check.proofs.elements.check_file.Goals as goal
 
 pub returns-in-Some-Head-clause-found : goal.returns-in-Some-Head-clause-found
@@ -46,7 +47,8 @@ returns-in-None-2-clause-none g c = λ tells.
     let fresh : (k : ℕ) → k < n → (p : ℕ) → AtHead (IsInUse heads records) (AreItsProperties heads records) k p
     → marked old p ≡ false = search (rules, c.in_ok-id.ensures.fresh tells) in
     let names : IfNone c.in_ok-id-2.field-0 ((x : ℕ) → x < n → HasName named records x)
-    = subst (λ (r : Records). IfNone c.in_ok-id-2.field-0 ((x : ℕ) → x < n → HasName named r x)) c.in_ok-id.ensures.same (c.in_ok-id-2.ensures.none tells) in
+    = subst (λ (r : Records). IfNone c.in_ok-id-2.field-0 ((x : ℕ) → x < n → HasName named r x)) c.in_ok-id.ensures.read.records
+    (c.in_ok-id-2.ensures.none tells) in
     let each : (x : ℕ) → x < n → HasName named records x = search (rules, names) in
     are_listed records heads c.requires.file n old new mark keeps told once fresh each
 
@@ -59,17 +61,17 @@ returns-in_err-id-2-clause-cause g c =
     cause_passed _ _ _ c.from_residual-in_err-id-2.result c.in_err-id-2.field-0.0 c.in_ok-id.ensures.cause.later c.in_err-id-2.ensures.cause
     c.from_residual-in_err-id-2.ensures.1
 
-pub returns-in_err-id-2-clause-onward : goal.returns-in_err-id-2-clause-onward
-returns-in_err-id-2-clause-onward g c =
-    g.met.R.Reads.further_onward _ _ _ c.in_ok-id.ensures.onward c.in_err-id-2.ensures.onward
+pub returns-in_err-id-2-clause-read : goal.returns-in_err-id-2-clause-read
+returns-in_err-id-2-clause-read g c =
+    is_read-on g.R.Reads g.met.R.Reads.further_onward _ _ _ c.in_ok-id.ensures.read c.in_err-id-2.ensures.read
 
-pub returns-in-Some-clause-onward : goal.returns-in-Some-clause-onward
-returns-in-Some-clause-onward g c =
-    g.met.R.Reads.further_onward _ _ _ c.in_ok-id.ensures.onward c.in_ok-id-2.ensures.onward
+pub returns-in-Some-clause-read : goal.returns-in-Some-clause-read
+returns-in-Some-clause-read g c =
+    is_read-on g.R.Reads g.met.R.Reads.further_onward _ _ _ c.in_ok-id.ensures.read c.in_ok-id-2.ensures.read
 
-pub returns-in-None-2-clause-onward : goal.returns-in-None-2-clause-onward
-returns-in-None-2-clause-onward g c =
-    g.met.R.Reads.further_onward _ _ _ c.in_ok-id.ensures.onward c.in_ok-id-2.ensures.onward
+pub returns-in-None-2-clause-read : goal.returns-in-None-2-clause-read
+returns-in-None-2-clause-read g c =
+    is_read-on g.R.Reads g.met.R.Reads.further_onward _ _ _ c.in_ok-id.ensures.read c.in_ok-id-2.ensures.read
 
 pub returns-in_err-id-clause-none : goal.returns-in_err-id-clause-none
 returns-in_err-id-clause-none g c _ = never_ok c.from_residual.result _ _ c.from_residual.ensures.1
@@ -77,8 +79,9 @@ returns-in_err-id-clause-none g c _ = never_ok c.from_residual.result _ _ c.from
 pub returns-in_err-id-clause-found : goal.returns-in_err-id-clause-found
 returns-in_err-id-clause-found g c _ = never_ok c.from_residual.result _ _ c.from_residual.ensures.1
 
-pub returns-in_err-id-clause-onward : goal.returns-in_err-id-clause-onward
-returns-in_err-id-clause-onward g c = search rules
+pub returns-in_err-id-clause-read : goal.returns-in_err-id-clause-read
+returns-in_err-id-clause-read g c =
+    c.in_err-id.ensures.read
 
 pub returns-in_err-id-2-clause-none : goal.returns-in_err-id-2-clause-none
 returns-in_err-id-2-clause-none g c _ = never_ok c.from_residual-in_err-id-2.result _ _ c.from_residual-in_err-id-2.ensures.1
@@ -86,14 +89,20 @@ returns-in_err-id-2-clause-none g c _ = never_ok c.from_residual-in_err-id-2.res
 pub returns-in_err-id-2-clause-found : goal.returns-in_err-id-2-clause-found
 returns-in_err-id-2-clause-found g c _ = never_ok c.from_residual-in_err-id-2.result _ _ c.from_residual-in_err-id-2.ensures.1
 
-pub returns-in_err-id-clause-same : goal.returns-in_err-id-clause-same
-returns-in_err-id-clause-same g c = search rules
+pub returns-in-Some-Head-clause-read : goal.returns-in-Some-Head-clause-read
+returns-in-Some-Head-clause-read g c = c.in_ok-id.ensures.read
 
-pub returns-in_err-id-clause-written : goal.returns-in_err-id-clause-written
-returns-in_err-id-clause-written g c = search rules
+pub returns-in-Some-Head-clause-cause : goal.returns-in-Some-Head-clause-cause
+returns-in-Some-Head-clause-cause g c = ok_cause _ _ _ _ (returns-in-Some-Head-clause-read g c).later
 
-pub returns-in_err-id-2-clause-same : goal.returns-in_err-id-2-clause-same
-returns-in_err-id-2-clause-same g c = search rules
+pub returns-in-Some-Item-clause-read : goal.returns-in-Some-Item-clause-read
+returns-in-Some-Item-clause-read g c = c.in_ok-id.ensures.read
 
-pub returns-in_err-id-2-clause-written : goal.returns-in_err-id-2-clause-written
-returns-in_err-id-2-clause-written g c = search rules
+pub returns-in-Some-Item-clause-cause : goal.returns-in-Some-Item-clause-cause
+returns-in-Some-Item-clause-cause g c = ok_cause _ _ _ _ (returns-in-Some-Item-clause-read g c).later
+
+pub returns-in-None-2-clause-cause : goal.returns-in-None-2-clause-cause
+returns-in-None-2-clause-cause g c = ok_cause _ _ _ _ (returns-in-None-2-clause-read g c).later
+
+pub returns-in-Some-clause-cause : goal.returns-in-Some-clause-cause
+returns-in-Some-clause-cause g c = ok_cause _ _ _ _ (returns-in-Some-clause-read g c).later

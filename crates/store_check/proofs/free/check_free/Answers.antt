@@ -12,7 +12,9 @@ use Rattle.store_check.specs.declared.free.Counted.TheVariants.{Live, OffList}
 use Rattle.store_check.proofs.FreeLaws.{IsIt, counted_at, is_off, is_split, no_list, wrong_count}
 use Rattle.record_lists.proofs.DecidingLaws.{breaks_by}
 use Rattle.record_lists.proofs.Causes.{cause_passed}
-use Rattle.rec_bytes.proofs.Causes.{never_ok}
+use Rattle.chain_check.proofs.Causes.{no_memory}
+use Rattle.rec_bytes.proofs.Causes.{never_ok, ok_cause}
+use Rattle.record_lists.proofs.OnlyReads.{is_read-on}
 use Rattle.store_check.proofs.free.check_free.Goals as goal
 
 pub returns-in_default-clause-broken : goal.returns-in_default-clause-broken
@@ -31,7 +33,7 @@ returns-in-Live-clause-sound g c = λ tells.
     let it : IsIt s.records c.args.file c.in-Some.ids.items = subst (λ (n : Meta). IsLineIn (free_line c.args.file) s.records n.high n.free c.in-Some.ids.items)
     c.meta-meta.ensures found in
     let counted : IsCounted s.records c.args.file c.in-Ok.marks.items (Live c.in-Live.live) =
-    counted_at _ s.records c.args.file _ c.in-Ok.marks.items (Live c.in-Live.live) _ c.in_ok-ids.ensures.same c.deref-2.ensures.value c.in-Live.is
+    counted_at _ s.records c.args.file _ c.in-Ok.marks.items (Live c.in-Live.live) _ c.in_ok-ids.ensures.read.records c.deref-2.ensures.value c.in-Live.is
     (c.in_ok-live.ensures.counted tells) in
     let marks : (p : ℕ) → marked c.in-Ok.marks.items p ≡ is_among c.in-Some.ids.items p = search rules in
     let exact : (meta_in s.records c.args.file).live ≡ length (ids (is_live s.records c.args.file) (high s.records c.args.file)) =
@@ -42,7 +44,7 @@ pub returns-in-Live-2-clause-broken : goal.returns-in-Live-2-clause-broken
 returns-in-Live-2-clause-broken g c = λ tells.
     let s = g.R.Reads.state c.args.space.now in
     let counted : IsCounted s.records c.args.file c.in-Ok.marks.items (Live c.in-Live.live) =
-    counted_at _ s.records c.args.file _ c.in-Ok.marks.items (Live c.in-Live.live) _ c.in_ok-ids.ensures.same c.deref-2.ensures.value c.in-Live.is
+    counted_at _ s.records c.args.file _ c.in-Ok.marks.items (Live c.in-Live.live) _ c.in_ok-ids.ensures.read.records c.deref-2.ensures.value c.in-Live.is
     (c.in_ok-live.ensures.counted tells) in
     let other : c.in-Live.live ≢ (meta_in s.records c.args.file).live = λ e. c.if-live-meta.false (e ∙ ap (λ (n : Meta). n.live) (sym c.meta-meta.ensures)) in
     breaks_by s.records s.shape 2 _ (damage 0 c.args.file 2) refl refl (FreeList c.args.file c.requires.file (wrong_count s.records c.args.file c.requires.mark c.in-Live.live counted.0 other))
@@ -55,7 +57,8 @@ returns-clause-broken g c = λ tells.
     let it : IsIt s.records c.args.file c.in-Some.ids.items = subst (λ (n : Meta). IsLineIn (free_line c.args.file) s.records n.high n.free c.in-Some.ids.items)
     c.meta-meta.ensures found in
     let counted : IsCounted s.records c.args.file c.in-Ok.marks.items (OffList c.in-OffList.id) =
-    counted_at _ s.records c.args.file _ c.in-Ok.marks.items (OffList c.in-OffList.id) _ c.in_ok-ids.ensures.same c.deref-2.ensures.value c.in-OffList.is
+    counted_at _ s.records c.args.file _ c.in-Ok.marks.items (OffList c.in-OffList.id) _ c.in_ok-ids.ensures.read.records c.deref-2.ensures.value
+    c.in-OffList.is
     (c.in_ok-live.ensures.counted tells) in
     let marks : (p : ℕ) → marked c.in-Ok.marks.items p ≡ is_among c.in-Some.ids.items p = search rules in
     breaks_by s.records s.shape 2 _ (damage c.args.file c.in-OffList.id 2) refl refl
@@ -70,17 +73,17 @@ returns-in_err-live-clause-cause g c =
     cause_passed _ _ _ c.from_residual-in_err-live.result c.in_err-live.field-0.0 c.in_ok-ids.ensures.cause.later c.in_err-live.ensures.cause
     c.from_residual-in_err-live.ensures.1
 
-pub returns-in_err-live-clause-onward : goal.returns-in_err-live-clause-onward
-returns-in_err-live-clause-onward g c =
-    g.met.R.Reads.further_onward _ _ _ c.in_ok-ids.ensures.onward c.in_err-live.ensures.onward
+pub returns-in_err-live-clause-read : goal.returns-in_err-live-clause-read
+returns-in_err-live-clause-read g c =
+    is_read-on g.R.Reads g.met.R.Reads.further_onward _ _ _ c.in_ok-ids.ensures.read c.in_err-live.ensures.read
 
-pub returns-in-Live-clause-onward : goal.returns-in-Live-clause-onward
-returns-in-Live-clause-onward g c =
-    g.met.R.Reads.further_onward _ _ _ c.in_ok-ids.ensures.onward c.in_ok-live.ensures.onward
+pub returns-in-Live-clause-read : goal.returns-in-Live-clause-read
+returns-in-Live-clause-read g c =
+    is_read-on g.R.Reads g.met.R.Reads.further_onward _ _ _ c.in_ok-ids.ensures.read c.in_ok-live.ensures.read
 
-pub returns-in-Live-2-clause-onward : goal.returns-in-Live-2-clause-onward
-returns-in-Live-2-clause-onward g c =
-    g.met.R.Reads.further_onward _ _ _ c.in_ok-ids.ensures.onward c.in_ok-live.ensures.onward
+pub returns-in-Live-2-clause-read : goal.returns-in-Live-2-clause-read
+returns-in-Live-2-clause-read g c =
+    is_read-on g.R.Reads g.met.R.Reads.further_onward _ _ _ c.in_ok-ids.ensures.read c.in_ok-live.ensures.read
 
 pub returns-in_err-ids-clause-sound : goal.returns-in_err-ids-clause-sound
 returns-in_err-ids-clause-sound g c _ = never_ok c.from_residual.result _ _ c.from_residual.ensures.1
@@ -88,8 +91,9 @@ returns-in_err-ids-clause-sound g c _ = never_ok c.from_residual.result _ _ c.fr
 pub returns-in_err-ids-clause-broken : goal.returns-in_err-ids-clause-broken
 returns-in_err-ids-clause-broken g c _ = never_ok c.from_residual.result _ _ c.from_residual.ensures.1
 
-pub returns-in_err-ids-clause-onward : goal.returns-in_err-ids-clause-onward
-returns-in_err-ids-clause-onward g c = search rules
+pub returns-in_err-ids-clause-read : goal.returns-in_err-ids-clause-read
+returns-in_err-ids-clause-read g c =
+    c.in_err-ids.ensures.read
 
 pub returns-in_err-live-clause-sound : goal.returns-in_err-live-clause-sound
 returns-in_err-live-clause-sound g c _ = never_ok c.from_residual-in_err-live.result _ _ c.from_residual-in_err-live.ensures.1
@@ -97,14 +101,26 @@ returns-in_err-live-clause-sound g c _ = never_ok c.from_residual-in_err-live.re
 pub returns-in_err-live-clause-broken : goal.returns-in_err-live-clause-broken
 returns-in_err-live-clause-broken g c _ = never_ok c.from_residual-in_err-live.result _ _ c.from_residual-in_err-live.ensures.1
 
-pub returns-in_err-ids-clause-same : goal.returns-in_err-ids-clause-same
-returns-in_err-ids-clause-same g c = search rules
+pub returns-in_default-clause-read : goal.returns-in_default-clause-read
+returns-in_default-clause-read g c = c.follow.ensures.read
 
-pub returns-in_err-ids-clause-written : goal.returns-in_err-ids-clause-written
-returns-in_err-ids-clause-written g c = search rules
+pub returns-in_default-clause-cause : goal.returns-in_default-clause-cause
+returns-in_default-clause-cause g c = ok_cause _ _ _ _ (returns-in_default-clause-read g c).later
 
-pub returns-in_err-live-clause-same : goal.returns-in_err-live-clause-same
-returns-in_err-live-clause-same g c = search rules
+pub returns-in_default-marks_of-clause-read : goal.returns-in_default-marks_of-clause-read
+returns-in_default-marks_of-clause-read g c = c.follow.ensures.read
 
-pub returns-in_err-live-clause-written : goal.returns-in_err-live-clause-written
-returns-in_err-live-clause-written g c = search rules
+pub returns-in_default-marks_of-clause-cause : goal.returns-in_default-marks_of-clause-cause
+returns-in_default-marks_of-clause-cause g c = no_memory _ _ (returns-in_default-marks_of-clause-read g c).later
+
+pub returns-in-Live-clause-cause : goal.returns-in-Live-clause-cause
+returns-in-Live-clause-cause g c = ok_cause _ _ _ _ (returns-in-Live-clause-read g c).later
+
+pub returns-in-Live-2-clause-cause : goal.returns-in-Live-2-clause-cause
+returns-in-Live-2-clause-cause g c = ok_cause _ _ _ _ (returns-in-Live-2-clause-read g c).later
+
+pub returns-clause-read : goal.returns-clause-read
+returns-clause-read g c = is_read-on g.R.Reads g.met.R.Reads.further_onward _ _ _ c.follow.ensures.read c.count_live.ensures.read
+
+pub returns-clause-cause : goal.returns-clause-cause
+returns-clause-cause g c = ok_cause _ _ _ _ (returns-clause-read g c).later

@@ -10,6 +10,7 @@ use Rattle.store_check.proofs.free.count_live.Goals.{then-byte-ne-FREE, else-byt
 use Rattle.std.proofs.lemmas.Bool.{true≢false}
 use Rattle.rec_bytes.proofs.Causes.{never_ok, ok_cause}
 use Rattle.record_lists.proofs.Causes.{cause_passed}
+use Rattle.record_lists.proofs.OnlyReads.{is_read-get, is_read-on}
 use Rattle.store_check.proofs.free.count_live.Goals as goal
 
 pub returns-then-not-marks-id-clause-counted : goal.returns-then-not-marks-id-clause-counted
@@ -18,7 +19,7 @@ returns-then-not-marks-id-clause-counted g c = λ tells.
     let mark : c.meta-id-end.result.high ≡ high records c.args.file = ap (λ (m : Meta). m.high) c.meta-id-end.ensures in
     let lt : c.loop-id.id < high records c.args.file = omega (arith, c.loop-id-test.true) in
     let got : c.in_ok-rec.rec ≡ rec_at records c.args.file c.loop-id.id = c.in_ok-rec.ensures.got tells
-    ∙ ap (λ rs. rec_at rs c.args.file c.loop-id.id) c.loop-id.invariant.same in
+    ∙ ap (λ rs. rec_at rs c.args.file c.loop-id.id) c.loop-id.invariant.read.records in
     let free : field 1 c.in_ok-rec.rec 0 ≡ 0 = sym c.byte.ensures ∙ search rules in
     (lt, free_by records c.args.file c.loop-id.id c.in_ok-rec.rec lt got free, search rules)
 
@@ -29,10 +30,8 @@ loop-id-preserved g c =
     let id = c.loop-id.id in
     let mark : c.meta-id-end.result.high ≡ high records c.args.file = ap (λ (m : Meta). m.high) c.meta-id-end.ensures in
     let lt : id < high records c.args.file = omega (arith, c.loop-id-test.true) in
-    let got = λ (t : g.R.Reads.tells). c.in_ok-rec.ensures.got t ∙ ap (λ rs. rec_at rs c.args.file id) inv.same in
+    let got = λ (t : g.R.Reads.tells). c.in_ok-rec.ensures.got t ∙ ap (λ rs. rec_at rs c.args.file id) inv.read.records in
     record {
-      same = ap (λ s. s.records) c.in_ok-rec.ensures.state ∙ inv.same;
-      written = ap (λ s. s.written) c.in_ok-rec.ensures.state ∙ inv.written;
       low = elim c.if-byte-ne-FREE.branch [
         | then-byte-ne-FREE w ↦ let e = w.live-is in omega (arith, inv.low)
         | else-byte-ne-FREE+else-not-marks-id w ↦ let e = w.live-is in omega (arith, inv.low)
@@ -54,22 +53,33 @@ loop-id-preserved g c =
                 absurd (true≢false (sym (live_by records c.args.file id c.in_ok-rec.rec lt (got t) some) ∙ f))
             | else-byte-ne-FREE+else-not-marks-id w ↦ λ f. search rules
           ]);
-      onward = g.met.R.Reads.further_onward c.args.space.now c.loop-id.space c.get.new.self inv.onward c.in_ok-rec.ensures.onward;
-      faults = let cause = c.in_ok-rec.ensures.cause in omega (arith, inv.faults, cause.later);
+      read = is_read-on g.R.Reads g.met.R.Reads.further_onward c.args.space.now c.loop-id.space c.get.new.self inv.read (is_read-get g.R.Reads _ _
+          c.in_ok-rec.ensures.state c.in_ok-rec.ensures.onward c.in_ok-rec.ensures.cause.later);
     }
 
 pub returns-in_err-rec-clause-counted : goal.returns-in_err-rec-clause-counted
 returns-in_err-rec-clause-counted g c _ = never_ok c.from_residual.result _ _ c.from_residual.ensures.1
 
 pub returns-clause-cause : goal.returns-clause-cause
-returns-clause-cause g c = ok_cause _ _ _ _ (omega arith)
+returns-clause-cause g c = ok_cause _ _ _ _ c.loop-id.invariant.read.later
 
-pub returns-in_err-rec-clause-same : goal.returns-in_err-rec-clause-same
-returns-in_err-rec-clause-same g c = search (rules, c.loop-id.invariant)
-
-pub returns-in_err-rec-clause-written : goal.returns-in_err-rec-clause-written
-returns-in_err-rec-clause-written g c = search (rules, c.loop-id.invariant)
+pub returns-in_err-rec-clause-read : goal.returns-in_err-rec-clause-read
+returns-in_err-rec-clause-read g c =
+    is_read-on g.R.Reads g.met.R.Reads.further_onward _ _ _ c.loop-id.invariant.read (is_read-get g.R.Reads _ _ c.in_err-rec.ensures.state
+    c.in_err-rec.ensures.onward c.in_err-rec.ensures.cause.later)
 
 pub returns-in_err-rec-clause-cause : goal.returns-in_err-rec-clause-cause
 returns-in_err-rec-clause-cause g c =
-    cause_passed _ _ _ c.from_residual.result c.in_err-rec.field-0.0 c.loop-id.invariant.faults c.in_err-rec.ensures.cause c.from_residual.ensures.1
+    cause_passed _ _ _ c.from_residual.result c.in_err-rec.field-0.0 c.loop-id.invariant.read.later c.in_err-rec.ensures.cause c.from_residual.ensures.1
+
+pub returns-clause-read : goal.returns-clause-read
+returns-clause-read g c =
+    c.loop-id.invariant.read
+
+pub returns-then-not-marks-id-clause-read : goal.returns-then-not-marks-id-clause-read
+returns-then-not-marks-id-clause-read g c =
+    is_read-on g.R.Reads g.met.R.Reads.further_onward _ _ _ c.loop-id.invariant.read (is_read-get g.R.Reads _ _ c.in_ok-rec.ensures.state
+    c.in_ok-rec.ensures.onward c.in_ok-rec.ensures.cause.later)
+
+pub returns-then-not-marks-id-clause-cause : goal.returns-then-not-marks-id-clause-cause
+returns-then-not-marks-id-clause-cause g c = ok_cause _ _ _ _ (returns-then-not-marks-id-clause-read g c).later

@@ -1,8 +1,8 @@
-use Rattle.std.proofs.Common.{rules, ◌∙◌, ap}
-use Rattle.rec_bytes.proofs.Spaces.{records-after_gets}
+use Rattle.std.proofs.Common.{rules}
 use Rattle.name_store.specs.Loading.{AreLoadable, IsNameDamage}
-use Rattle.store_check.proofs.NameLaws.{name_breaks, written-after_gets}
+use Rattle.store_check.proofs.NameLaws.{name_breaks}
 use Rattle.store_check.proofs.names.check_names.Goals.{in-Ok, in-Err-Damaged, in-Err-Memory, in-Err-Disk}
+use Rattle.record_lists.proofs.OnlyReads.{is_read-gets}
 use Rattle.store_check.proofs.names.check_names.Goals as goal
 
 pub returns-clause-decided : goal.returns-clause-decided
@@ -17,14 +17,6 @@ returns-clause-decided g c = λ tells.
       | in-Err-Disk w ↦ rw w.result-is tt
     ]
 
-pub returns-clause-same : goal.returns-clause-same
-returns-clause-same g c =
-    let s = g.R.Reads.state c.args.space.now in
-    let most = c.load.ensures.at_most in
-    ap (λ t. t.records) most.is ∙ records-after_gets most.count s
-
-pub returns-clause-written : goal.returns-clause-written
-returns-clause-written g c =
-    let s = g.R.Reads.state c.args.space.now in
-    let most = c.load.ensures.at_most in
-    ap (λ t. t.written) most.is ∙ written-after_gets most.count s
+pub returns-clause-read : goal.returns-clause-read
+returns-clause-read g c =
+    is_read-gets g.R.Reads c.load.ensures.at_most.count _ _ c.load.ensures.at_most.is c.load.ensures.onward c.load.ensures.cause.later

@@ -11,7 +11,8 @@ use Rattle.store_check.specs.Fitting.{FitsAt}
 use Rattle.store_check.proofs.FileLaws.{in_range_of, taken_right}
 use Rattle.record_lists.proofs.DecidingLaws.{breaks_by}
 use Rattle.record_lists.proofs.Causes.{cause_passed}
-use Rattle.rec_bytes.proofs.Causes.{never_ok}
+use Rattle.rec_bytes.proofs.Causes.{never_ok, ok_cause}
+use Rattle.record_lists.proofs.OnlyReads.{is_read-on}
 use Rattle.store_check.proofs.ranges.check_ranges.Goals as goal
 
 pub returns-then-not-branch-clause-decided : goal.returns-then-not-branch-clause-decided
@@ -27,8 +28,9 @@ returns-in-Some-clause-decided g c = λ tells.
     let id = c.in-Some.id in
     let lt : id < meta_records = search (rules, c.in_ok-id.ensures.id) in
     let found : IfSome c.in_ok-id.field-0 (λ n. ¬ IsMetaKept s.records s.shape n)
-    = subst (λ (r : Records). IfSome c.in_ok-id.field-0 (λ n. ¬ IsMetaKept r s.shape n)) c.in_ok-is_own_right.ensures.same
-    (subst (λ (h : Shape). IfSome c.in_ok-id.field-0 (λ n. ¬ IsMetaKept (g.R.Reads.state c.is_own_right.new.space).records h n)) (g.met.R.Reads.onward_shape _ _ c.in_ok-is_own_right.ensures.onward) (c.in_ok-id.ensures.found tells)) in
+    = subst (λ (r : Records). IfSome c.in_ok-id.field-0 (λ n. ¬ IsMetaKept r s.shape n)) c.in_ok-is_own_right.ensures.read.records
+    (subst (λ (h : Shape). IfSome c.in_ok-id.field-0 (λ n. ¬ IsMetaKept (g.R.Reads.state c.is_own_right.new.space).records h n))
+    (g.met.R.Reads.onward_shape _ _ c.in_ok-is_own_right.ensures.read.onward) (c.in_ok-id.ensures.found tells)) in
     let bad : ¬ IsMetaKept s.records s.shape id = search (rules, found) in
     breaks_by s.records s.shape 1 c.broken-in-Some.result (damage 0 id 1) c.broken-in-Some.ensures refl (WrongMeta id lt bad)
 
@@ -39,7 +41,7 @@ returns-in-Some-2-clause-decided g c = λ tells.
     let is : is_meta_file key.file ≡ true = search (rules, c.in_ok-key.ensures.file) in
     let found : IfSome c.in_ok-key.field-0 (λ k. (k.id < high s.records k.file) × (¬ FitsAt s.records k.file k.id))
     = subst (λ (r : Records). IfSome c.in_ok-key.field-0 (λ k. (k.id < high r k.file) × (¬ FitsAt r k.file k.id)))
-    (c.in_ok-id.ensures.same ∙ c.in_ok-is_own_right.ensures.same) (c.in_ok-key.ensures.found tells) in
+    (c.in_ok-id.ensures.read.records ∙ c.in_ok-is_own_right.ensures.read.records) (c.in_ok-key.ensures.found tells) in
     let bad : (key.id < high s.records key.file) × (¬ FitsAt s.records key.file key.id) = search (rules, found) in
     breaks_by s.records s.shape 1 c.broken-in-Some-2.result (damage key.file key.id 1) c.broken-in-Some-2.ensures refl
     (RecordRange key.file key.id is bad.0 bad.1)
@@ -50,12 +52,14 @@ returns-in-None-clause-decided g c = λ tells.
     let yes : c.in_ok-is_own_right.field-0 ≡ true = search rules in
     let own = (c.in_ok-is_own_right.ensures.right tells).0 yes in
     let right : IfNone c.in_ok-id.field-0 ((n : ℕ) → n < meta_records → IsMetaKept s.records s.shape n)
-    = subst (λ (r : Records). IfNone c.in_ok-id.field-0 ((n : ℕ) → n < meta_records → IsMetaKept r s.shape n)) c.in_ok-is_own_right.ensures.same
-    (subst (λ (h : Shape). IfNone c.in_ok-id.field-0 ((n : ℕ) → n < meta_records → IsMetaKept (g.R.Reads.state c.is_own_right.new.space).records h n)) (g.met.R.Reads.onward_shape _ _ c.in_ok-is_own_right.ensures.onward) (c.in_ok-id.ensures.none tells)) in
+    = subst (λ (r : Records). IfNone c.in_ok-id.field-0 ((n : ℕ) → n < meta_records → IsMetaKept r s.shape n)) c.in_ok-is_own_right.ensures.read.records
+    (subst (λ (h : Shape). IfNone c.in_ok-id.field-0 ((n : ℕ) → n < meta_records → IsMetaKept (g.R.Reads.state
+    c.is_own_right.new.space).records h n)) (g.met.R.Reads.onward_shape _ _ c.in_ok-is_own_right.ensures.read.onward)
+    (c.in_ok-id.ensures.none tells)) in
     let metas : (n : ℕ) → n < meta_records → IsMetaKept s.records s.shape n = search (rules, right) in
     let fitting : IfNone c.in_ok-key.field-0 ((f x : ℕ) → is_meta_file f ≡ true → x < high s.records f → FitsAt s.records f x)
     = subst (λ (r : Records). IfNone c.in_ok-key.field-0 ((f x : ℕ) → is_meta_file f ≡ true → x < high r f → FitsAt r f x))
-    (c.in_ok-id.ensures.same ∙ c.in_ok-is_own_right.ensures.same) (c.in_ok-key.ensures.none tells) in
+    (c.in_ok-id.ensures.read.records ∙ c.in_ok-is_own_right.ensures.read.records) (c.in_ok-key.ensures.none tells) in
     let fit : (f x : ℕ) → is_meta_file f ≡ true → x < high s.records f → FitsAt s.records f x = search (rules, fitting) in
     record {
       own = own.own;
@@ -81,31 +85,28 @@ returns-in_err-key-clause-cause g c =
     cause_passed _ _ _ c.from_residual-in_err-key.result c.in_err-key.field-0.0 (omega (arith, later, later1)) c.in_err-key.ensures.cause
     c.from_residual-in_err-key.ensures.1
 
-pub returns-in_err-id-clause-onward : goal.returns-in_err-id-clause-onward
-returns-in_err-id-clause-onward g c =
-    g.met.R.Reads.further_onward _ _ _ c.in_ok-is_own_right.ensures.onward c.in_err-id.ensures.onward
+pub returns-in_err-id-clause-read : goal.returns-in_err-id-clause-read
+returns-in_err-id-clause-read g c =
+    is_read-on g.R.Reads g.met.R.Reads.further_onward _ _ _ c.in_ok-is_own_right.ensures.read c.in_err-id.ensures.read
 
-pub returns-in-Some-clause-onward : goal.returns-in-Some-clause-onward
-returns-in-Some-clause-onward g c =
-    g.met.R.Reads.further_onward _ _ _ c.in_ok-is_own_right.ensures.onward c.in_ok-id.ensures.onward
+pub returns-in-Some-clause-read : goal.returns-in-Some-clause-read
+returns-in-Some-clause-read g c =
+    is_read-on g.R.Reads g.met.R.Reads.further_onward _ _ _ c.in_ok-is_own_right.ensures.read c.in_ok-id.ensures.read
 
-pub returns-in_err-key-clause-onward : goal.returns-in_err-key-clause-onward
-returns-in_err-key-clause-onward g c =
-    g.met.R.Reads.further_onward _ _ _
-    (g.met.R.Reads.further_onward _ _ _ c.in_ok-is_own_right.ensures.onward c.in_ok-id.ensures.onward)
-    c.in_err-key.ensures.onward
+pub returns-in_err-key-clause-read : goal.returns-in_err-key-clause-read
+returns-in_err-key-clause-read g c =
+    is_read-on g.R.Reads g.met.R.Reads.further_onward _ _ _ (is_read-on g.R.Reads g.met.R.Reads.further_onward _ _ _
+    c.in_ok-is_own_right.ensures.read c.in_ok-id.ensures.read) c.in_err-key.ensures.read
 
-pub returns-in-Some-2-clause-onward : goal.returns-in-Some-2-clause-onward
-returns-in-Some-2-clause-onward g c =
-    g.met.R.Reads.further_onward _ _ _
-    (g.met.R.Reads.further_onward _ _ _ c.in_ok-is_own_right.ensures.onward c.in_ok-id.ensures.onward)
-    c.in_ok-key.ensures.onward
+pub returns-in-Some-2-clause-read : goal.returns-in-Some-2-clause-read
+returns-in-Some-2-clause-read g c =
+    is_read-on g.R.Reads g.met.R.Reads.further_onward _ _ _ (is_read-on g.R.Reads g.met.R.Reads.further_onward _ _ _
+    c.in_ok-is_own_right.ensures.read c.in_ok-id.ensures.read) c.in_ok-key.ensures.read
 
-pub returns-in-None-clause-onward : goal.returns-in-None-clause-onward
-returns-in-None-clause-onward g c =
-    g.met.R.Reads.further_onward _ _ _
-    (g.met.R.Reads.further_onward _ _ _ c.in_ok-is_own_right.ensures.onward c.in_ok-id.ensures.onward)
-    c.in_ok-key.ensures.onward
+pub returns-in-None-clause-read : goal.returns-in-None-clause-read
+returns-in-None-clause-read g c =
+    is_read-on g.R.Reads g.met.R.Reads.further_onward _ _ _ (is_read-on g.R.Reads g.met.R.Reads.further_onward _ _ _
+    c.in_ok-is_own_right.ensures.read c.in_ok-id.ensures.read) c.in_ok-key.ensures.read
 
 pub returns-in_err-is_own_right-clause-decided : goal.returns-in_err-is_own_right-clause-decided
 returns-in_err-is_own_right-clause-decided g c _ = never_ok c.from_residual.result _ _ c.from_residual.ensures.1
@@ -113,8 +114,9 @@ returns-in_err-is_own_right-clause-decided g c _ = never_ok c.from_residual.resu
 pub returns-in_err-is_own_right-clause-low : goal.returns-in_err-is_own_right-clause-low
 returns-in_err-is_own_right-clause-low g c = never_ok c.from_residual.result _ _ c.from_residual.ensures.1
 
-pub returns-in_err-is_own_right-clause-onward : goal.returns-in_err-is_own_right-clause-onward
-returns-in_err-is_own_right-clause-onward g c = search rules
+pub returns-in_err-is_own_right-clause-read : goal.returns-in_err-is_own_right-clause-read
+returns-in_err-is_own_right-clause-read g c =
+    c.in_err-is_own_right.ensures.read
 
 pub returns-in_err-id-clause-decided : goal.returns-in_err-id-clause-decided
 returns-in_err-id-clause-decided g c _ = never_ok c.from_residual-in_err-id.result _ _ c.from_residual-in_err-id.ensures.1
@@ -128,20 +130,17 @@ returns-in_err-key-clause-decided g c _ = never_ok c.from_residual-in_err-key.re
 pub returns-in_err-key-clause-low : goal.returns-in_err-key-clause-low
 returns-in_err-key-clause-low g c = never_ok c.from_residual-in_err-key.result _ _ c.from_residual-in_err-key.ensures.1
 
-pub returns-in_err-is_own_right-clause-same : goal.returns-in_err-is_own_right-clause-same
-returns-in_err-is_own_right-clause-same g c = search rules
+pub returns-then-not-branch-clause-read : goal.returns-then-not-branch-clause-read
+returns-then-not-branch-clause-read g c = c.is_own_right.ensures.read
 
-pub returns-in_err-is_own_right-clause-written : goal.returns-in_err-is_own_right-clause-written
-returns-in_err-is_own_right-clause-written g c = search rules
+pub returns-then-not-branch-clause-cause : goal.returns-then-not-branch-clause-cause
+returns-then-not-branch-clause-cause g c = ok_cause _ _ _ _ (returns-then-not-branch-clause-read g c).later
 
-pub returns-in_err-id-clause-same : goal.returns-in_err-id-clause-same
-returns-in_err-id-clause-same g c = search rules
+pub returns-in-Some-clause-cause : goal.returns-in-Some-clause-cause
+returns-in-Some-clause-cause g c = ok_cause _ _ _ _ (returns-in-Some-clause-read g c).later
 
-pub returns-in_err-id-clause-written : goal.returns-in_err-id-clause-written
-returns-in_err-id-clause-written g c = search rules
+pub returns-in-Some-2-clause-cause : goal.returns-in-Some-2-clause-cause
+returns-in-Some-2-clause-cause g c = ok_cause _ _ _ _ (returns-in-Some-2-clause-read g c).later
 
-pub returns-in_err-key-clause-same : goal.returns-in_err-key-clause-same
-returns-in_err-key-clause-same g c = search rules
-
-pub returns-in_err-key-clause-written : goal.returns-in_err-key-clause-written
-returns-in_err-key-clause-written g c = search rules
+pub returns-in-None-clause-cause : goal.returns-in-None-clause-cause
+returns-in-None-clause-cause g c = ok_cause _ _ _ _ (returns-in-None-clause-read g c).later

@@ -3,16 +3,14 @@ use Rattle.rec_bytes.specs.Format.{most_ids}
 use Rattle.rec_bytes.specs.RecordFiles.{is_meta_file}
 use Rattle.store_rules.specs.Views.{high}
 use Rattle.store_rules.specs.Breaking.{IsMetaKept}
+use Rattle.rec_bytes.specs.Frame.{IsRead}
 use Rattle.store_check.proofs.ranges.find_wrong_meta.Given as goal
 
 abbrev pub invariant-loop-id : goal.invariant-loop-id
 invariant-loop-id g l =
     let s = g.R.Reads.state l.fn.space in
     record {
-      same : (g.R.Reads.state l.space).records ≡ s.records;
-      written : (g.R.Reads.state l.space).written ≡ s.written;
+      read : IsRead g.R.Reads l.fn.space l.space;
       all : g.R.Reads.tells → (n : ℕ) → n < l.id → IsMetaKept s.records s.shape n;
       low : (f : ℕ) → f < l.id → is_meta_file f ≡ true → high s.records f ≤ most_ids;
-      onward : g.R.Reads.onward l.fn.space l.space;
-      faults : g.R.Reads.faults l.fn.space ≤ g.R.Reads.faults l.space;
     }

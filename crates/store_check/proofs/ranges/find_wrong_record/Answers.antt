@@ -7,15 +7,13 @@ use Rattle.store_check.specs.Fitting.{FitsAt}
 use Rattle.store_check.proofs.FileLaws.{entry_is, holds_all, holds_more, holds_none}
 use Rattle.rec_bytes.proofs.Causes.{never_ok, ok_cause}
 use Rattle.record_lists.proofs.Causes.{cause_passed}
+use Rattle.record_lists.proofs.OnlyReads.{is_read-none, is_read-on}
 use Rattle.store_check.proofs.ranges.find_wrong_record.Goals as goal
 
 pub loop-entry-init : goal.loop-entry-init
 loop-entry-init g c = record {
-  same = refl;
-  written = refl;
   all = λ t. holds_none c.all_but_meta-entry-items.result.now _;
-  onward = g.met.R.Reads.stays_onward c.args.space.now;
-  faults = omega arith;
+  read = is_read-none g.R.Reads g.met.R.Reads.stays_onward c.args.space.now;
 }
 
 pub find_wrong-requires-clause-file : goal.find_wrong-requires-clause-file
@@ -26,7 +24,7 @@ pub find_wrong-requires-clause-mark : goal.find_wrong-requires-clause-mark
 find_wrong-requires-clause-mark g c =
     let other : RecordFile = record { file = 0; room = Fixed 0 } in
     let file = (slice_index_or c.all_but_meta-entry-items.result.now c.loop-entry.entry-index other).file in
-    subst (λ (r : Records). high r file ≤ most_ids) (sym c.loop-entry.invariant.same) (c.requires file (find_wrong-requires-clause-file g c))
+    subst (λ (r : Records). high r file ≤ most_ids) (sym c.loop-entry.invariant.read.records) (c.requires file (find_wrong-requires-clause-file g c))
 
 pub returns-clause-none : goal.returns-clause-none
 returns-clause-none g c t f x is lt =
@@ -47,15 +45,12 @@ loop-entry-preserved g c =
     let other : RecordFile = record { file = 0; room = Fixed 0 } in
     let file = (slice_index_or items c.loop-entry.entry-index other).file in
     record {
-      same = c.in_ok-id.ensures.same ∙ inv.same;
-      written = c.in_ok-id.ensures.written ∙ inv.written;
       all = λ t.
           let none : IfNone c.in_ok-id.field-0 ((y : ℕ) → y < high records file → FitsAt records file y)
-          = subst (λ (r : Records). IfNone c.in_ok-id.field-0 ((y : ℕ) → y < high r file → FitsAt r file y)) inv.same (c.in_ok-id.ensures.none t) in
+          = subst (λ (r : Records). IfNone c.in_ok-id.field-0 ((y : ℕ) → y < high r file → FitsAt r file y)) inv.read.records (c.in_ok-id.ensures.none t) in
           let each : (y : ℕ) → y < high records file → FitsAt records file y = search (rules, none) in
           holds_more items c.loop-entry.entry-index other (λ f. (y : ℕ) → y < high records f → FitsAt records f y) c.loop-entry-test.true (inv.all t) each;
-      onward = g.met.R.Reads.further_onward c.args.space.now c.loop-entry.space c.find_wrong.new.space inv.onward c.in_ok-id.ensures.onward;
-      faults = let cause = c.in_ok-id.ensures.cause in omega (arith, inv.faults, cause.later);
+      read = is_read-on g.R.Reads g.met.R.Reads.further_onward c.args.space.now c.loop-entry.space c.find_wrong.new.space inv.read c.in_ok-id.ensures.read;
     }
 
 pub returns-in_err-id-clause-none : goal.returns-in_err-id-clause-none
@@ -68,14 +63,22 @@ pub returns-in_err-id-clause-file : goal.returns-in_err-id-clause-file
 returns-in_err-id-clause-file g c = never_ok c.from_residual.result _ _ c.from_residual.ensures.1
 
 pub returns-clause-cause : goal.returns-clause-cause
-returns-clause-cause g c = ok_cause _ _ _ _ (omega arith)
+returns-clause-cause g c = ok_cause _ _ _ _ c.loop-entry.invariant.read.later
 
-pub returns-in_err-id-clause-same : goal.returns-in_err-id-clause-same
-returns-in_err-id-clause-same g c = search (rules, c.loop-entry.invariant)
-
-pub returns-in_err-id-clause-written : goal.returns-in_err-id-clause-written
-returns-in_err-id-clause-written g c = search (rules, c.loop-entry.invariant)
+pub returns-in_err-id-clause-read : goal.returns-in_err-id-clause-read
+returns-in_err-id-clause-read g c =
+    is_read-on g.R.Reads g.met.R.Reads.further_onward _ _ _ c.loop-entry.invariant.read c.in_err-id.ensures.read
 
 pub returns-in_err-id-clause-cause : goal.returns-in_err-id-clause-cause
 returns-in_err-id-clause-cause g c =
-    cause_passed _ _ _ c.from_residual.result c.in_err-id.field-0.0 c.loop-entry.invariant.faults c.in_err-id.ensures.cause c.from_residual.ensures.1
+    cause_passed _ _ _ c.from_residual.result c.in_err-id.field-0.0 c.loop-entry.invariant.read.later c.in_err-id.ensures.cause c.from_residual.ensures.1
+
+pub returns-clause-read : goal.returns-clause-read
+returns-clause-read g c =
+    c.loop-entry.invariant.read
+
+pub returns-in-Some-clause-read : goal.returns-in-Some-clause-read
+returns-in-Some-clause-read g c = is_read-on g.R.Reads g.met.R.Reads.further_onward _ _ _ c.loop-entry.invariant.read c.find_wrong.ensures.read
+
+pub returns-in-Some-clause-cause : goal.returns-in-Some-clause-cause
+returns-in-Some-clause-cause g c = ok_cause _ _ _ _ (returns-in-Some-clause-read g c).later

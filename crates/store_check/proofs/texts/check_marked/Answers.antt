@@ -12,7 +12,8 @@ use Rattle.record_lists.specs.Marks.{marked}
 use Rattle.store_check.proofs.BlockLaws.{all_texts, not_held, text_head, texts_right, twice_breaks}
 use Rattle.record_lists.proofs.DecidingLaws.{breaks_by}
 use Rattle.record_lists.proofs.Causes.{cause_passed}
-use Rattle.rec_bytes.proofs.Causes.{never_ok}
+use Rattle.rec_bytes.proofs.Causes.{never_ok, ok_cause}
+use Rattle.record_lists.proofs.OnlyReads.{is_read-on}
 use Rattle.store_check.proofs.texts.check_marked.Goals as goal
 
 pub returns-in-Some-Head-clause-found : goal.returns-in-Some-Head-clause-found
@@ -44,7 +45,7 @@ returns-in-Some-clause-found g c = λ tells.
     let once : (b : ℕ) → IsOnce (IsLong s.records) (IsBlockList s.records) n b = search (rules, c.in_ok-id.ensures.once tells) in
     let all : AllTexts s.records now = all_texts s.records n c.args.marks.now now mark c.requires.clear keeps told once in
     let found : IfSome c.in_ok-id-2.field-0 (λ x. ¬ (is_live s.records strings_file x ≡ true → marked now x ≡ true))
-    = subst (λ (r : Records). IfSome c.in_ok-id-2.field-0 (λ x. ¬ (is_live r strings_file x ≡ true → marked now x ≡ true))) c.in_ok-id.ensures.same
+    = subst (λ (r : Records). IfSome c.in_ok-id-2.field-0 (λ x. ¬ (is_live r strings_file x ≡ true → marked now x ≡ true))) c.in_ok-id.ensures.read.records
     (c.in_ok-id-2.ensures.found tells) in
     let bad : ¬ (is_live s.records strings_file c.in-Some.id ≡ true → marked now c.in-Some.id ≡ true) = search (rules, found) in
     breaks_by s.records s.shape 5 c.broken-in-Some.result (damage 5 c.in-Some.id 5) c.broken-in-Some.ensures refl
@@ -63,21 +64,21 @@ returns-in-None-2-clause-none g c = λ tells.
     let all : AllTexts s.records now = all_texts s.records n c.args.marks.now now mark c.requires.clear keeps told once in
     let none : IfNone c.in_ok-id-2.field-0 ((x : ℕ) → x < high s.records strings_file → is_live s.records strings_file x ≡ true → marked now x ≡ true)
     = subst (λ (r : Records). IfNone c.in_ok-id-2.field-0 ((x : ℕ) → x < high r strings_file → is_live r strings_file x ≡ true → marked now x ≡ true))
-    c.in_ok-id.ensures.same (c.in_ok-id-2.ensures.none tells) in
+    c.in_ok-id.ensures.read.records (c.in_ok-id-2.ensures.none tells) in
     let each : (x : ℕ) → x < high s.records strings_file → is_live s.records strings_file x ≡ true → marked now x ≡ true = search (rules, none) in
     texts_right s.records now all each
 
-pub returns-in_err-id-2-clause-onward : goal.returns-in_err-id-2-clause-onward
-returns-in_err-id-2-clause-onward g c =
-    g.met.R.Reads.further_onward _ _ _ c.in_ok-id.ensures.onward c.in_err-id-2.ensures.onward
+pub returns-in_err-id-2-clause-read : goal.returns-in_err-id-2-clause-read
+returns-in_err-id-2-clause-read g c =
+    is_read-on g.R.Reads g.met.R.Reads.further_onward _ _ _ c.in_ok-id.ensures.read c.in_err-id-2.ensures.read
 
-pub returns-in-Some-clause-onward : goal.returns-in-Some-clause-onward
-returns-in-Some-clause-onward g c =
-    g.met.R.Reads.further_onward _ _ _ c.in_ok-id.ensures.onward c.in_ok-id-2.ensures.onward
+pub returns-in-Some-clause-read : goal.returns-in-Some-clause-read
+returns-in-Some-clause-read g c =
+    is_read-on g.R.Reads g.met.R.Reads.further_onward _ _ _ c.in_ok-id.ensures.read c.in_ok-id-2.ensures.read
 
-pub returns-in-None-2-clause-onward : goal.returns-in-None-2-clause-onward
-returns-in-None-2-clause-onward g c =
-    g.met.R.Reads.further_onward _ _ _ c.in_ok-id.ensures.onward c.in_ok-id-2.ensures.onward
+pub returns-in-None-2-clause-read : goal.returns-in-None-2-clause-read
+returns-in-None-2-clause-read g c =
+    is_read-on g.R.Reads g.met.R.Reads.further_onward _ _ _ c.in_ok-id.ensures.read c.in_ok-id-2.ensures.read
 
 pub returns-in_err-id-2-clause-cause : goal.returns-in_err-id-2-clause-cause
 returns-in_err-id-2-clause-cause g c =
@@ -91,8 +92,9 @@ returns-in_err-id-clause-none g c _ = never_ok c.from_residual.result _ _ c.from
 pub returns-in_err-id-clause-found : goal.returns-in_err-id-clause-found
 returns-in_err-id-clause-found g c _ = never_ok c.from_residual.result _ _ c.from_residual.ensures.1
 
-pub returns-in_err-id-clause-onward : goal.returns-in_err-id-clause-onward
-returns-in_err-id-clause-onward g c = search rules
+pub returns-in_err-id-clause-read : goal.returns-in_err-id-clause-read
+returns-in_err-id-clause-read g c =
+    c.in_err-id.ensures.read
 
 pub returns-in_err-id-2-clause-none : goal.returns-in_err-id-2-clause-none
 returns-in_err-id-2-clause-none g c _ = never_ok c.from_residual-in_err-id-2.result _ _ c.from_residual-in_err-id-2.ensures.1
@@ -100,18 +102,24 @@ returns-in_err-id-2-clause-none g c _ = never_ok c.from_residual-in_err-id-2.res
 pub returns-in_err-id-2-clause-found : goal.returns-in_err-id-2-clause-found
 returns-in_err-id-2-clause-found g c _ = never_ok c.from_residual-in_err-id-2.result _ _ c.from_residual-in_err-id-2.ensures.1
 
-pub returns-in_err-id-clause-same : goal.returns-in_err-id-clause-same
-returns-in_err-id-clause-same g c = search rules
-
-pub returns-in_err-id-clause-written : goal.returns-in_err-id-clause-written
-returns-in_err-id-clause-written g c = search rules
-
 pub returns-in_err-id-clause-cause : goal.returns-in_err-id-clause-cause
 returns-in_err-id-clause-cause g c =
     cause_passed _ _ _ c.from_residual.result c.in_err-id.field-0.0 (omega arith) c.in_err-id.ensures.cause c.from_residual.ensures.1
 
-pub returns-in_err-id-2-clause-same : goal.returns-in_err-id-2-clause-same
-returns-in_err-id-2-clause-same g c = search rules
+pub returns-in-Some-Head-clause-read : goal.returns-in-Some-Head-clause-read
+returns-in-Some-Head-clause-read g c = c.in_ok-id.ensures.read
 
-pub returns-in_err-id-2-clause-written : goal.returns-in_err-id-2-clause-written
-returns-in_err-id-2-clause-written g c = search rules
+pub returns-in-Some-Head-clause-cause : goal.returns-in-Some-Head-clause-cause
+returns-in-Some-Head-clause-cause g c = ok_cause _ _ _ _ (returns-in-Some-Head-clause-read g c).later
+
+pub returns-in-Some-Item-clause-read : goal.returns-in-Some-Item-clause-read
+returns-in-Some-Item-clause-read g c = c.in_ok-id.ensures.read
+
+pub returns-in-Some-Item-clause-cause : goal.returns-in-Some-Item-clause-cause
+returns-in-Some-Item-clause-cause g c = ok_cause _ _ _ _ (returns-in-Some-Item-clause-read g c).later
+
+pub returns-in-None-2-clause-cause : goal.returns-in-None-2-clause-cause
+returns-in-None-2-clause-cause g c = ok_cause _ _ _ _ (returns-in-None-2-clause-read g c).later
+
+pub returns-in-Some-clause-cause : goal.returns-in-Some-clause-cause
+returns-in-Some-clause-cause g c = ok_cause _ _ _ _ (returns-in-Some-clause-read g c).later

@@ -10,6 +10,8 @@ use Rattle.chain_check.specs.NodeChains.{EndHolds, end_in}
 use Rattle.chain_check.proofs.EndLaws.{hold_both, hold_from, hold_to, none_holds}
 use Rattle.record_lists.proofs.RecordLaws.{kind_read}
 use Rattle.record_lists.proofs.Causes.{cause_passed}
+use Rattle.record_lists.proofs.OnlyReads.{is_read-get}
+use Rattle.rec_bytes.proofs.Causes.{ok_cause}
 use Rattle.chain_check.proofs.chains.AttachedSentence.holds.Goals as goal
 
 pub returns-then-byte-eq-FREE-clause-told : goal.returns-then-byte-eq-FREE-clause-told
@@ -48,17 +50,27 @@ pub returns-in_err-rec-clause-cause : goal.returns-in_err-rec-clause-cause
 returns-in_err-rec-clause-cause g c =
     cause_passed _ _ _ c.from_residual.result c.in_err-rec.field-0.0 (omega arith) c.in_err-rec.ensures.cause c.from_residual.ensures.1
 
-pub returns-then-leaves-clause-onward : goal.returns-then-leaves-clause-onward
-returns-then-leaves-clause-onward g c = c.in_ok-rec.ensures.onward
+pub returns-then-leaves-clause-read : goal.returns-then-leaves-clause-read
+returns-then-leaves-clause-read g c =
+    is_read-get g.R.Reads _ _ c.in_ok-rec.ensures.state c.in_ok-rec.ensures.onward c.in_ok-rec.ensures.cause.later
 
-pub returns-else-leaves-clause-onward : goal.returns-else-leaves-clause-onward
-returns-else-leaves-clause-onward g c = c.in_ok-rec.ensures.onward
+pub returns-else-leaves-clause-read : goal.returns-else-leaves-clause-read
+returns-else-leaves-clause-read g c =
+    is_read-get g.R.Reads _ _ c.in_ok-rec.ensures.state c.in_ok-rec.ensures.onward c.in_ok-rec.ensures.cause.later
 
-pub returns-in_err-rec-clause-same : goal.returns-in_err-rec-clause-same
-returns-in_err-rec-clause-same g c = search rules
+pub returns-in_err-rec-clause-read : goal.returns-in_err-rec-clause-read
+returns-in_err-rec-clause-read g c =
+    is_read-get g.R.Reads _ _ c.in_err-rec.ensures.state c.in_err-rec.ensures.onward c.in_err-rec.ensures.cause.later
 
-pub returns-in_err-rec-clause-written : goal.returns-in_err-rec-clause-written
-returns-in_err-rec-clause-written g c = search rules
+pub returns-then-byte-eq-FREE-clause-read : goal.returns-then-byte-eq-FREE-clause-read
+returns-then-byte-eq-FREE-clause-read g c =
+    is_read-get g.R.Reads _ _ c.in_ok-rec.ensures.state c.in_ok-rec.ensures.onward c.in_ok-rec.ensures.cause.later
 
-pub returns-in_err-rec-clause-onward : goal.returns-in_err-rec-clause-onward
-returns-in_err-rec-clause-onward g c = search rules
+pub returns-then-byte-eq-FREE-clause-cause : goal.returns-then-byte-eq-FREE-clause-cause
+returns-then-byte-eq-FREE-clause-cause g c = ok_cause _ _ _ _ (returns-then-byte-eq-FREE-clause-read g c).later
+
+pub returns-else-leaves-clause-cause : goal.returns-else-leaves-clause-cause
+returns-else-leaves-clause-cause g c = ok_cause _ _ _ _ (returns-else-leaves-clause-read g c).later
+
+pub returns-then-leaves-clause-cause : goal.returns-then-leaves-clause-cause
+returns-then-leaves-clause-cause g c = ok_cause _ _ _ _ (returns-then-leaves-clause-read g c).later

@@ -7,6 +7,8 @@ use Rattle.chain_check.proofs.RowLaws.{row_found}
 use Rattle.record_lists.proofs.RecordLaws.{kind_read}
 use Rattle.rec_bytes.proofs.Causes.{never_ok, ok_cause}
 use Rattle.record_lists.proofs.Causes.{cause_passed}
+use Rattle.chain_check.proofs.Causes.{no_memory}
+use Rattle.record_lists.proofs.OnlyReads.{is_read-get}
 use Rattle.chain_check.proofs.chains.ChainHeadsHeads.list.Goals as goal
 
 pub returns-then-byte-ne-SPARSE-clause-told : goal.returns-then-byte-ne-SPARSE-clause-told
@@ -39,15 +41,24 @@ returns-then-byte-ne-SPARSE-clause-cause g c = ok_cause _ _ _ _ c.in_ok-rec.ensu
 pub returns-clause-cause : goal.returns-clause-cause
 returns-clause-cause g c = ok_cause _ _ _ _ c.in_ok-rec.ensures.cause.later
 
-pub returns-in_err-rec-clause-same : goal.returns-in_err-rec-clause-same
-returns-in_err-rec-clause-same g c = search rules
-
-pub returns-in_err-rec-clause-written : goal.returns-in_err-rec-clause-written
-returns-in_err-rec-clause-written g c = search rules
-
-pub returns-in_err-rec-clause-onward : goal.returns-in_err-rec-clause-onward
-returns-in_err-rec-clause-onward g c = search rules
+pub returns-in_err-rec-clause-read : goal.returns-in_err-rec-clause-read
+returns-in_err-rec-clause-read g c =
+    is_read-get g.R.Reads _ _ c.in_err-rec.ensures.state c.in_err-rec.ensures.onward c.in_err-rec.ensures.cause.later
 
 pub returns-in_err-rec-clause-cause : goal.returns-in_err-rec-clause-cause
 returns-in_err-rec-clause-cause g c =
     cause_passed _ _ _ c.from_residual.result c.in_err-rec.field-0.0 (omega arith) c.in_err-rec.ensures.cause c.from_residual.ensures.1
+
+pub returns-then-byte-ne-SPARSE-clause-read : goal.returns-then-byte-ne-SPARSE-clause-read
+returns-then-byte-ne-SPARSE-clause-read g c =
+    is_read-get g.R.Reads _ _ c.in_ok-rec.ensures.state c.in_ok-rec.ensures.onward c.in_ok-rec.ensures.cause.later
+
+pub returns-clause-read : goal.returns-clause-read
+returns-clause-read g c =
+    is_read-get g.R.Reads _ _ c.in_ok-rec.ensures.state c.in_ok-rec.ensures.onward c.in_ok-rec.ensures.cause.later
+
+pub returns-in_default-clause-read : goal.returns-in_default-clause-read
+returns-in_default-clause-read g c = is_read-get g.R.Reads _ _ c.in_ok-rec.ensures.state c.in_ok-rec.ensures.onward c.in_ok-rec.ensures.cause.later
+
+pub returns-in_default-clause-cause : goal.returns-in_default-clause-cause
+returns-in_default-clause-cause g c = no_memory _ _ (returns-in_default-clause-read g c).later

@@ -11,6 +11,7 @@ use Rattle.record_lists.proofs.RecordLaws.{kind_read}
 use Rattle.chain_check.proofs.SideLaws.{place_first}
 use Rattle.record_lists.proofs.Causes.{cause_passed}
 use Rattle.rec_bytes.proofs.Causes.{never_ok, ok_cause}
+use Rattle.record_lists.proofs.OnlyReads.{is_read-get, is_read-none, is_read-on}
 use Rattle.chain_check.proofs.chains.GroupHeadsHeads.list.Goals as goal
 
 pub returns-then-byte-eq-FREE-clause-told : goal.returns-then-byte-eq-FREE-clause-told
@@ -74,17 +75,26 @@ returns-then-byte-eq-FREE-clause-cause g c = ok_cause _ _ _ _ c.in_ok-rec.ensure
 pub returns-clause-cause : goal.returns-clause-cause
 returns-clause-cause g c = ok_cause _ _ _ _ (omega (arith, c.in_ok-rec.ensures.cause.later, c.in_ok-found.ensures.cause.later))
 
-pub returns-in_err-rec-clause-same : goal.returns-in_err-rec-clause-same
-returns-in_err-rec-clause-same g c = search rules
+pub returns-in_err-rec-clause-read : goal.returns-in_err-rec-clause-read
+returns-in_err-rec-clause-read g c =
+    is_read-get g.R.Reads _ _ c.in_err-rec.ensures.state c.in_err-rec.ensures.onward c.in_err-rec.ensures.cause.later
 
-pub returns-in_err-rec-clause-written : goal.returns-in_err-rec-clause-written
-returns-in_err-rec-clause-written g c = search rules
+pub returns-in_err-found-clause-read : goal.returns-in_err-found-clause-read
+returns-in_err-found-clause-read g c =
+    is_read-on g.R.Reads g.met.R.Reads.further_onward _ _ _ (is_read-get g.R.Reads _ _ c.in_ok-rec.ensures.state c.in_ok-rec.ensures.onward
+    c.in_ok-rec.ensures.cause.later) c.in_err-found.ensures.read
 
-pub returns-in_err-rec-clause-onward : goal.returns-in_err-rec-clause-onward
-returns-in_err-rec-clause-onward g c = search rules
+pub returns-then-byte-eq-FREE-clause-read : goal.returns-then-byte-eq-FREE-clause-read
+returns-then-byte-eq-FREE-clause-read g c =
+    is_read-get g.R.Reads _ _ c.in_ok-rec.ensures.state c.in_ok-rec.ensures.onward c.in_ok-rec.ensures.cause.later
 
-pub returns-in_err-found-clause-same : goal.returns-in_err-found-clause-same
-returns-in_err-found-clause-same g c = search rules
+pub returns-clause-read : goal.returns-clause-read
+returns-clause-read g c =
+    is_read-on g.R.Reads g.met.R.Reads.further_onward _ _ _ (is_read-get g.R.Reads _ _ c.in_ok-rec.ensures.state c.in_ok-rec.ensures.onward
+    c.in_ok-rec.ensures.cause.later) c.in_ok-found.ensures.read
 
-pub returns-in_err-found-clause-written : goal.returns-in_err-found-clause-written
-returns-in_err-found-clause-written g c = search rules
+pub returns-then-not-self-group-clause-read : goal.returns-then-not-self-group-clause-read
+returns-then-not-self-group-clause-read g c = is_read-none g.R.Reads g.met.R.Reads.stays_onward c.args.space.now
+
+pub returns-then-not-self-group-clause-cause : goal.returns-then-not-self-group-clause-cause
+returns-then-not-self-group-clause-cause g c = ok_cause _ _ _ _ (returns-then-not-self-group-clause-read g c).later

@@ -7,6 +7,9 @@ use Rattle.chain_check.specs.Counts.{AreAsLong, CountsHold}
 use Rattle.chain_check.proofs.GroupCountLaws.{counts_decided}
 use Rattle.record_lists.proofs.RecordLaws.{kind_read}
 use Rattle.record_lists.proofs.Causes.{cause_passed}
+use Rattle.chain_check.proofs.Causes.{cause_later}
+use Rattle.record_lists.proofs.OnlyReads.{is_read-get, is_read-on}
+use Rattle.rec_bytes.proofs.Causes.{ok_cause}
 use Rattle.chain_check.proofs.counts.CountsSentence.holds.Goals as goal
 
 pub returns-then-byte-ne-COUNTED-clause-told : goal.returns-then-byte-ne-COUNTED-clause-told
@@ -30,15 +33,27 @@ returns-clause-told g c = λ tells.
     IfOk-weaker c.are_as_long.result (λ are. Decides are (AreAsLong after marked c.in_ok-rec.rec)) (λ holds. Decides holds (CountsHold records id))
     (λ b d. counts_decided records after marked id c.in_ok-rec.rec b (ap (λ s. s.records) c.in_ok-rec.ensures.state) c.requires.suits.relationships got counted d) told
 
-pub returns-in_err-rec-clause-same : goal.returns-in_err-rec-clause-same
-returns-in_err-rec-clause-same g c = search rules
-
-pub returns-in_err-rec-clause-written : goal.returns-in_err-rec-clause-written
-returns-in_err-rec-clause-written g c = search rules
-
-pub returns-in_err-rec-clause-onward : goal.returns-in_err-rec-clause-onward
-returns-in_err-rec-clause-onward g c = search rules
+pub returns-in_err-rec-clause-read : goal.returns-in_err-rec-clause-read
+returns-in_err-rec-clause-read g c =
+    is_read-get g.R.Reads _ _ c.in_err-rec.ensures.state c.in_err-rec.ensures.onward c.in_err-rec.ensures.cause.later
 
 pub returns-in_err-rec-clause-cause : goal.returns-in_err-rec-clause-cause
 returns-in_err-rec-clause-cause g c =
     cause_passed _ _ _ c.from_residual.result c.in_err-rec.field-0.0 (omega arith) c.in_err-rec.ensures.cause c.from_residual.ensures.1
+
+pub returns-clause-read : goal.returns-clause-read
+returns-clause-read g c =
+    is_read-on g.R.Reads g.met.R.Reads.further_onward _ _ _ (is_read-get g.R.Reads _ _ c.in_ok-rec.ensures.state c.in_ok-rec.ensures.onward
+    c.in_ok-rec.ensures.cause.later) c.are_as_long.ensures.read
+
+pub returns-clause-cause : goal.returns-clause-cause
+returns-clause-cause g c =
+    cause_later _ _ _ c.are_as_long.result (is_read-get g.R.Reads _ _ c.in_ok-rec.ensures.state c.in_ok-rec.ensures.onward
+    c.in_ok-rec.ensures.cause.later).later c.are_as_long.ensures.cause
+
+pub returns-then-byte-ne-COUNTED-clause-read : goal.returns-then-byte-ne-COUNTED-clause-read
+returns-then-byte-ne-COUNTED-clause-read g c =
+    is_read-get g.R.Reads _ _ c.in_ok-rec.ensures.state c.in_ok-rec.ensures.onward c.in_ok-rec.ensures.cause.later
+
+pub returns-then-byte-ne-COUNTED-clause-cause : goal.returns-then-byte-ne-COUNTED-clause-cause
+returns-then-byte-ne-COUNTED-clause-cause g c = ok_cause _ _ _ _ (returns-then-byte-ne-COUNTED-clause-read g c).later

@@ -8,6 +8,8 @@ use Rattle.store_rules.proofs.NumberLaws.{eq_true}
 use Rattle.chain_check.specs.Degrees.{HasDegree, count_at}
 use Rattle.record_lists.proofs.RecordLaws.{kind_read}
 use Rattle.record_lists.proofs.Causes.{cause_passed}
+use Rattle.record_lists.proofs.OnlyReads.{is_read-get}
+use Rattle.rec_bytes.proofs.Causes.{ok_cause}
 use Rattle.chain_check.proofs.degrees.DegreesSentence.holds.Goals as goal
 use Rattle.chain_check.proofs.degrees.DegreesSentence.holds.Goals.{else-kind-eq-SPARSE-via-then-kind-eq-SPARSE+else-degree-self}
 use Rattle.chain_check.proofs.degrees.DegreesSentence.holds.Goals.{else-kind-eq-SPARSE-via-else-kind-eq-SPARSE}
@@ -52,15 +54,30 @@ returns-clause-told g c = λ tells.
       (λ (h : HasDegree c.args.self.now records c.args.id). eq_true c.number-degree.result c.index.result.now (read ∙ h.exact (λ z. c.if-kind-eq-FREE.false (c.byte-kind.ensures ∙ sym kind ∙ z)) ∙ sym count)),
     )
 
-pub returns-in_err-rec-clause-same : goal.returns-in_err-rec-clause-same
-returns-in_err-rec-clause-same g c = search rules
-
-pub returns-in_err-rec-clause-written : goal.returns-in_err-rec-clause-written
-returns-in_err-rec-clause-written g c = search rules
-
-pub returns-in_err-rec-clause-onward : goal.returns-in_err-rec-clause-onward
-returns-in_err-rec-clause-onward g c = search rules
+pub returns-in_err-rec-clause-read : goal.returns-in_err-rec-clause-read
+returns-in_err-rec-clause-read g c =
+    is_read-get g.R.Reads _ _ c.in_err-rec.ensures.state c.in_err-rec.ensures.onward c.in_err-rec.ensures.cause.later
 
 pub returns-in_err-rec-clause-cause : goal.returns-in_err-rec-clause-cause
 returns-in_err-rec-clause-cause g c =
     cause_passed _ _ _ c.from_residual.result c.in_err-rec.field-0.0 (omega arith) c.in_err-rec.ensures.cause c.from_residual.ensures.1
+
+pub returns-clause-read : goal.returns-clause-read
+returns-clause-read g c = is_read-get g.R.Reads _ _ c.in_ok-rec.ensures.state c.in_ok-rec.ensures.onward c.in_ok-rec.ensures.cause.later
+
+pub returns-clause-cause : goal.returns-clause-cause
+returns-clause-cause g c = ok_cause _ _ _ _ (returns-clause-read g c).later
+
+pub returns-then-degree-self-clause-read : goal.returns-then-degree-self-clause-read
+returns-then-degree-self-clause-read g c =
+    is_read-get g.R.Reads _ _ c.in_ok-rec.ensures.state c.in_ok-rec.ensures.onward c.in_ok-rec.ensures.cause.later
+
+pub returns-then-degree-self-clause-cause : goal.returns-then-degree-self-clause-cause
+returns-then-degree-self-clause-cause g c = ok_cause _ _ _ _ (returns-then-degree-self-clause-read g c).later
+
+pub returns-then-kind-eq-FREE-clause-read : goal.returns-then-kind-eq-FREE-clause-read
+returns-then-kind-eq-FREE-clause-read g c =
+    is_read-get g.R.Reads _ _ c.in_ok-rec.ensures.state c.in_ok-rec.ensures.onward c.in_ok-rec.ensures.cause.later
+
+pub returns-then-kind-eq-FREE-clause-cause : goal.returns-then-kind-eq-FREE-clause-cause
+returns-then-kind-eq-FREE-clause-cause g c = ok_cause _ _ _ _ (returns-then-kind-eq-FREE-clause-read g c).later

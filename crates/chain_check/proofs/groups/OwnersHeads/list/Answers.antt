@@ -6,6 +6,8 @@ use Rattle.chain_check.specs.NodeChains.{IsDense}
 use Rattle.chain_check.proofs.GroupChainLaws.{found_is}
 use Rattle.record_lists.proofs.RecordLaws.{kind_read}
 use Rattle.record_lists.proofs.Causes.{cause_passed}
+use Rattle.record_lists.proofs.OnlyReads.{is_read-get, is_read-on}
+use Rattle.rec_bytes.proofs.Causes.{ok_cause}
 use Rattle.chain_check.proofs.groups.OwnersHeads.list.Goals as goal
 
 pub returns-then-byte-ne-DENSE-clause-told : goal.returns-then-byte-ne-DENSE-clause-told
@@ -26,26 +28,35 @@ returns-clause-told g c = λ tells.
     found_is records id (g.R.Reads.state c.get.new.self).records c.args.self.now.groups c.number-first.result c.in_ok-found.found
     (ap (λ s. s.records) c.in_ok-rec.ensures.state) c.requires.suits.groups c.requires.suits.few_groups first is (c.in_ok-found.ensures.told tells)
 
-pub returns-in_err-rec-clause-same : goal.returns-in_err-rec-clause-same
-returns-in_err-rec-clause-same g c = search rules
-
-pub returns-in_err-rec-clause-written : goal.returns-in_err-rec-clause-written
-returns-in_err-rec-clause-written g c = search rules
-
-pub returns-in_err-rec-clause-onward : goal.returns-in_err-rec-clause-onward
-returns-in_err-rec-clause-onward g c = search rules
+pub returns-in_err-rec-clause-read : goal.returns-in_err-rec-clause-read
+returns-in_err-rec-clause-read g c =
+    is_read-get g.R.Reads _ _ c.in_err-rec.ensures.state c.in_err-rec.ensures.onward c.in_err-rec.ensures.cause.later
 
 pub returns-in_err-rec-clause-cause : goal.returns-in_err-rec-clause-cause
 returns-in_err-rec-clause-cause g c =
     cause_passed _ _ _ c.from_residual.result c.in_err-rec.field-0.0 (omega arith) c.in_err-rec.ensures.cause c.from_residual.ensures.1
 
-pub returns-in_err-found-clause-same : goal.returns-in_err-found-clause-same
-returns-in_err-found-clause-same g c = search rules
-
-pub returns-in_err-found-clause-written : goal.returns-in_err-found-clause-written
-returns-in_err-found-clause-written g c = search rules
+pub returns-in_err-found-clause-read : goal.returns-in_err-found-clause-read
+returns-in_err-found-clause-read g c =
+    is_read-on g.R.Reads g.met.R.Reads.further_onward _ _ _ (is_read-get g.R.Reads _ _ c.in_ok-rec.ensures.state c.in_ok-rec.ensures.onward
+    c.in_ok-rec.ensures.cause.later) c.in_err-found.ensures.read
 
 pub returns-in_err-found-clause-cause : goal.returns-in_err-found-clause-cause
 returns-in_err-found-clause-cause g c =
     cause_passed _ _ _ c.from_residual-in_err-found.result c.in_err-found.field-0.0 c.in_ok-rec.ensures.cause.later
     c.in_err-found.ensures.cause c.from_residual-in_err-found.ensures.1
+
+pub returns-clause-read : goal.returns-clause-read
+returns-clause-read g c =
+    is_read-on g.R.Reads g.met.R.Reads.further_onward _ _ _ (is_read-get g.R.Reads _ _ c.in_ok-rec.ensures.state c.in_ok-rec.ensures.onward
+    c.in_ok-rec.ensures.cause.later) c.in_ok-found.ensures.read
+
+pub returns-clause-cause : goal.returns-clause-cause
+returns-clause-cause g c = ok_cause _ _ _ _ (returns-clause-read g c).later
+
+pub returns-then-byte-ne-DENSE-clause-read : goal.returns-then-byte-ne-DENSE-clause-read
+returns-then-byte-ne-DENSE-clause-read g c =
+    is_read-get g.R.Reads _ _ c.in_ok-rec.ensures.state c.in_ok-rec.ensures.onward c.in_ok-rec.ensures.cause.later
+
+pub returns-then-byte-ne-DENSE-clause-cause : goal.returns-then-byte-ne-DENSE-clause-cause
+returns-then-byte-ne-DENSE-clause-cause g c = ok_cause _ _ _ _ (returns-then-byte-ne-DENSE-clause-read g c).later

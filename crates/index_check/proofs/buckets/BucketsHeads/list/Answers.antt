@@ -35,15 +35,18 @@ returns-in-Some-clause-cause g c = ok_cause _ _ _ _ c.in_ok-ids.ensures.cause.la
 pub returns-in-None-clause-cause : goal.returns-in-None-clause-cause
 returns-in-None-clause-cause g c = ok_cause _ _ _ _ c.in_ok-ids.ensures.cause.later
 
-pub returns-in_err-ids-clause-same : goal.returns-in_err-ids-clause-same
-returns-in_err-ids-clause-same g c = search rules
-
-pub returns-in_err-ids-clause-written : goal.returns-in_err-ids-clause-written
-returns-in_err-ids-clause-written g c = search rules
-
-pub returns-in_err-ids-clause-onward : goal.returns-in_err-ids-clause-onward
-returns-in_err-ids-clause-onward g c = search rules
+pub returns-in_err-ids-clause-read : goal.returns-in_err-ids-clause-read
+returns-in_err-ids-clause-read g c =
+    c.in_err-ids.ensures.read
 
 pub returns-in_err-ids-clause-cause : goal.returns-in_err-ids-clause-cause
 returns-in_err-ids-clause-cause g c =
     cause_passed _ _ _ c.from_residual.result c.in_err-ids.field-0.0 (omega arith) c.in_err-ids.ensures.cause c.from_residual.ensures.1
+
+pub returns-in-Some-clause-read : goal.returns-in-Some-clause-read
+returns-in-Some-clause-read g c =
+    c.in_ok-ids.ensures.read
+
+pub returns-in-None-clause-read : goal.returns-in-None-clause-read
+returns-in-None-clause-read g c =
+    c.in_ok-ids.ensures.read

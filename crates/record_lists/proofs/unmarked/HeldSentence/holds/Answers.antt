@@ -1,8 +1,9 @@
-use Rattle.std.proofs.Common.{arith, ◌<◌, ◌∙◌, sym, rules}
+use Rattle.std.proofs.Common.{arith, ◌<◌, ◌∙◌, sym}
 use Rattle.store_rules.specs.Views.{high}
 use Rattle.store_rules.proofs.NumberLaws.{eq_true}
 use Rattle.record_lists.proofs.RecordLaws.{free_read, live_read}
 use Rattle.record_lists.proofs.Causes.{cause_passed}
+use Rattle.record_lists.proofs.OnlyReads.{is_read-get}
 use Rattle.record_lists.proofs.unmarked.HeldSentence.holds.Goals as goal
 
 pub returns-then-byte-eq-FREE-clause-told : goal.returns-then-byte-eq-FREE-clause-told
@@ -20,14 +21,9 @@ returns-else-byte-eq-FREE-clause-told g c = λ tells.
     let live = live_read records file c.args.id c.in_ok-rec.rec lt (c.in_ok-rec.ensures.got tells) (λ z. c.if-byte-eq-FREE.false (c.byte.ensures ∙ z)) in
     ((λ e _. e), (λ h. h live))
 
-pub returns-in_err-rec-clause-same : goal.returns-in_err-rec-clause-same
-returns-in_err-rec-clause-same g c = search rules
-
-pub returns-in_err-rec-clause-written : goal.returns-in_err-rec-clause-written
-returns-in_err-rec-clause-written g c = search rules
-
-pub returns-in_err-rec-clause-onward : goal.returns-in_err-rec-clause-onward
-returns-in_err-rec-clause-onward g c = search rules
+pub returns-in_err-rec-clause-read : goal.returns-in_err-rec-clause-read
+returns-in_err-rec-clause-read g c =
+    is_read-get g.R.Reads _ _ c.in_err-rec.ensures.state c.in_err-rec.ensures.onward c.in_err-rec.ensures.cause.later
 
 pub returns-in_err-rec-clause-cause : goal.returns-in_err-rec-clause-cause
 returns-in_err-rec-clause-cause g c =

@@ -6,6 +6,8 @@ use Rattle.store_rules.specs.Views.{Records, high}
 use Rattle.store_rules.proofs.NumberLaws.{eq_false, lt_true}
 use Rattle.store_check.proofs.DefinitionLaws.{key_named, label_named, named_keeps, other_keeps}
 use Rattle.record_lists.proofs.Causes.{cause_passed}
+use Rattle.record_lists.proofs.OnlyReads.{is_read-get}
+use Rattle.rec_bytes.proofs.Causes.{ok_cause}
 use Rattle.store_check.proofs.definitions.DefinedSentence.holds.Goals as goal
 
 pub returns-then-byte-ne-DEFINITION-clause-told : goal.returns-then-byte-ne-DEFINITION-clause-told
@@ -41,15 +43,31 @@ returns-else-label-names-clause-told g c = λ tells.
       (λ h. let b = label_named records c.args.id c.in_ok-rec.rec lt got (sym c.byte.ensures ∙ c.if-byte-ne-DEFINITION.false) h in lt_true c.number-label.result c.meta-names.result.high (omega arith)),
     )
 
-pub returns-in_err-rec-clause-same : goal.returns-in_err-rec-clause-same
-returns-in_err-rec-clause-same g c = search rules
-
-pub returns-in_err-rec-clause-written : goal.returns-in_err-rec-clause-written
-returns-in_err-rec-clause-written g c = search rules
-
-pub returns-in_err-rec-clause-onward : goal.returns-in_err-rec-clause-onward
-returns-in_err-rec-clause-onward g c = search rules
+pub returns-in_err-rec-clause-read : goal.returns-in_err-rec-clause-read
+returns-in_err-rec-clause-read g c =
+    is_read-get g.R.Reads _ _ c.in_err-rec.ensures.state c.in_err-rec.ensures.onward c.in_err-rec.ensures.cause.later
 
 pub returns-in_err-rec-clause-cause : goal.returns-in_err-rec-clause-cause
 returns-in_err-rec-clause-cause g c =
     cause_passed _ _ _ c.from_residual.result c.in_err-rec.field-0.0 (omega arith) c.in_err-rec.ensures.cause c.from_residual.ensures.1
+
+pub returns-else-label-names-clause-read : goal.returns-else-label-names-clause-read
+returns-else-label-names-clause-read g c =
+    is_read-get g.R.Reads _ _ c.in_ok-rec.ensures.state c.in_ok-rec.ensures.onward c.in_ok-rec.ensures.cause.later
+
+pub returns-else-label-names-clause-cause : goal.returns-else-label-names-clause-cause
+returns-else-label-names-clause-cause g c = ok_cause _ _ _ _ (returns-else-label-names-clause-read g c).later
+
+pub returns-then-byte-ne-DEFINITION-clause-read : goal.returns-then-byte-ne-DEFINITION-clause-read
+returns-then-byte-ne-DEFINITION-clause-read g c =
+    is_read-get g.R.Reads _ _ c.in_ok-rec.ensures.state c.in_ok-rec.ensures.onward c.in_ok-rec.ensures.cause.later
+
+pub returns-then-byte-ne-DEFINITION-clause-cause : goal.returns-then-byte-ne-DEFINITION-clause-cause
+returns-then-byte-ne-DEFINITION-clause-cause g c = ok_cause _ _ _ _ (returns-then-byte-ne-DEFINITION-clause-read g c).later
+
+pub returns-then-label-names-clause-read : goal.returns-then-label-names-clause-read
+returns-then-label-names-clause-read g c =
+    is_read-get g.R.Reads _ _ c.in_ok-rec.ensures.state c.in_ok-rec.ensures.onward c.in_ok-rec.ensures.cause.later
+
+pub returns-then-label-names-clause-cause : goal.returns-then-label-names-clause-cause
+returns-then-label-names-clause-cause g c = ok_cause _ _ _ _ (returns-then-label-names-clause-read g c).later

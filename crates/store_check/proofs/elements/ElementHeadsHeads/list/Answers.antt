@@ -7,6 +7,8 @@ use Rattle.store_rules.specs.PropertyChange.{property_from}
 use Rattle.store_check.proofs.PropertyLaws.{properties_one}
 use Rattle.record_lists.proofs.RecordLaws.{free_read, live_read}
 use Rattle.record_lists.proofs.Causes.{cause_passed}
+use Rattle.record_lists.proofs.OnlyReads.{is_read-get, is_read-on}
+use Rattle.rec_bytes.proofs.Causes.{ok_cause}
 use Rattle.store_check.proofs.elements.ElementHeadsHeads.list.Goals as goal
 
 pub property_list-requires-clause-mark : goal.property_list-requires-clause-mark
@@ -61,17 +63,34 @@ returns-in_err-ids-clause-cause g c =
     cause_passed _ _ _ c.from_residual-in_err-ids.result c.in_err-ids.field-0.0 c.in_ok-rec.ensures.cause.later c.in_err-ids.ensures.cause
     c.from_residual-in_err-ids.ensures.1
 
-pub returns-in_err-rec-clause-same : goal.returns-in_err-rec-clause-same
-returns-in_err-rec-clause-same g c = search rules
+pub returns-in_err-rec-clause-read : goal.returns-in_err-rec-clause-read
+returns-in_err-rec-clause-read g c =
+    is_read-get g.R.Reads _ _ c.in_err-rec.ensures.state c.in_err-rec.ensures.onward c.in_err-rec.ensures.cause.later
 
-pub returns-in_err-rec-clause-written : goal.returns-in_err-rec-clause-written
-returns-in_err-rec-clause-written g c = search rules
+pub returns-in_err-ids-clause-read : goal.returns-in_err-ids-clause-read
+returns-in_err-ids-clause-read g c =
+    is_read-on g.R.Reads g.met.R.Reads.further_onward _ _ _ (is_read-get g.R.Reads _ _ c.in_ok-rec.ensures.state c.in_ok-rec.ensures.onward
+    c.in_ok-rec.ensures.cause.later) c.in_err-ids.ensures.read
 
-pub returns-in_err-rec-clause-onward : goal.returns-in_err-rec-clause-onward
-returns-in_err-rec-clause-onward g c = search rules
+pub returns-then-byte-eq-FREE-clause-read : goal.returns-then-byte-eq-FREE-clause-read
+returns-then-byte-eq-FREE-clause-read g c =
+    is_read-get g.R.Reads _ _ c.in_ok-rec.ensures.state c.in_ok-rec.ensures.onward c.in_ok-rec.ensures.cause.later
 
-pub returns-in_err-ids-clause-same : goal.returns-in_err-ids-clause-same
-returns-in_err-ids-clause-same g c = search rules
+pub returns-then-byte-eq-FREE-clause-cause : goal.returns-then-byte-eq-FREE-clause-cause
+returns-then-byte-eq-FREE-clause-cause g c = ok_cause _ _ _ _ (returns-then-byte-eq-FREE-clause-read g c).later
 
-pub returns-in_err-ids-clause-written : goal.returns-in_err-ids-clause-written
-returns-in_err-ids-clause-written g c = search rules
+pub returns-in-None-clause-read : goal.returns-in-None-clause-read
+returns-in-None-clause-read g c =
+    is_read-on g.R.Reads g.met.R.Reads.further_onward _ _ _ (is_read-get g.R.Reads _ _ c.in_ok-rec.ensures.state c.in_ok-rec.ensures.onward
+    c.in_ok-rec.ensures.cause.later) c.property_list.ensures.read
+
+pub returns-in-None-clause-cause : goal.returns-in-None-clause-cause
+returns-in-None-clause-cause g c = ok_cause _ _ _ _ (returns-in-None-clause-read g c).later
+
+pub returns-in-Some-clause-read : goal.returns-in-Some-clause-read
+returns-in-Some-clause-read g c =
+    is_read-on g.R.Reads g.met.R.Reads.further_onward _ _ _ (is_read-get g.R.Reads _ _ c.in_ok-rec.ensures.state c.in_ok-rec.ensures.onward
+    c.in_ok-rec.ensures.cause.later) c.property_list.ensures.read
+
+pub returns-in-Some-clause-cause : goal.returns-in-Some-clause-cause
+returns-in-Some-clause-cause g c = ok_cause _ _ _ _ (returns-in-Some-clause-read g c).later

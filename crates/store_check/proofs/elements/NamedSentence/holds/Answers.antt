@@ -8,6 +8,8 @@ use Rattle.store_rules.proofs.NumberLaws.{eq_true, lt_true}
 use Rattle.store_rules.specs.Breaking.{label_of}
 use Rattle.record_lists.proofs.RecordLaws.{free_read, live_read}
 use Rattle.record_lists.proofs.Causes.{cause_passed}
+use Rattle.record_lists.proofs.OnlyReads.{is_read-get}
+use Rattle.rec_bytes.proofs.Causes.{ok_cause}
 use Rattle.store_check.proofs.elements.NamedSentence.holds.Goals as goal
 
 below : (a b : ℕ) → nat_lt a b ≡ true → a < b
@@ -33,15 +35,24 @@ returns-else-byte-eq-FREE-clause-told g c = λ tells.
       (λ h. let b = h (live_read records file c.args.id c.in_ok-rec.rec lt got (λ z. c.if-byte-eq-FREE.false (c.byte.ensures ∙ z))) in lt_true c.number.result c.meta.result.high (omega arith)),
     )
 
-pub returns-in_err-rec-clause-same : goal.returns-in_err-rec-clause-same
-returns-in_err-rec-clause-same g c = search rules
-
-pub returns-in_err-rec-clause-written : goal.returns-in_err-rec-clause-written
-returns-in_err-rec-clause-written g c = search rules
-
-pub returns-in_err-rec-clause-onward : goal.returns-in_err-rec-clause-onward
-returns-in_err-rec-clause-onward g c = search rules
+pub returns-in_err-rec-clause-read : goal.returns-in_err-rec-clause-read
+returns-in_err-rec-clause-read g c =
+    is_read-get g.R.Reads _ _ c.in_err-rec.ensures.state c.in_err-rec.ensures.onward c.in_err-rec.ensures.cause.later
 
 pub returns-in_err-rec-clause-cause : goal.returns-in_err-rec-clause-cause
 returns-in_err-rec-clause-cause g c =
     cause_passed _ _ _ c.from_residual.result c.in_err-rec.field-0.0 (omega arith) c.in_err-rec.ensures.cause c.from_residual.ensures.1
+
+pub returns-else-byte-eq-FREE-clause-read : goal.returns-else-byte-eq-FREE-clause-read
+returns-else-byte-eq-FREE-clause-read g c =
+    is_read-get g.R.Reads _ _ c.in_ok-rec.ensures.state c.in_ok-rec.ensures.onward c.in_ok-rec.ensures.cause.later
+
+pub returns-else-byte-eq-FREE-clause-cause : goal.returns-else-byte-eq-FREE-clause-cause
+returns-else-byte-eq-FREE-clause-cause g c = ok_cause _ _ _ _ (returns-else-byte-eq-FREE-clause-read g c).later
+
+pub returns-then-byte-eq-FREE-clause-read : goal.returns-then-byte-eq-FREE-clause-read
+returns-then-byte-eq-FREE-clause-read g c =
+    is_read-get g.R.Reads _ _ c.in_ok-rec.ensures.state c.in_ok-rec.ensures.onward c.in_ok-rec.ensures.cause.later
+
+pub returns-then-byte-eq-FREE-clause-cause : goal.returns-then-byte-eq-FREE-clause-cause
+returns-then-byte-eq-FREE-clause-cause g c = ok_cause _ _ _ _ (returns-then-byte-eq-FREE-clause-read g c).later

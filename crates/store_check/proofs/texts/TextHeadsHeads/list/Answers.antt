@@ -11,6 +11,8 @@ use Rattle.record_lists.proofs.RecordLaws.{kind_read}
 use Rattle.store_rules.proofs.PropertyHolds.{blocks_one}
 use Rattle.store_check.proofs.TextLaws.{IsIt, blocks_of, no_blocks, wrong_blocks}
 use Rattle.record_lists.proofs.Causes.{cause_passed}
+use Rattle.record_lists.proofs.OnlyReads.{is_read-get, is_read-on}
+use Rattle.rec_bytes.proofs.Causes.{ok_cause}
 use Rattle.store_check.proofs.texts.TextHeadsHeads.list.Goals as goal
 
 pub returns-then-byte-ne-TEXT_IN_BLOCKS-clause-told : goal.returns-then-byte-ne-TEXT_IN_BLOCKS-clause-told
@@ -51,7 +53,7 @@ returns-then-not-are_pieces-clause-told g c = λ tells.
     search (rules, c.in_ok-ids.ensures.found tells) in
     let it : IsIt records c.args.id ids = subst (λ f. IsLineIn block_line records (high records format.strings_file) f ids) first
     (subst (λ m. IsLineIn block_line records m c.number-first.result ids) c.requires.suits.blocks (subst (λ (r : Records). IsLineIn block_line r c.args.self.now.blocks c.number-first.result ids) read found)) in
-    let same = c.in_ok-ids.ensures.same ∙ read in
+    let same = c.in_ok-ids.ensures.read.records ∙ read in
     let lengths : c.deref-2.result.now ≡ map (block_size records) ids
     = c.deref-2.ensures.value ∙ c.in_ok-lengths.ensures.lengths tells ∙ ap (λ (r : Records). map (block_size r) c.deref.result.now) same
     ∙ ap (map (block_size records)) c.deref.ensures.value in
@@ -76,7 +78,7 @@ returns-clause-told g c = λ tells.
     search (rules, c.in_ok-ids.ensures.found tells) in
     let it : IsIt records c.args.id ids = subst (λ f. IsLineIn block_line records (high records format.strings_file) f ids) first
     (subst (λ m. IsLineIn block_line records m c.number-first.result ids) c.requires.suits.blocks (subst (λ (r : Records). IsLineIn block_line r c.args.self.now.blocks c.number-first.result ids) read found)) in
-    let same = c.in_ok-ids.ensures.same ∙ read in
+    let same = c.in_ok-ids.ensures.read.records ∙ read in
     let lengths : c.deref-2.result.now ≡ map (block_size records) ids
     = c.deref-2.ensures.value ∙ c.in_ok-lengths.ensures.lengths tells ∙ ap (λ (r : Records). map (block_size r) c.deref.result.now) same
     ∙ ap (map (block_size records)) c.deref.ensures.value in
@@ -86,31 +88,30 @@ returns-clause-told g c = λ tells.
     (subst (AreLengths (text_size records c.args.id)) lengths (subst (λ t. AreLengths t c.deref-2.result.now) text (c.are_pieces.ensures.0 yes))) in
     (long, list, (λ xs h. blocks_one records c.args.id xs ids h list))
 
-pub returns-in_err-ids-clause-onward : goal.returns-in_err-ids-clause-onward
-returns-in_err-ids-clause-onward g c =
-    g.met.R.Reads.further_onward _ _ _ c.in_ok-rec.ensures.onward c.in_err-ids.ensures.onward
+pub returns-in_err-ids-clause-read : goal.returns-in_err-ids-clause-read
+returns-in_err-ids-clause-read g c =
+    is_read-on g.R.Reads g.met.R.Reads.further_onward _ _ _ (is_read-get g.R.Reads _ _ c.in_ok-rec.ensures.state c.in_ok-rec.ensures.onward
+    c.in_ok-rec.ensures.cause.later) c.in_err-ids.ensures.read
 
-pub returns-in_default-clause-onward : goal.returns-in_default-clause-onward
-returns-in_default-clause-onward g c =
-    g.met.R.Reads.further_onward _ _ _ c.in_ok-rec.ensures.onward c.in_ok-ids.ensures.onward
+pub returns-in_default-clause-read : goal.returns-in_default-clause-read
+returns-in_default-clause-read g c =
+    is_read-on g.R.Reads g.met.R.Reads.further_onward _ _ _ (is_read-get g.R.Reads _ _ c.in_ok-rec.ensures.state c.in_ok-rec.ensures.onward
+    c.in_ok-rec.ensures.cause.later) c.in_ok-ids.ensures.read
 
-pub returns-in_err-lengths-clause-onward : goal.returns-in_err-lengths-clause-onward
-returns-in_err-lengths-clause-onward g c =
-    g.met.R.Reads.further_onward _ _ _
-    (g.met.R.Reads.further_onward _ _ _ c.in_ok-rec.ensures.onward c.in_ok-ids.ensures.onward)
-    c.in_err-lengths.ensures.onward
+pub returns-in_err-lengths-clause-read : goal.returns-in_err-lengths-clause-read
+returns-in_err-lengths-clause-read g c =
+    is_read-on g.R.Reads g.met.R.Reads.further_onward _ _ _ (is_read-on g.R.Reads g.met.R.Reads.further_onward _ _ _ (is_read-get g.R.Reads _ _
+    c.in_ok-rec.ensures.state c.in_ok-rec.ensures.onward c.in_ok-rec.ensures.cause.later) c.in_ok-ids.ensures.read) c.in_err-lengths.ensures.read
 
-pub returns-then-not-are_pieces-clause-onward : goal.returns-then-not-are_pieces-clause-onward
-returns-then-not-are_pieces-clause-onward g c =
-    g.met.R.Reads.further_onward _ _ _
-    (g.met.R.Reads.further_onward _ _ _ c.in_ok-rec.ensures.onward c.in_ok-ids.ensures.onward)
-    c.in_ok-lengths.ensures.onward
+pub returns-then-not-are_pieces-clause-read : goal.returns-then-not-are_pieces-clause-read
+returns-then-not-are_pieces-clause-read g c =
+    is_read-on g.R.Reads g.met.R.Reads.further_onward _ _ _ (is_read-on g.R.Reads g.met.R.Reads.further_onward _ _ _ (is_read-get g.R.Reads _ _
+    c.in_ok-rec.ensures.state c.in_ok-rec.ensures.onward c.in_ok-rec.ensures.cause.later) c.in_ok-ids.ensures.read) c.in_ok-lengths.ensures.read
 
-pub returns-clause-onward : goal.returns-clause-onward
-returns-clause-onward g c =
-    g.met.R.Reads.further_onward _ _ _
-    (g.met.R.Reads.further_onward _ _ _ c.in_ok-rec.ensures.onward c.in_ok-ids.ensures.onward)
-    c.in_ok-lengths.ensures.onward
+pub returns-clause-read : goal.returns-clause-read
+returns-clause-read g c =
+    is_read-on g.R.Reads g.met.R.Reads.further_onward _ _ _ (is_read-on g.R.Reads g.met.R.Reads.further_onward _ _ _ (is_read-get g.R.Reads _ _
+    c.in_ok-rec.ensures.state c.in_ok-rec.ensures.onward c.in_ok-rec.ensures.cause.later) c.in_ok-ids.ensures.read) c.in_ok-lengths.ensures.read
 
 pub returns-in_err-ids-clause-cause : goal.returns-in_err-ids-clause-cause
 returns-in_err-ids-clause-cause g c =
@@ -118,33 +119,32 @@ returns-in_err-ids-clause-cause g c =
     c.in_ok-rec.ensures.cause.later c.in_err-ids.ensures.cause
     c.from_residual-in_err-ids.ensures.1
 
-pub returns-in_err-rec-clause-same : goal.returns-in_err-rec-clause-same
-returns-in_err-rec-clause-same g c = search rules
-
-pub returns-in_err-rec-clause-written : goal.returns-in_err-rec-clause-written
-returns-in_err-rec-clause-written g c = search rules
-
-pub returns-in_err-rec-clause-onward : goal.returns-in_err-rec-clause-onward
-returns-in_err-rec-clause-onward g c = search rules
+pub returns-in_err-rec-clause-read : goal.returns-in_err-rec-clause-read
+returns-in_err-rec-clause-read g c =
+    is_read-get g.R.Reads _ _ c.in_err-rec.ensures.state c.in_err-rec.ensures.onward c.in_err-rec.ensures.cause.later
 
 pub returns-in_err-rec-clause-cause : goal.returns-in_err-rec-clause-cause
 returns-in_err-rec-clause-cause g c =
     cause_passed _ _ _ c.from_residual.result c.in_err-rec.field-0.0 (omega arith) c.in_err-rec.ensures.cause c.from_residual.ensures.1
-
-pub returns-in_err-ids-clause-same : goal.returns-in_err-ids-clause-same
-returns-in_err-ids-clause-same g c = search rules
-
-pub returns-in_err-ids-clause-written : goal.returns-in_err-ids-clause-written
-returns-in_err-ids-clause-written g c = search rules
-
-pub returns-in_err-lengths-clause-same : goal.returns-in_err-lengths-clause-same
-returns-in_err-lengths-clause-same g c = search rules
-
-pub returns-in_err-lengths-clause-written : goal.returns-in_err-lengths-clause-written
-returns-in_err-lengths-clause-written g c = search rules
 
 pub returns-in_err-lengths-clause-cause : goal.returns-in_err-lengths-clause-cause
 returns-in_err-lengths-clause-cause g c =
     cause_passed _ _ _ c.from_residual-in_err-lengths.result c.in_err-lengths.field-0.0
     (omega (arith, c.in_ok-rec.ensures.cause.later, c.in_ok-ids.ensures.cause.later))
     c.in_err-lengths.ensures.cause c.from_residual-in_err-lengths.ensures.1
+
+pub returns-then-byte-ne-TEXT_IN_BLOCKS-clause-read : goal.returns-then-byte-ne-TEXT_IN_BLOCKS-clause-read
+returns-then-byte-ne-TEXT_IN_BLOCKS-clause-read g c =
+    is_read-get g.R.Reads _ _ c.in_ok-rec.ensures.state c.in_ok-rec.ensures.onward c.in_ok-rec.ensures.cause.later
+
+pub returns-then-byte-ne-TEXT_IN_BLOCKS-clause-cause : goal.returns-then-byte-ne-TEXT_IN_BLOCKS-clause-cause
+returns-then-byte-ne-TEXT_IN_BLOCKS-clause-cause g c = ok_cause _ _ _ _ (returns-then-byte-ne-TEXT_IN_BLOCKS-clause-read g c).later
+
+pub returns-in_default-clause-cause : goal.returns-in_default-clause-cause
+returns-in_default-clause-cause g c = ok_cause _ _ _ _ (returns-in_default-clause-read g c).later
+
+pub returns-then-not-are_pieces-clause-cause : goal.returns-then-not-are_pieces-clause-cause
+returns-then-not-are_pieces-clause-cause g c = ok_cause _ _ _ _ (returns-then-not-are_pieces-clause-read g c).later
+
+pub returns-clause-cause : goal.returns-clause-cause
+returns-clause-cause g c = ok_cause _ _ _ _ (returns-clause-read g c).later
