@@ -8,7 +8,8 @@ use Rattle.std.proofs.lemmas.List.Sorted.{ranks_by, IsStrictWeakOrder-flip}
 use Rattle.plain_graph.specs.declared.value.Value.{Value}
 use Rattle.plain_graph.specs.declared.value.Value.TheVariants as values
 use Rattle.plain_graph.specs.Values.{value_cmp}
-use Rattle.traversal_run.specs.Kept.{row_ranks_below}
+use Rattle.traversal_run.specs.Kept.{number_ranks_below, row_ranks_below}
+use Rattle.traversal_run.specs.declared.kept.Numbered.{Numbered}
 use Rattle.traversal_run.specs.declared.kept.Ranked.{Ranked}
 
 -- one value is against another as that is not against it
@@ -51,3 +52,11 @@ value_cmp_total = record { antisymm = value_antisymm; trans = value_trans; congr
 pub ranks_order : (descending : Bool) → IsStrictWeakOrder (row_ranks_below descending)
 ranks_order false = ranks_by value_cmp_total (λ (r : Ranked). r.rank)
 ranks_order true = IsStrictWeakOrder-flip (λ (a b : Ranked). is_lt (value_cmp a.rank b.rank)) (ranks_by value_cmp_total (λ (r : Ranked). r.rank))
+
+-- and so do numbers
+abbrev number_of : Numbered → Value
+number_of n = values.Int n.rank
+
+pub numbers_order : (descending : Bool) → IsStrictWeakOrder (number_ranks_below descending)
+numbers_order false = ranks_by value_cmp_total number_of
+numbers_order true = IsStrictWeakOrder-flip (λ (a b : Numbered). is_lt (value_cmp (number_of a) (number_of b))) (ranks_by value_cmp_total number_of)

@@ -1,8 +1,11 @@
 -- Lists in order, and what is made of each of their elements.
-use Rattle.std.proofs.Common.{◌≡◌, Bool, true, false, cond, List, [], ◌∷◌, map, refl, ap, ◌∙◌}
+use Rattle.std.proofs.Common.{◌≡◌, Bool, true, false, cond, List, [], ◌∷◌, map, refl, sym, ap, ◌∙◌}
 use Rattle.plain_graph.specs.Meaning as meaning
 use Rattle.plain_graph.specs.Sorting.{placed, sorted}
-use Rattle.traversal_run.specs.Kept.{place_of, row_ranks_below}
+use Rattle.std.proofs.lemmas.Simd.{map-map}
+use Rattle.plain_graph.specs.declared.item.Item.TheVariants as items
+use Rattle.traversal_run.specs.Kept.{number_place, number_ranks_below, place_of, row_ranks_below}
+use Rattle.traversal_run.specs.declared.kept.Numbered.{Numbered}
 use Rattle.traversal_run.specs.declared.kept.Ranked.{Ranked}
 
 module _ {X Y : Type 0} (f : X → Y) (less : Y → Y → Bool) where
@@ -27,3 +30,12 @@ module _ {X Y : Type 0} (f : X → Y) (less : Y → Y → Bool) where
 pub places_sorted : (descending : Bool) (rows : List Ranked) → map place_of (sorted (row_ranks_below descending) rows) ≡ sorted (meaning.ranks_below descending)
     (map place_of rows)
 places_sorted descending rows = map-sorted place_of (meaning.ranks_below descending) rows
+
+-- the vertices with numbers that are put in order are the items of their places in order
+pub numbers_sorted : (descending : Bool) (rows : List Numbered) → map items.Vertex (map (λ (n : Numbered). n.id) (sorted (number_ranks_below descending) rows))
+    ≡ map (λ (r : meaning.Ranked). r.item) (sorted (meaning.ranks_below descending) (map number_place rows))
+numbers_sorted descending rows =
+    let ordered = sorted (number_ranks_below descending) rows in
+    map-map items.Vertex (λ (n : Numbered). n.id) ordered
+    ∙ sym (map-map (λ (r : meaning.Ranked). r.item) number_place ordered)
+    ∙ ap (map (λ (r : meaning.Ranked). r.item)) (map-sorted number_place (meaning.ranks_below descending) rows)

@@ -1,6 +1,6 @@
 -- The types that a hop names, and what its edges cost.
 use Rattle.std.specs.Prelude.{◌≡◌, ◌<◌, ℕ, ◌+◌, nat_eq, if◌then◌else◌, List, [], All}
-use Rattle.expand.specs.Costs.{met_count, type_count}
+use Rattle.expand.specs.Costs.{are_unknown, met_count, type_count}
 use Rattle.plain_graph.specs.Graph.{degree_in}
 use Rattle.plain_graph.specs.declared.item.Item.{Item}
 use Rattle.plain_graph.specs.declared.item.Item.TheVariants as items
@@ -17,14 +17,20 @@ pub record AreTypeNumbers (records : Records) (numbers : List ℕ)
   pub below : All (λ number. number < name_count records) numbers
   pub none : numbers ≡ [] → texts ≡ []
 
--- What a hop reads at a vertex, as `expand` does. A dense one costs a read, one for each type at it,
--- and one for each edge that the hop takes. A sparse one costs a read, and one for each edge at it.
-abbrev pub reads_at_vertex : Records → Hop → ℕ → ℕ
-reads_at_vertex records hop id =
+-- What a hop of known types reads at a vertex, as `expand` does. A dense one costs a read, one for
+-- each type at it, and one for each edge that the hop takes. A sparse one costs a read, and one for
+-- each edge at it.
+abbrev pub walk_reads : Records → Hop → ℕ → ℕ
+walk_reads records hop id =
     if nat_eq (kind_at records format.nodes_file id) format.dense
     then type_count (graph_of records) id
     + met_count (graph_of records) hop.direction hop.labels id + 1
     else degree_in (graph_of records) id + 1
+
+-- Of a hop whose types are no names of the store nothing is read.
+abbrev pub reads_at_vertex : Records → Hop → ℕ → ℕ
+reads_at_vertex records hop id =
+    if are_unknown records hop.labels then 0 else walk_reads records hop id
 
 -- and what it reads at an item: nothing at one that is no vertex
 abbrev pub hop_reads : Records → Hop → Item → ℕ

@@ -20,15 +20,23 @@ pub(crate) fn edge_item(alloc: Global, name: &[u8], row: &EdgeRow) -> Result<Sho
     Ok(Shown::edge(row.id, label, row.from, row.to))
 }
 
-/// The vertices at the other ends of edges at a vertex.
+/// The vertices at the other ends of edges at a vertex. They wait as numbers, and a single one takes
+/// no memory.
 pub(crate) fn end_items(alloc: Global, rows: &[EdgeRow], id: u32) -> Result<Waiting, AllocError>
     ensures { IfOk result (λ items. items ≡ map (end_item id) rows.now) }
 {
-    let mut items = Waiting::with_room(alloc, rows.len())?;
-    for row in rows {
-        items.push(Shown::vertex(other_end(row, id)))?;
+    if let [row] = rows {
+        return Ok(Waiting::one(alloc, Shown::vertex(other_end(row, id))));
     }
-    Ok(items)
+    let ends = ends_of(alloc, rows, id)?;
+    Ok(Waiting::of_vertices(alloc, ends))
+}
+
+/// Their identifiers.
+fn ends_of(alloc: Global, rows: &[EdgeRow], id: u32) -> Result<Vec<u32>, AllocError>
+    ensures { IfOk result (λ ends. ends.items ≡ map (other_end id) rows.now) }
+{
+    rows.iter().map(|row| other_end(row, id)).collect(alloc)
 }
 
 /// The vertex at the other end.

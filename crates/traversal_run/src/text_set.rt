@@ -1,4 +1,4 @@
-ghost use Rattle.std.specs.Prelude.{◌≡◌, ◌++◌, [], ◌∷◌, cond, nat_eq, not, IfOk, OnErr};
+ghost use Rattle.std.specs.Prelude.{◌≡◌, ◌++◌, [], ◌∷◌, cond, nat_eq, not, IfOk, OnErr, OnOk};
 ghost use Rattle.std.specs.List.{list_any};
 ghost use Rattle.std.specs.Cmp.Lexicographic.{pointwise};
 ghost use Rattle.plain_graph.specs.Meaning.{texts_once};
@@ -72,10 +72,29 @@ fn each_once(alloc: Global, texts: &[Text]) -> Result<Vec<Text>, AllocError>
     let mut set = TextSet::new(alloc);
     let mut distinct = Vec::new(alloc);
     for text in texts {
-        let bytes = Vec::from_slice(alloc, text.as_bytes())?;
-        if set.add(bytes)? {
-            distinct.push(text.copy(alloc)?)?;
+        if add_copy(alloc, &mut set, text)? {
+            push_copy(alloc, &mut distinct, text)?;
         }
     }
     Ok(distinct)
+}
+
+/// Adds a copy of the text, and tells whether it wasn't there.
+fn add_copy(alloc: Global, set: &mut TextSet, text: &Text) -> Result<bool, AllocError>
+    ensures is_new { IfOk result (λ is_new. is_new
+        ≡ not (list_any (pointwise nat_eq text.now) set.old)) }
+    ensures added { IfOk result (λ is_new. set.new
+        ≡ cond is_new (set.old ++ text.now ∷ []) set.old) }
+{
+    let bytes = Vec::from_slice(alloc, text.as_bytes())?;
+    set.add(bytes)
+}
+
+/// Puts a copy of the text after the others.
+fn push_copy(alloc: Global, texts: &mut Vec<Text>, text: &Text) -> Result<(), AllocError>
+    ensures { OnOk result (texts.new.items ≡ texts.old.items ++ text.now ∷ []) }
+{
+    let copy = text.copy(alloc)?;
+    texts.push(copy)?;
+    Ok(())
 }

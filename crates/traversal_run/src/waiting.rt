@@ -1,4 +1,6 @@
 ghost use Rattle.std.specs.Prelude.{◌≡◌, ◌++◌, [], ◌∷◌, true, IfNone, IfOk, IfSome, OnOk, length};
+ghost use Rattle.std.specs.Prelude.{map};
+ghost use Rattle.plain_graph.specs.declared.item.Item.TheVariants as items;
 ghost use Rattle.traversal_run.specs.Held.{elements_in};
 
 use crate::shown::Shown;
@@ -6,23 +8,26 @@ use std::alloc::{AllocError, Global};
 use std::collections::VecDeque;
 use std::marker::Model;
 
-/// Items that wait, the first one first. A single one is kept in place, with no memory of its own.
-/// Contracts see the list of items.
+/// Items that wait, the first one first: vertices by their identifiers, and then any items. A single
+/// item is kept in place, with no memory of its own. Contracts see the list of items.
 #[derive(Drop)]
 pub(crate) struct Waiting {
+    vertices: VecDeque<u32>,
     first: Option<Shown>,
     later: VecDeque<Shown>,
 }
 
 impl Model for Waiting {
-    ghost use Rattle.std.specs.Prelude.{List};
+    ghost use Rattle.std.specs.Prelude.{List, ◌++◌, map};
     ghost use Rattle.std.specs.List.{cons_option};
     ghost use Rattle.std.specs.VecDeque.{deque_items};
     ghost use Rattle.plain_graph.specs.declared.item.Item.{Item};
+    ghost use Rattle.plain_graph.specs.declared.item.Item.TheVariants as items;
 
     ghost Value = { List Item };
 
-    ghost view = { λ w. cons_option w.first (deque_items w.later) };
+    ghost view = { λ w. map items.Vertex (deque_items w.vertices)
+        ++ cons_option w.first (deque_items w.later) };
 }
 
 impl Waiting {
@@ -31,6 +36,7 @@ impl Waiting {
         ensures { result ≡ [] }
     {
         Waiting {
+            vertices: VecDeque::new(alloc),
             first: None,
             later: VecDeque::new(alloc),
         }
@@ -41,7 +47,22 @@ impl Waiting {
         ensures { IfOk result (λ waiting. waiting ≡ []) }
     {
         let later = VecDeque::with_capacity(alloc, count.saturating_sub(1))?;
-        Ok(Waiting { first: None, later })
+        Ok(Waiting {
+            vertices: VecDeque::new(alloc),
+            first: None,
+            later,
+        })
+    }
+
+    /// The vertices of these identifiers. It takes no memory of its own.
+    pub(crate) fn of_vertices(alloc: Global, ids: Vec<u32>) -> Waiting
+        ensures { result ≡ map items.Vertex ids.items }
+    {
+        Waiting {
+            vertices: VecDeque::from(ids),
+            first: None,
+            later: VecDeque::new(alloc),
+        }
     }
 
     /// This one item. It takes no memory.
@@ -49,6 +70,7 @@ impl Waiting {
         ensures { result ≡ item ∷ [] }
     {
         Waiting {
+            vertices: VecDeque::new(alloc),
             first: Some(item),
             later: VecDeque::new(alloc),
         }
@@ -59,6 +81,9 @@ impl Waiting {
         ensures some { IfSome result (λ item. self.old ≡ item ∷ self.new) }
         ensures none { IfNone result ((self.old ≡ []) × (self.new ≡ [])) }
     {
+        if let Some(id) = self.vertices.pop_front() {
+            return Some(Shown::vertex(id));
+        }
         match self.first.take() {
             Some(item) => Some(item),
             None => self.later.pop_front(),
@@ -81,7 +106,7 @@ impl Waiting {
     pub(crate) fn len(&self) -> usize
         ensures { result ≡ length self.now }
     {
-        self.later.len() + usize::from(self.first.is_some())
+        self.vertices.len() + usize::from(self.first.is_some()) + self.later.len()
     }
 
     /// How many of them are vertices or edges.
@@ -89,10 +114,11 @@ impl Waiting {
         ensures { result ≡ elements_in self.now }
     {
         let later = self.later.iter().filter(|item| item.is_element()).count();
-        match &self.first {
+        let items = match &self.first {
             Some(item) => later + usize::from(item.is_element()),
             None => later,
-        }
+        };
+        self.vertices.len() + items
     }
 
     /// Whether no item waits.
@@ -100,6 +126,6 @@ impl Waiting {
         ensures yes { result ≡ true → self.now ≡ [] }
         ensures no { self.now ≡ [] → result ≡ true }
     {
-        self.first.is_none() && self.later.is_empty()
+        self.len() == 0
     }
 }
