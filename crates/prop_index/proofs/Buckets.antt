@@ -12,7 +12,7 @@ use Rattle.store_rules.proofs.Members.{length-once_below}
 use Rattle.store_rules.proofs.OnceLaws.{once_walk}
 use Rattle.store_rules.proofs.ViewLaws.{kind_below}
 use Rattle.prop_index.specs.Gathering.{AreEntries}
-use Rattle.prop_index.specs.Heads.{BeginsRight, IsBucketOf, IsFoundBucket, IsHead, IsHeadPlace}
+use Rattle.prop_index.specs.Heads.{BeginsRight, IsBucketOf, IsFoundBucket, IsHead, IsHeadPlace, IsOpened}
 use Rattle.prop_index.specs.Leaving.{IsBucketChain}
 use Rattle.store_rules.proofs.ChainSteps.{after_in, before_in, first_before}
 use Rattle.prop_index.specs.declared.heads.Bucket.{Bucket}
@@ -51,8 +51,8 @@ chain-reread s z first xs same is = subst (λ (r : Records). IsBucketChain r fir
 pub head-reread : (s z : State) (bucket : Bucket) → SameButReads s z → IsHead s.records bucket → IsHead z.records bucket
 head-reread s z bucket same is = subst (λ (r : Records). IsHead r bucket) (sym (ap (λ (y : State). y.records) same)) is
 
-pub begins-reread : (s z : State) (bucket : Bucket) → SameButReads s z → BeginsRight s.records bucket → BeginsRight z.records bucket
-begins-reread s z bucket same is = subst (λ (r : Records). BeginsRight r bucket) (sym (ap (λ (y : State). y.records) same)) is
+pub opened-reread : (s z : State) (bucket : Bucket) → SameButReads s z → IsOpened s.records bucket → IsOpened z.records bucket
+opened-reread s z bucket same is = subst (λ (r : Records). IsOpened r bucket) (sym (ap (λ (y : State). y.records) same)) is
 
 -- the place of a first entry
 pub head-place : (records : Records) (d number : ℕ) (bucket : Bucket) → IsBucketOf records d number bucket → IsHeadPlace bucket.slot.place

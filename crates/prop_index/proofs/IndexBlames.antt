@@ -1,5 +1,5 @@
 -- What a search of the indexes blames, as a breach of a rule.
-use Rattle.std.proofs.Common.{◌≡◌, ◌≢◌, ◌⊎◌, ℕ, ◌+◌, ◌%◌, ◌<◌, ◌≤◌, List, [], ◌∷◌, ◌++◌, map, refl, sym, ap, ◌∙◌, subst, ⊎_elim, inl, inr, arith}
+use Rattle.std.proofs.Common.{◌≡◌, ◌≢◌, ◌⊎◌, ℕ, ◌+◌, ◌%◌, ◌<◌, ◌≤◌, List, [], ◌∷◌, ◌++◌, length, length-append, map, refl, sym, ap, ◌∙◌, subst, ⊎_elim, inl, inr, arith}
 use Rattle.std.specs.Prelude.{IfErr, Result, Ok, Err}
 use Rattle.std.specs.Result.{IsErrAnd}
 use Rattle.std.proofs.lemmas.List.{map-append}
@@ -118,9 +118,9 @@ heads_blames s d c id leads used low is (Damaged _) (OtherKind given other) =
 
 -- ---- the entries of a bucket
 
-pub entry_begins : (s : State) (number : ℕ) (bucket : Bucket) (met : IsBucketMet s.records number bucket)
+pub entry_begins : (s : State) (label key number : ℕ) (bucket : Bucket) (met : IsBucketMet s.records label key number bucket)
     → IsEntryAt s met.definition number 0 bucket.first (damage_of format.index_file bucket.slot.id 1)
-entry_begins s number bucket met =
+entry_begins s label key number bucket met =
     let first = bucket-first s.records met.definition number bucket met.is in
     let used = met.is.head.heads in
     record {
@@ -150,23 +150,6 @@ module _ (s : State) (d b count at : ℕ) (named : Damage) (h : IsEntryAt s d b 
 
   pub late_breaks : high s.records format.index_file ≤ count → BreaksAny s.records s.shape (damage_of format.index_file at 8)
   late_breaks late = inr (LateEntry d b count at (h.leads some) late)
-
-  -- a link to it that is followed for writing
-  pub link_blames : (holder : ℕ) → named ≡ damage_of format.index_file holder 1 → (bad : Damage)
-      → given.IsLinkDamage s (key_in format.index_file holder) format.index_file at bad → BreaksAny s.records s.shape bad
-  link_blames holder is _ (given.PastMark le) = inl (subst (Breaks s.records s.shape) is (h.past some le))
-  link_blames holder is _ (given.HighMark over) = inl (index_mark s over)
-
--- a link of an entry that is followed for writing
-pub beside_blames : (s : State) (x link : ℕ) → kind_at s.records format.index_file x ≡ format.indexed
-    → ((link ≡ next_entry s.records x) ⊎ (link ≡ previous_entry s.records x)) → link ≢ format.nil
-    → (bad : Damage) → given.IsLinkDamage s (key_in format.index_file x) format.index_file link bad → BreaksAny s.records s.shape bad
-beside_blames s x link used is some _ (given.PastMark le) =
-    inl (RecordRange format.index_file x refl (below s x format.indexed used indexed_some)
-    (λ fits. none_past (high s.records format.index_file) link le some
-    (⊎_elim (λ (e : link ≡ next_entry s.records x). subst (IsLow (high s.records format.index_file)) (sym e) (links.entry_next_low (high s.records) (index_rec s.records x) fits (byte s x format.indexed used indexed_some)))
-    (λ (e : link ≡ previous_entry s.records x). subst (IsLow (high s.records format.index_file)) (sym e) (links.entry_previous_low (high s.records) (index_rec s.records x) fits (byte s x format.indexed used indexed_some))) is)))
-beside_blames s x link used is some _ (given.HighMark over) = inl (index_mark s over)
 
 -- ---- the pairs of the definitions that were passed
 
@@ -212,20 +195,22 @@ pairs_end records at pairs h end = record {
 }
 
 -- The chain leads past definitions of other pairs.
-pub record AreOthersPast (records : Records) (label key at : ℕ) : Type 0 where
+pub record AreOthersPast (records : Records) (label key at count : ℕ) : Type 0 where
   pub passed : List ℕ
+  pub counted : length passed ≡ count
   pub past : IsPast (next_definition records) (first_definition records) passed at
   pub defined : (d : ℕ) → In d passed → kind_at records format.index_file d ≡ format.definition
   pub none : (d : ℕ) → In d passed → ¬ IsPair records label key d
 
-pub others_begin : (records : Records) (label key at : ℕ) → at ≡ first_definition records → AreOthersPast records label key at
-others_begin records label key at is = record { passed = []; past = sym is; defined = λ d i. absurd i; none = λ d i. absurd i }
+pub others_begin : (records : Records) (label key at : ℕ) → at ≡ first_definition records → AreOthersPast records label key at 0
+others_begin records label key at is = record { passed = []; counted = refl; past = sym is; defined = λ d i. absurd i; none = λ d i. absurd i }
 
-pub others_go_on : (records : Records) (label key at to : ℕ) → AreOthersPast records label key at → at ≢ format.nil
+pub others_go_on : (records : Records) (label key at to count : ℕ) → AreOthersPast records label key at count → at ≢ format.nil
     → kind_at records format.index_file at ≡ format.definition
-    → to ≡ next_definition records at → ¬ IsPair records label key at → AreOthersPast records label key to
-others_go_on records label key at to h some used is other = record {
+    → to ≡ next_definition records at → ¬ IsPair records label key at → AreOthersPast records label key to (count + 1)
+others_go_on records label key at to count h some used is other = record {
   passed = h.passed ++ at ∷ [];
+  counted = let n = h.counted in let k = length-append h.passed (at ∷ []) in omega (arith, n, k);
   past = past_on (next_definition records) (first_definition records) h.passed at to some is h.past;
   defined = λ d i. ⊎_elim (λ (j : In d h.passed). h.defined d j)
       (λ (j : In d (at ∷ [])). ⊎_elim (λ (e : d ≡ at). ap (kind_at records format.index_file) e ∙ used) (λ (k : ⊥). absurd k) j)
@@ -234,9 +219,11 @@ others_go_on records label key at to h some used is other = record {
       (λ (j : In d (at ∷ [])). ⊎_elim (λ (e : d ≡ at). other (subst (IsPair records label key) e pair)) (λ (k : ⊥). k) j) (in_parts d h.passed (at ∷ []) i);
 }
 
-pub others_end : (records : Records) (label key at : ℕ) → AreOthersPast records label key at → at ≡ format.nil → LeadsToNone records label key
-others_end records label key at h end = record {
+pub others_end : (records : Records) (label key at count : ℕ) → AreOthersPast records label key at count → count ≤ 16 → at ≡ format.nil
+    → LeadsToNone records label key
+others_end records label key at count h few end = record {
   definitions = h.passed;
+  few = let n = h.counted in omega (arith, n, few);
   walk = past_walk (next_definition records) (first_definition records) h.passed at end h.past;
   defined = h.defined;
   none = h.none;
@@ -254,12 +241,6 @@ read_fault_same s t id kind named same (Damaged _) (HighMark over) = HighMark
 read_fault_same s t id kind named same (Damaged _) (OtherKind low other) =
     OtherKind (subst (λ (z : State). id < high z.records format.index_file) same low)
     (subst (λ (z : State). kind_at z.records format.index_file id ≢ kind) same other)
-
-pub breaks_reread : (s t : State) (d : Damage) → SameButReads s t → BreaksAny s.records s.shape d → BreaksAny t.records t.shape d
-breaks_reread s t d same is = subst (λ (z : State). BreaksAny z.records z.shape d) (sym same) is
-
-pub breaks_before : (s t : State) (d : Damage) → SameButReads s t → BreaksAny t.records t.shape d → BreaksAny s.records s.shape d
-breaks_before s t d same is = subst (λ (z : State). BreaksAny z.records z.shape d) same is
 
 pub blames_reread : (s t : State) (fault : Fault) → SameButReads s t → BlamesBroken s.records s.shape fault → BlamesBroken t.records t.shape fault
 blames_reread s t fault same is = subst (λ (z : State). BlamesBroken z.records z.shape fault) (sym same) is
@@ -322,10 +303,6 @@ read_names s id kind named Disk is why = tt
 read_names s id kind named (Damaged _) is (LeadsNowhere le) = is
 read_names s id kind named (Damaged _) is (HighMark over) = inr (refl, refl)
 read_names s id kind named (Damaged _) is (OtherKind low other) = inl refl
-
-pub link_names : (s : State) (x link : ℕ) (bad : Damage) → given.IsLinkDamage s (key_in format.index_file x) format.index_file link bad → IsOfIndexes bad
-link_names s x link _ (given.PastMark le) = inl refl
-link_names s x link _ (given.HighMark over) = inr (refl, refl)
 
 pub take_names : (s : State) (fault : TakeFault) → IsTakeFault s format.index_file fault → TakeNamesIndexes fault
 take_names s (take.Full file live) why = tt

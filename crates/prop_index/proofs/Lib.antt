@@ -9,6 +9,7 @@ mod DefinitionAdded
 pub mod FillSteps
 mod DefinitionsStay
 mod EntryNodes
+mod EntrySpares
 mod FillTouches
 mod Found
 mod Gathers
@@ -25,6 +26,7 @@ mod ListKept
 mod LiveCounts
 mod Lookups
 mod Made
+pub mod IndexNamed
 mod MadeRules
 mod MakeFaults
 mod RecordFits
@@ -32,6 +34,7 @@ mod RecordsAdded
 mod Reread
 mod Searches
 mod Steps
+pub mod Sparing
 mod Unlinked
 mod Unwritten
 pub mod Values

@@ -9,8 +9,9 @@ use Rattle.rec_bytes.specs.declared.fault.Fault.{Fault}
 use Rattle.rec_bytes.specs.declared.fault.Fault.TheVariants as fault
 use Rattle.rec_bytes.specs.Fault as faults
 use Rattle.rec_bytes.specs.Format as format
-use Rattle.rec_bytes.specs.RecordFiles.{is_meta_file}
-use Rattle.rec_bytes.specs.Space.{SameButReads, State}
+use Rattle.rec_bytes.specs.RecordFiles.{is_meta_file, room_of}
+use Rattle.rec_bytes.specs.Space.{SameButReads, State, meta_of}
+use Rattle.id_freelist.specs.Taking.{IsRanged}
 use Rattle.rec_bytes.specs.declared.shape.Shape.{Shape}
 use Rattle.prop_index.specs.Blaming as blaming
 use Rattle.store_rules.specs.Chains.{In, IsWalk}
@@ -74,6 +75,9 @@ module _ (s : State) (store : IsIndexed s.records s.shape) where
 
   pub has_room : (file : ℕ) → is_meta_file file ≡ true → HasRoom s file
   has_room file is = let ranges : AreInRange s.records s.shape = store.store.ranges in (ranges.metas file is).high
+
+  pub has_range : IsRanged (meta_of s format.index_file) (room_of s.shape format.index_file)
+  has_range = let ranges : AreInRange s.records s.shape = store.store.ranges in let is = ranges.metas format.index_file refl in record { mark = is.high; first = is.free }
 
   -- a node in use can be read
   node_listed : (n : ℕ) → kind_at s.records format.nodes_file n ≢ format.free_kind → IsListedNode s n

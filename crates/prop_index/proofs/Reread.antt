@@ -42,3 +42,6 @@ kept_after s z same kept = subst KeepsStore (sym same) kept
 -- the definitions of indexes
 pub definitions_of : (s : Records) (wanted : Entries) (ix : AreIndexed s wanted) → AreDefinitions s ix.definitions
 definitions_of s wanted ix = record { walk = ix.walk; few = ix.few; defined = ix.defined }
+
+pub definitions_after : (s z : State) (ds : List ℕ) → SameButReads s z → AreDefinitions s.records ds → AreDefinitions z.records ds
+definitions_after s z ds same are = subst (λ (r : Records). AreDefinitions r ds) (sym (same_records s z same)) are

@@ -1,5 +1,5 @@
 -- The definition of a label and a key.
-use Rattle.std.specs.Prelude.{◌≡◌, ℕ, List, Option, Some, None}
+use Rattle.std.specs.Prelude.{◌≡◌, ℕ, ◌≤◌, List, length, Option, Some, None}
 use Rattle.rec_bytes.specs.declared.record.Rec.{Rec}
 use Rattle.rec_bytes.specs.Format as format
 use Rattle.store_rules.specs.Chains.{In, IsWalk}
@@ -29,6 +29,7 @@ pub record LeadsToNone (records : Records) (label key : ℕ) : Type 0 where
   pub walk : IsWalk (next_definition records) (first_definition records) definitions
   pub defined : (d : ℕ) → In d definitions
       → kind_at records format.index_file d ≡ format.definition
+  pub few : length definitions ≤ 16
   pub none : AreOfOthers records definitions label key
 
 abbrev pub IsDefined : Records → ℕ → ℕ → Rec → Option ℕ → Type 0

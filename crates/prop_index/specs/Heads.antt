@@ -53,12 +53,21 @@ IsBucketSought records definitions label key hash None = AreOfOthers records def
 IsBucketSought records definitions label key hash (Some bucket) =
     IsFoundBucket records definitions label key hash bucket
 
--- The bucket is that of this number, of a definition to which the chain leads.
-pub record IsBucketMet (records : Records) (number : ℕ) (bucket : Bucket) : Type 0 where
+-- The bucket is that of this number, of a definition of the label and the key, to which the chain
+-- leads.
+pub record IsBucketMet (records : Records) (label key number : ℕ) (bucket : Bucket)
+    : Type 0 where
   pub definition : ℕ
+  pub pair : IsPair records label key definition
   pub has : HasHead records definition number
   pub is : IsBucketOf records definition number bucket
 
-abbrev pub IfBucketMet : Records → ℕ → Option Bucket → Type 0
-IfBucketMet records number None = Unit {0}
-IfBucketMet records number (Some bucket) = IsBucketMet records number bucket
+abbrev pub IfBucketMet : Records → ℕ → ℕ → ℕ → Option Bucket → Type 0
+IfBucketMet records label key number None = Unit {0}
+IfBucketMet records label key number (Some bucket) = IsBucketMet records label key number bucket
+
+-- An entry can be put in front: the head is one and leads to none or to an entry.
+pub record IsOpened (records : Records) (bucket : Bucket) : Type 0 where
+  pub head : IsHead records bucket
+  pub begins : BeginsRight records bucket
+  pub place : IsHeadPlace bucket.slot.place

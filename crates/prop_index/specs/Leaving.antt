@@ -1,8 +1,12 @@
 -- An entry that is sought, and what becomes of the records when it is taken out.
-use Rattle.std.specs.Prelude.{◌≡◌, ℕ, List, Option, None, Some}
+use Rattle.std.specs.Prelude.{◌≡◌, ◌≢◌, ◌⊎◌, ℕ, List, Option, None, Some}
 use Rattle.rec_bytes.specs.Format as format
+use Rattle.rec_bytes.specs.Meta.{IsLinkBelow}
+use Rattle.rec_bytes.specs.Record.{field}
+use Rattle.rec_bytes.specs.Space.{State, meta_of}
 use Rattle.store_rules.specs.Chains.{In, IsChain}
-use Rattle.store_rules.specs.Indexes.{entry_hash, entry_node, index_rec, next_entry}
+use Rattle.store_rules.specs.IndexBreaking.{LeadsToEntry}
+use Rattle.store_rules.specs.Indexes.{entry_hash, entry_node, first_entry, index_rec, next_entry}
 use Rattle.store_rules.specs.Indexes.{previous_entry}
 use Rattle.store_rules.specs.IndexChange.{IsEntryGone}
 use Rattle.store_rules.specs.Views.{Records, kind_at}
@@ -36,6 +40,33 @@ pub record IsRowOf (records : Records) (xs : List ℕ) (content : Content) (row 
 pub record IsEntryRow (records : Records) (row : EntryRow) : Type 0 where
   pub rec_is : row.rec ≡ index_rec records row.id
   pub used : kind_at records format.index_file row.id ≡ format.indexed
+
+-- The bucket leads to the entry, and from it to this one.
+pub record IsEntryBefore (records : Records) (d b before x : ℕ) : Type 0 where
+  pub count : ℕ
+  pub leads : LeadsToEntry records d b count before
+  pub used : kind_at records format.index_file before ≡ format.indexed
+  pub next : next_entry records before ≡ x
+
+-- The bucket leads to the entry, from its head or from the entry before it.
+pub record IsLedTo (records : Records) (d b before x : ℕ) : Type 0 where
+  pub count : ℕ
+  pub leads : LeadsToEntry records d b count x
+  pub from : ((before ≡ format.nil) × (first_entry records d b ≡ x))
+      ⊎ IsEntryBefore records d b before x
+
+-- The entries beside one that is taken out are other entries, and the first free identifier can stand in
+-- the meta record.
+pub record IsBetween (s : State) (row : EntryRow) : Type 0 where
+  pub before : field 4 row.rec format.indexed_previous ≢ format.nil
+      → kind_at s.records format.index_file (field 4 row.rec format.indexed_previous)
+      ≡ format.indexed
+  pub after : field 4 row.rec format.indexed_next ≢ format.nil
+      → kind_at s.records format.index_file (field 4 row.rec format.indexed_next)
+      ≡ format.indexed
+  pub other : field 4 row.rec format.indexed_previous ≢ row.id
+  pub another : field 4 row.rec format.indexed_next ≢ row.id
+  pub free : IsLinkBelow (meta_of s format.index_file).free (meta_of s format.index_file).high
 
 -- so it is, or none of them does
 abbrev pub IsEntrySought : Records → List ℕ → Content → Option EntryRow → Type 0

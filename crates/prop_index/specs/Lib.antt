@@ -17,3 +17,5 @@ pub mod Reading
 pub mod Touching
 pub mod Unlinking
 pub mod Unwritten
+pub mod Naming
+pub mod Sparing

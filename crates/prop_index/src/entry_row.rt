@@ -7,9 +7,10 @@ pub(crate) struct Content {
     pub hash: u64,
 }
 
-/// An entry in use.
+/// An entry in use, with the one before it in its bucket, or `NIL`.
 #[derive(Clone, Copy)]
 pub(crate) struct EntryRow {
     pub id: u32,
     pub rec: Rec,
+    pub before: u32,
 }

@@ -5,11 +5,10 @@ ghost use Rattle.rec_bytes.specs.Record.{field};
 ghost use Rattle.prop_index.specs.Blaming.{NamesIndexes};
 ghost use Rattle.prop_index.specs.Finding.{IsDefined, IsFound};
 ghost use Rattle.store_rules.specs.IndexBreaking.{AreDefinitions};
-ghost use Rattle.prop_index.specs.Reading.{HasRoom};
-ghost use Rattle.rec_bytes.specs.Fault.{HasFaultCause, NotDamaged};
+ghost use Rattle.prop_index.specs.Naming.{BlamesMark};
+ghost use Rattle.rec_bytes.specs.Fault.{HasFaultCause};
 ghost use Rattle.prop_index.specs.Blaming.{BlamesBroken};
 ghost use Rattle.prop_store.specs.Reading.{ReadsAtMost};
-ghost use Rattle.rec_bytes.specs.Format.{index_file};
 
 use crate::reading::{damaged, out_of_range, record_at};
 use rec_bytes::{
@@ -35,8 +34,8 @@ pub(crate) fn find_definition<R: Reads>(
         → IfOk result (IsFound (R.state space.old).records ds label key) }
     ensures defined { R.tells
         → IfOk result (IsDefined (R.state space.old).records label key rec.new) }
-    ensures sound { R.tells → (ds : List ℕ) → AreDefinitions (R.state space.old).records ds
-        → HasRoom (R.state space.old) index_file → NotDamaged result }
+    ensures listed { R.tells → (ds : List ℕ) → AreDefinitions (R.state space.old).records ds
+        → IfErr result (BlamesMark (R.state space.old)) }
     ensures damaged { R.tells → IfErr result
         (BlamesBroken (R.state space.old).records (R.state space.old).shape) }
     ensures names { R.tells → IfErr result NamesIndexes }

@@ -5,10 +5,10 @@ ghost use Rattle.std.specs.Prelude.{length};
 ghost use Rattle.prop_index.specs.Blaming.{NamesIndexes};
 ghost use Rattle.prop_index.specs.Finding.{AreOfOthers, LeadsToNone};
 ghost use Rattle.prop_index.specs.Heads.{IfBucketMet, IsBucketOf, IsBucketSought, IsSlotOf};
-ghost use Rattle.prop_index.specs.Reading.{HasRoom};
+ghost use Rattle.prop_index.specs.Naming.{BlamesHead, BlamesIndex};
 ghost use Rattle.prop_index.specs.Blaming.{BlamesBroken};
 ghost use Rattle.prop_store.specs.Reading.{ReadsAtMost};
-ghost use Rattle.rec_bytes.specs.Fault.{HasFaultCause, NotDamaged};
+ghost use Rattle.rec_bytes.specs.Fault.{HasFaultCause};
 ghost use Rattle.rec_bytes.specs.Format as format;
 ghost use Rattle.rec_bytes.specs.Key.{IsKey};
 ghost use Rattle.store_rules.specs.Hashes.{bucket_of};
@@ -47,12 +47,9 @@ pub(crate) fn read_bucket<R: Reads>(
         → IfOk result (IsBucketOf (R.state space.old).records definition.now.id number) }
     ensures key { IfOk result (λ bucket. IsKey (key_in format.index_file bucket.slot.id)) }
     ensures place { IfOk result (λ bucket. bucket.slot.place + 4 ≤ 64) }
-    ensures sound { R.tells → definition.now.rec
+    ensures wrong { R.tells → definition.now.rec
         ≡ index_rec (R.state space.old).records definition.now.id
-        → HasRoom (R.state space.old) format.index_file
-        → kind_at (R.state space.old).records format.index_file
-        (heads_of (R.state space.old).records definition.now.id (number / 15)) ≡ format.heads
-        → NotDamaged result }
+        → IfErr result (BlamesHead (R.state space.old) definition.now.id (number / 15)) }
     ensures damaged { R.tells → definition.now.rec
         ≡ index_rec (R.state space.old).records definition.now.id
         → LeadsToDefinition (R.state space.old).records definition.now.id
@@ -97,12 +94,11 @@ pub(crate) fn find_bucket<R: Reads>(
     ensures found { R.tells → (wanted : Entries)
         → (ix : AreIndexed (R.state space.old).records wanted)
         → IfOk result (IsBucketSought (R.state space.old).records ix.definitions label key hash) }
-    ensures sound { R.tells → (wanted : Entries) → AreIndexed (R.state space.old).records wanted
-        → HasRoom (R.state space.old) format.index_file → NotDamaged result }
+    ensures wrong { R.tells → IfErr result (BlamesIndex (R.state space.old) label key) }
     ensures lacks { R.tells → IfOk result (λ found. IfNone found
         (LeadsToNone (R.state space.old).records label key)) }
     ensures met { R.tells → IfOk result
-        (IfBucketMet (R.state space.old).records (bucket_of hash)) }
+        (IfBucketMet (R.state space.old).records label key (bucket_of hash)) }
     ensures damaged { R.tells → IfErr result
         (BlamesBroken (R.state space.old).records (R.state space.old).shape) }
     ensures names { R.tells → IfErr result NamesIndexes }

@@ -17,13 +17,14 @@ mod hashing;
 mod heads;
 mod holding;
 mod leaving;
-mod link_test;
 mod linking;
 mod listing;
 mod looking;
 mod lookup_fault;
 mod make_fault;
 mod making;
+mod naming;
+mod opening;
 mod reading;
 mod unlinking;
 

@@ -12,6 +12,7 @@ ghost use Rattle.prop_index.specs.Entering.{IsIndexFull};
 ghost use Rattle.prop_index.specs.Heads.{BeginsRight, IsHead, IsHeadPlace};
 ghost use Rattle.prop_index.specs.Linking.{backed_entry, linked_entry};
 ghost use Rattle.prop_index.specs.Reading.{KeepsStore};
+ghost use Rattle.prop_index.specs.Sparing.{SparesDefinitions};
 ghost use Rattle.prop_index.specs.Touching.{
   TouchesFront,
   TouchesIndex,
@@ -20,7 +21,7 @@ ghost use Rattle.prop_index.specs.Touching.{
   some_id,
 };
 ghost use Rattle.prop_store.specs.Touching.{TouchesOnly};
-ghost use Rattle.rec_bytes.specs.Format.{free_kind, index_file, nodes_file};
+ghost use Rattle.rec_bytes.specs.Format.{free_kind, heads, index_file, nodes_file};
 ghost use Rattle.rec_bytes.specs.Key.{IsKey};
 ghost use Rattle.rec_bytes.specs.Space.{HasCause, SameButReads, meta_of};
 ghost use Rattle.store_rules.specs.IndexChange.{IsEntryMade};
@@ -65,6 +66,10 @@ pub(crate) fn put_in_front<S: Space>(
         → kind_at (S.state space.old).records index_file bucket.first ≢ free_kind)
         → 0 < bucket.slot.place
         → IfOk result (PutsInUse (S.state space.old) (S.state space.new)) }
+    ensures spares { S.tells
+        → kind_at (S.state space.old).records index_file bucket.slot.id ≡ heads
+        → BeginsRight (S.state space.old).records bucket → 0 < bucket.slot.place
+        → OnOk result (SparesDefinitions (S.state space.old) (S.state space.new)) }
     ensures still { S.tells → IfErr result
         (BlamesBroken (S.state space.new).records (S.state space.new).shape) }
     ensures unwritten { IfErr result (IfTakeBlames

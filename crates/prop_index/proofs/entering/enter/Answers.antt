@@ -1,4 +1,4 @@
-use Rattle.std.specs.Prelude.{Result, Ok, Err, OnOk}
+use Rattle.std.specs.Prelude.{Option, IfSome, Result, Ok, Err, OnOk}
 use Rattle.std.proofs.Common.{ℕ, ◌<◌, ap, sym, ◌∙◌, subst, arith}
 use Rattle.id_freelist.specs.TakeFault as takes
 use Rattle.id_freelist.specs.declared.take_fault.TakeFault.{TakeFault}
@@ -6,21 +6,23 @@ use Rattle.rec_bytes.specs.Format as format
 use Rattle.rec_bytes.specs.Space.{SameButReads, State, meta_of}
 use Rattle.store_rules.specs.Indexes.{AreIndexed, Entry, with_entry}
 use Rattle.store_rules.specs.Views.{Records, high}
-use Rattle.prop_store.proofs.ReadCounts.{reads_same}
 use Rattle.prop_index.specs.Blaming.{TakeBlamesBroken}
 use Rattle.prop_index.specs.Entering.{IsIndexFull, IsMade, IsNotFull, entry_of}
-use Rattle.store_rules.specs.Hashes.{bucket_of}
 use Rattle.store_rules.specs.Graph.{indexes_of}
 use Rattle.prop_index.specs.Blaming.{TakeNamesIndexes}
 use Rattle.prop_index.proofs.DefinitionsStay.{same_graph}
-use Rattle.prop_index.specs.Heads.{IfBucketMet, IsBucketSought}
-use Rattle.prop_index.proofs.IndexBlames.{blames_reread, entry_begins, entry_reread, if_err, of_read_names, read_blames, take_before}
+use Rattle.prop_index.specs.Heads.{IsBucketSought, IsOpened}
+use Rattle.prop_index.proofs.IndexBlames.{blames_reread, if_err, of_read_names, read_blames, take_before}
+use Rattle.prop_index.specs.declared.heads.Bucket.{Bucket}
+use Rattle.prop_index.proofs.ListKept.{any_list}
+use Rattle.prop_index.proofs.IndexNamed.{can_ranged, list_definition, taken_definition, taken_definition_before}
+use Rattle.prop_index.proofs.Sparing.{spares_none, spares_then}
 use Rattle.prop_index.specs.declared.entry_row.Content.{Content}
-use Rattle.prop_index.proofs.Buckets.{begins-reread, head-place, head-reread}
-use Rattle.prop_index.proofs.Changed.{entered_in, unlisted_entered, first_right}
+use Rattle.prop_index.proofs.Buckets.{head-reread, opened-reread}
+use Rattle.prop_index.proofs.Changed.{entered_in, unlisted_entered}
 use Rattle.prop_index.proofs.Reread.{can_after, kept_after, same_records, same_then}
 use Rattle.prop_index.proofs.IndexFull.{full-reread, read-full, read-sound, read-unfull}
-use Rattle.prop_index.proofs.IndexTouches.{index_read, index_then}
+use Rattle.prop_index.proofs.IndexTouches.{index_same, index_then}
 use Rattle.prop_index.proofs.Unwritten.{blame_then, read_unwritten}
 use Rattle.prop_index.proofs.entering.enter.Goals as goal
 
@@ -31,8 +33,8 @@ on_ok (Err e) f p = tt
 pub returns-in-Ok-None-clause-entered : goal.returns-in-Ok-None-clause-entered
 returns-in-Ok-None-clause-entered g c tells wanted free ix can unwanted =
     let s = g.S.Reads.state c.args.space.now in
-    let now = g.S.Reads.state c.find_bucket.new.space in
-    let same : SameButReads s now = reads_same 18 s now c.find_bucket.ensures.at_most in
+    let now = g.S.Reads.state c.open_bucket.new.space in
+    let same : SameButReads s now = c.open_bucket.ensures.same in
     let content : Content = record { node = c.args.node; hash = c.hash_of-hash.result } in
     let none = subst (IsBucketSought s.records ix.definitions c.args.label c.args.key c.hash_of-hash.result) c.in-Ok-None.field-0-is
     (c.in-Ok-None.ensures.found tells wanted ix) in
@@ -43,9 +45,9 @@ returns-in-Ok-None-clause-entered g c tells wanted free ix can unwanted =
 pub returns-clause-entered : goal.returns-clause-entered
 returns-clause-entered g c tells wanted free ix can unwanted =
     let s = g.S.Reads.state c.args.space.now in
-    let now = g.S.Reads.state c.find_bucket.new.space in
+    let now = g.S.Reads.state c.open_bucket.new.space in
     let t = g.S.Reads.state c.add_entry.new.space in
-    let same : SameButReads s now = reads_same 18 s now c.find_bucket.ensures.at_most in
+    let same : SameButReads s now = c.open_bucket.ensures.same in
     let records = same_records s now same in
     let content : Content = record { node = c.args.node; hash = c.hash_of-hash.result } in
     let bucket = c.in-Ok-Some.bucket in
@@ -59,51 +61,19 @@ returns-clause-entered g c tells wanted free ix can unwanted =
     (c.add_entry.ensures.made tells free (head-reread s now bucket same found.is.head) (can_after s now free same can))
 
 pub returns-in-Ok-None-clause-touches : goal.returns-in-Ok-None-clause-touches
-returns-in-Ok-None-clause-touches g c = index_read 3 18 _ _ c.find_bucket.ensures.at_most
+returns-in-Ok-None-clause-touches g c = index_same 3 _ _ c.open_bucket.ensures.same
 
 pub returns-in-Err-clause-touches : goal.returns-in-Err-clause-touches
-returns-in-Err-clause-touches g c = index_read 3 18 _ _ c.find_bucket.ensures.at_most
+returns-in-Err-clause-touches g c = index_same 3 _ _ c.open_bucket.ensures.same
 
 pub returns-clause-touches : goal.returns-clause-touches
-returns-clause-touches g c = index_then 0 3 3 _ _ _ (omega arith) (index_read 0 18 _ _ c.find_bucket.ensures.at_most) c.add_entry.ensures.touches
+returns-clause-touches g c = index_then 0 3 3 _ _ _ (omega arith) (index_same 0 _ _ c.open_bucket.ensures.same) c.add_entry.ensures.touches
 
 pub returns-in-Ok-None-clause-keeps : goal.returns-in-Ok-None-clause-keeps
 returns-in-Ok-None-clause-keeps g c tells wanted ix store known =
     let s = g.S.Reads.state c.args.space.now in
-    let now = g.S.Reads.state c.find_bucket.new.space in
-    kept_after s now (reads_same 18 s now c.find_bucket.ensures.at_most) store
-
-pub returns-clause-keeps : goal.returns-clause-keeps
-returns-clause-keeps g c tells wanted ix store known =
-    let s = g.S.Reads.state c.args.space.now in
-    let now = g.S.Reads.state c.find_bucket.new.space in
-    let same : SameButReads s now = reads_same 18 s now c.find_bucket.ensures.at_most in
-    let content : Content = record { node = c.args.node; hash = c.hash_of-hash.result } in
-    let bucket = c.in-Ok-Some.bucket in
-    let found = subst (IsBucketSought s.records ix.definitions c.args.label c.args.key c.hash_of-hash.result) c.in-Ok-Some.field-0-is
-    (c.in-Ok-Some.ensures.found tells wanted ix) in
-    c.add_entry.ensures.keeps tells (kept_after s now same store) (head-reread s now bucket same found.is.head)
-    (begins-reread s now bucket same (first_right s.records wanted ix c.args.label c.args.key content bucket found))
-    (head-place s.records found.definition _ bucket found.is)
-    (subst (λ (r : Records). c.args.node < high r format.nodes_file) (sym (same_records s now same)) known)
-
-pub returns-in-Err-clause-sound : goal.returns-in-Err-clause-sound
-returns-in-Err-clause-sound g c tells wanted free ix can =
-    subst (λ (f : TakeFault). takes.NotDamaged {T = ℕ} (Err f)) (sym c.of_read.ensures)
-    (read-sound c.in-Err.fault (c.in-Err.ensures.sound tells wanted ix can.mark))
-
-pub returns-clause-sound : goal.returns-clause-sound
-returns-clause-sound g c tells wanted free ix can =
-    let s = g.S.Reads.state c.args.space.now in
-    let now = g.S.Reads.state c.find_bucket.new.space in
-    let same : SameButReads s now = reads_same 18 s now c.find_bucket.ensures.at_most in
-    let content : Content = record { node = c.args.node; hash = c.hash_of-hash.result } in
-    let bucket = c.in-Ok-Some.bucket in
-    let found = subst (IsBucketSought s.records ix.definitions c.args.label c.args.key c.hash_of-hash.result) c.in-Ok-Some.field-0-is
-    (c.in-Ok-Some.ensures.found tells wanted ix) in
-    c.add_entry.ensures.sound tells free
-    (begins-reread s now bucket same (first_right s.records wanted ix c.args.label c.args.key content bucket found))
-    (can_after s now free same can)
+    let now = g.S.Reads.state c.open_bucket.new.space in
+    kept_after s now (c.open_bucket.ensures.same) store
 
 pub returns-in-Err-clause-full : goal.returns-in-Err-clause-full
 returns-in-Err-clause-full g c tells =
@@ -113,8 +83,8 @@ returns-in-Err-clause-full g c tells =
 pub returns-clause-full : goal.returns-clause-full
 returns-clause-full g c tells =
     let s = g.S.Reads.state c.args.space.now in
-    let now = g.S.Reads.state c.find_bucket.new.space in
-    full-reread s now c.add_entry.result (reads_same 18 s now c.find_bucket.ensures.at_most) (c.add_entry.ensures.full tells)
+    let now = g.S.Reads.state c.open_bucket.new.space in
+    full-reread s now c.add_entry.result (c.open_bucket.ensures.same) (c.add_entry.ensures.full tells)
 
 pub returns-in-Err-clause-damaged : goal.returns-in-Err-clause-damaged
 returns-in-Err-clause-damaged g c tells =
@@ -124,42 +94,23 @@ returns-in-Err-clause-damaged g c tells =
 pub returns-in-Err-clause-still : goal.returns-in-Err-clause-still
 returns-in-Err-clause-still g c tells =
     let s = g.S.Reads.state c.args.space.now in
-    let now = g.S.Reads.state c.find_bucket.new.space in
+    let now = g.S.Reads.state c.open_bucket.new.space in
     subst (TakeBlamesBroken now.records now.shape) (sym c.of_read.ensures)
-    (read_blames now.records now.shape c.in-Err.fault (blames_reread s now c.in-Err.fault (reads_same 18 s now c.find_bucket.ensures.at_most) (c.in-Err.ensures.damaged tells)))
-
-pub returns-clause-damaged : goal.returns-clause-damaged
-returns-clause-damaged g c tells =
-    let s = g.S.Reads.state c.args.space.now in
-    let now = g.S.Reads.state c.find_bucket.new.space in
-    let same : SameButReads s now = reads_same 18 s now c.find_bucket.ensures.at_most in
-    let number = bucket_of c.hash_of-hash.result in
-    let met = subst (IfBucketMet s.records number) c.in-Ok-Some.field-0-is (c.in-Ok-Some.ensures.met tells) in
-    if_err c.add_entry.result (λ fault is. take_before s now fault same is)
-    (c.add_entry.ensures.damaged tells met.definition number (entry_reread s now met.definition number 0 c.in-Ok-Some.bucket.first _ same (entry_begins s number c.in-Ok-Some.bucket met)))
-
-pub returns-clause-still : goal.returns-clause-still
-returns-clause-still g c tells =
-    let s = g.S.Reads.state c.args.space.now in
-    let now = g.S.Reads.state c.find_bucket.new.space in
-    let same : SameButReads s now = reads_same 18 s now c.find_bucket.ensures.at_most in
-    let number = bucket_of c.hash_of-hash.result in
-    let met = subst (IfBucketMet s.records number) c.in-Ok-Some.field-0-is (c.in-Ok-Some.ensures.met tells) in
-    c.add_entry.ensures.still tells met.definition number (entry_reread s now met.definition number 0 c.in-Ok-Some.bucket.first _ same (entry_begins s number c.in-Ok-Some.bucket met))
+    (read_blames now.records now.shape c.in-Err.fault (blames_reread s now c.in-Err.fault (c.open_bucket.ensures.same) (c.in-Err.ensures.damaged tells)))
 
 pub returns-in-Ok-None-clause-counted : goal.returns-in-Ok-None-clause-counted
 returns-in-Ok-None-clause-counted g c tells =
     let s = g.S.Reads.state c.args.space.now in
-    let now = g.S.Reads.state c.find_bucket.new.space in
-    let same : SameButReads s now = reads_same 18 s now c.find_bucket.ensures.at_most in
+    let now = g.S.Reads.state c.open_bucket.new.space in
+    let same : SameButReads s now = c.open_bucket.ensures.same in
     let live = ap (λ (z : State). (meta_of z format.index_file).live) same in
     omega (arith, live)
 
 pub returns-clause-counted : goal.returns-clause-counted
 returns-clause-counted g c tells =
     let s = g.S.Reads.state c.args.space.now in
-    let now = g.S.Reads.state c.find_bucket.new.space in
-    let same : SameButReads s now = reads_same 18 s now c.find_bucket.ensures.at_most in
+    let now = g.S.Reads.state c.open_bucket.new.space in
+    let same : SameButReads s now = c.open_bucket.ensures.same in
     let live = ap (λ (z : State). (meta_of z format.index_file).live) same in
     on_ok c.add_entry.result (λ more. omega (arith, live, more)) (c.add_entry.ensures.counted tells)
 
@@ -172,26 +123,12 @@ returns-clause-names g c tells = c.add_entry.ensures.names tells
 pub returns-in-Ok-None-clause-graph : goal.returns-in-Ok-None-clause-graph
 returns-in-Ok-None-clause-graph g c tells wanted free ix can =
     let s = g.S.Reads.state c.args.space.now in
-    let now = g.S.Reads.state c.find_bucket.new.space in
-    same_graph s.records now.records (same_records s now (reads_same 18 s now c.find_bucket.ensures.at_most))
-
-pub returns-clause-graph : goal.returns-clause-graph
-returns-clause-graph g c tells wanted free ix can =
-    let s = g.S.Reads.state c.args.space.now in
-    let now = g.S.Reads.state c.find_bucket.new.space in
-    let same : SameButReads s now = reads_same 18 s now c.find_bucket.ensures.at_most in
-    let content : Content = record { node = c.args.node; hash = c.hash_of-hash.result } in
-    let bucket = c.in-Ok-Some.bucket in
-    let found = subst (IsBucketSought s.records ix.definitions c.args.label c.args.key c.hash_of-hash.result) c.in-Ok-Some.field-0-is
-    (c.in-Ok-Some.ensures.found tells wanted ix) in
-    on_ok c.add_entry.result (λ stays. stays ∙ ap indexes_of (same_records s now same))
-    (c.add_entry.ensures.graph tells free (head-reread s now bucket same found.is.head)
-    (begins-reread s now bucket same (first_right s.records wanted ix c.args.label c.args.key content bucket found))
-    (head-place s.records found.definition _ bucket found.is) (can_after s now free same can))
+    let now = g.S.Reads.state c.open_bucket.new.space in
+    same_graph s.records now.records (same_records s now (c.open_bucket.ensures.same))
 
 pub returns-in-Err-clause-crowded : goal.returns-in-Err-clause-crowded
 returns-in-Err-clause-crowded g c tells =
-    let now = g.S.Reads.state c.find_bucket.new.space in
+    let now = g.S.Reads.state c.open_bucket.new.space in
     subst (IsIndexFull now) (sym c.of_read.ensures) (read-full now c.in-Err.fault)
 
 pub returns-clause-crowded : goal.returns-clause-crowded
@@ -201,8 +138,7 @@ pub returns-in-Err-clause-unlisted : goal.returns-in-Err-clause-unlisted
 returns-in-Err-clause-unlisted g c tells wanted ix none = subst IsNotFull (sym c.of_read.ensures) (read-unfull c.in-Err.fault)
 
 pub returns-in-Ok-None-clause-unchanged : goal.returns-in-Ok-None-clause-unchanged
-returns-in-Ok-None-clause-unchanged g c tells wanted ix none = reads_same 18 (g.S.Reads.state c.args.space.now) (g.S.Reads.state c.find_bucket.new.space)
-    c.find_bucket.ensures.at_most
+returns-in-Ok-None-clause-unchanged g c tells wanted ix none = c.open_bucket.ensures.same
 
 pub returns-clause-unchanged : goal.returns-clause-unchanged
 returns-clause-unchanged g c tells wanted ix none =
@@ -218,17 +154,81 @@ returns-clause-unlisted g c tells wanted ix none =
     (c.in-Ok-Some.ensures.found tells wanted ix) in
     absurd (none found.definition found.listed found.pair)
 
+pub returns-clause-keeps : goal.returns-clause-keeps
+returns-clause-keeps g c tells wanted ix store known =
+    let s = g.S.Reads.state c.args.space.now in
+    let now = g.S.Reads.state c.open_bucket.new.space in
+    let same : SameButReads s now = c.open_bucket.ensures.same in
+    let opened = subst (λ (o : Option Bucket). IfSome o (IsOpened s.records)) c.in-Ok-Some.field-0-is (c.in-Ok-Some.ensures.opened tells) in
+    c.add_entry.ensures.keeps tells (kept_after s now same store) (opened-reread s now c.in-Ok-Some.bucket same opened)
+    (subst (λ (r : Records). c.args.node < high r format.nodes_file) (sym (same_records s now same)) known)
+
+pub returns-in-Err-clause-sound : goal.returns-in-Err-clause-sound
+returns-in-Err-clause-sound g c tells wanted free ix can =
+    subst (λ (f : TakeFault). takes.NotDamaged {T = ℕ} (Err f)) (sym c.of_read.ensures)
+    (read-sound c.in-Err.fault (c.in-Err.ensures.sound tells wanted ix (can_ranged (g.S.Reads.state c.args.space.now) free can)))
+
+pub returns-clause-sound : goal.returns-clause-sound
+returns-clause-sound g c tells wanted free ix can =
+    let s = g.S.Reads.state c.args.space.now in
+    let now = g.S.Reads.state c.open_bucket.new.space in
+    c.add_entry.ensures.sound tells free (can_after s now free c.open_bucket.ensures.same can)
+
+pub returns-clause-damaged : goal.returns-clause-damaged
+returns-clause-damaged g c tells =
+    let s = g.S.Reads.state c.args.space.now in
+    let now = g.S.Reads.state c.open_bucket.new.space in
+    if_err c.add_entry.result (λ fault is. take_before s now fault c.open_bucket.ensures.same (any_list now fault is)) (c.add_entry.ensures.damaged tells)
+
+pub returns-clause-still : goal.returns-clause-still
+returns-clause-still g c tells = c.add_entry.ensures.still tells
+
+pub returns-clause-graph : goal.returns-clause-graph
+returns-clause-graph g c tells wanted free ix can =
+    let s = g.S.Reads.state c.args.space.now in
+    let now = g.S.Reads.state c.open_bucket.new.space in
+    let same : SameButReads s now = c.open_bucket.ensures.same in
+    let opened = subst (λ (o : Option Bucket). IfSome o (IsOpened s.records)) c.in-Ok-Some.field-0-is (c.in-Ok-Some.ensures.opened tells) in
+    on_ok c.add_entry.result (λ stays. stays ∙ ap indexes_of (same_records s now same))
+    (c.add_entry.ensures.graph tells free (opened-reread s now c.in-Ok-Some.bucket same opened) (can_after s now free same can))
+
+-- ---- what is named
+
+pub returns-in-Err-clause-listed : goal.returns-in-Err-clause-listed
+returns-in-Err-clause-listed g c tells ds are =
+    taken_definition (g.S.Reads.state c.args.space.now) c.in-Err.fault c.of_read.result c.of_read.ensures (c.in-Err.ensures.named tells ds are)
+
+pub returns-clause-listed : goal.returns-clause-listed
+returns-clause-listed g c tells ds are =
+    let s = g.S.Reads.state c.args.space.now in
+    let now = g.S.Reads.state c.open_bucket.new.space in
+    if_err c.add_entry.result (λ fault is. taken_definition_before s now fault c.open_bucket.ensures.same (list_definition now fault is))
+    (c.add_entry.ensures.damaged tells)
+
+pub returns-in-Ok-None-clause-spares : goal.returns-in-Ok-None-clause-spares
+returns-in-Ok-None-clause-spares g c tells = spares_none _ _ c.open_bucket.ensures.same
+
+pub returns-clause-spares : goal.returns-clause-spares
+returns-clause-spares g c tells =
+    let s = g.S.Reads.state c.args.space.now in
+    let now = g.S.Reads.state c.open_bucket.new.space in
+    let t = g.S.Reads.state c.add_entry.new.space in
+    let same : SameButReads s now = c.open_bucket.ensures.same in
+    let opened = subst (λ (o : Option Bucket). IfSome o (IsOpened s.records)) c.in-Ok-Some.field-0-is (c.in-Ok-Some.ensures.opened tells) in
+    on_ok c.add_entry.result (spares_then s now t (spares_none s now same))
+    (c.add_entry.ensures.spares tells (opened-reread s now c.in-Ok-Some.bucket same opened))
+
 -- ---- what is written where a record is blamed
 
 pub returns-in-Err-clause-unwritten : goal.returns-in-Err-clause-unwritten
 returns-in-Err-clause-unwritten g c =
     let s = g.S.Reads.state c.args.space.now in
-    let now = g.S.Reads.state c.find_bucket.new.space in
-    read_unwritten c.of_read.result c.in-Err.fault _ c.of_read.ensures (reads_same 18 s now c.find_bucket.ensures.at_most)
+    let now = g.S.Reads.state c.open_bucket.new.space in
+    read_unwritten c.of_read.result c.in-Err.fault _ c.of_read.ensures (c.open_bucket.ensures.same)
 
 pub returns-clause-unwritten : goal.returns-clause-unwritten
 returns-clause-unwritten g c =
     let s = g.S.Reads.state c.args.space.now in
-    let now = g.S.Reads.state c.find_bucket.new.space in
+    let now = g.S.Reads.state c.open_bucket.new.space in
     let t = g.S.Reads.state c.add_entry.new.space in
-    blame_then c.add_entry.result _ _ (same_then s now t (reads_same 18 s now c.find_bucket.ensures.at_most)) c.add_entry.ensures.unwritten
+    blame_then c.add_entry.result _ _ (same_then s now t (c.open_bucket.ensures.same)) c.add_entry.ensures.unwritten

@@ -1,6 +1,5 @@
 use Rattle.std.proofs.Common.{inl, inr, refl, ◌≡◌, ◌+◌, ℕ, length, arith, ap, sym, ◌∙◌, subst}
 use Rattle.std.proofs.lemmas.Bool.{true≢false}
-use Rattle.std.proofs.lemmas.Result.{err_from_is_err_and}
 use Rattle.rec_bytes.specs.declared.record.Rec.{Rec}
 use Rattle.rec_bytes.specs.Format as format
 use Rattle.rec_bytes.specs.Record.{field}
@@ -9,12 +8,13 @@ use Rattle.store_rules.specs.Indexes.{first_definition, index_rec, next_definiti
 use Rattle.store_rules.specs.Views.{Records, kind_at}
 use Rattle.prop_store.proofs.ReadCounts.{reads_more, reads_one, reads_records, reads_same, reads_then}
 use Rattle.prop_index.specs.Blaming.{BlamesBroken}
-use Rattle.prop_store.proofs.Exits.{same_has, space_exit, space_has}
+use Rattle.prop_store.proofs.Exits.{same_has, space_has}
 use Rattle.prop_index.specs.Blaming.{IsDefinitionAt, IsOfIndexes, NamesIndexes}
 use Rattle.prop_index.specs.Finding.{IsPair}
+use Rattle.prop_index.specs.Naming.{BlamesMark}
+use Rattle.prop_index.proofs.IndexNamed.{definition_marks}
 use Rattle.prop_index.proofs.IndexBlames.{definition_begins, definition_blames, definition_goes_on, many_break}
 use Rattle.prop_index.proofs.IndexBlames.{others_begin, others_end, others_go_on, read_fault_same, read_names}
-use Rattle.prop_index.proofs.Reread.{room_after}
 use Rattle.prop_index.proofs.Searches.{search_begins, search_here, search_on, search_over}
 use Rattle.prop_store.proofs.Causes.{cause_passed, later_on, space_cause_passed}
 use Rattle.rec_bytes.proofs.Causes.{never_ok, ok_cause}
@@ -46,14 +46,14 @@ loop-init g c =
 pub returns-then-at-clause-found : goal.returns-then-at-clause-found
 returns-then-at-clause-found g c tells ds are = search_over _ _ ds c.loop.at c.loop.counter (c.loop.invariant.told tells ds are) c.if-at.true
 
-pub returns-in_err-record_at-clause-sound : goal.returns-in_err-record_at-clause-sound
-returns-in_err-record_at-clause-sound g c tells ds are room =
+pub returns-in_err-record_at-clause-listed : goal.returns-in_err-record_at-clause-listed
+returns-in_err-record_at-clause-listed g c tells ds are =
     let s = g.R.Reads.state c.args.space.now in
     let now = g.R.Reads.state c.loop.space in
     let here = search_here _ _ ds c.loop.at c.loop.counter (c.loop.invariant.told tells ds are) c.if-at.false in
-    let p = err_from_is_err_and c.from_residual-in_err-record_at.result c.from_residual-in_err-record_at.ensures.1 in
-    rw (p.1, p.2) (c.in_err-record_at.ensures.sound tells (room_after s now format.index_file (reads_same _ s now c.loop.invariant.reads) room)
-    (ap (λ (r : Records). kind_at r format.index_file c.loop.at) (reads_records _ s now c.loop.invariant.reads) ∙ are.defined c.loop.at here.0))
+    same_has (BlamesMark s) c.from_residual-in_err-record_at.result c.in_err-record_at.field-0.0 c.from_residual-in_err-record_at.ensures.1
+    (definition_marks s ds are c.loop.at here.0 c.loop.named c.in_err-record_at.field-0.0
+    (read_fault_same s now c.loop.at format.definition c.loop.named (reads_same _ s now c.loop.invariant.reads) c.in_err-record_at.field-0.0 (c.in_err-record_at.ensures.damaged tells)))
 
 pub returns-in_err-record_at-clause-cost : goal.returns-in_err-record_at-clause-cost
 returns-in_err-record_at-clause-cost g c tells ds are =
@@ -107,7 +107,7 @@ loop-preserved g c =
       named_is = subst IsOfIndexes (sym c.out_of_range-named.ensures) (inl refl);
       at = λ tells. subst (IsDefinitionAt s c.number-at-in-loop.result) (sym c.out_of_range-named.ensures)
           (definition_goes_on s c.loop.at c.loop.named (c.loop.invariant.at tells) c.if-at.false c.number-at-in-loop.result (used tells) (next_is tells));
-      others = λ tells. others_go_on s.records c.args.label c.args.key c.loop.at c.number-at-in-loop.result (c.loop.invariant.others tells) c.if-at.false
+      others = λ tells. others_go_on s.records c.args.label c.args.key c.loop.at c.number-at-in-loop.result c.loop.counter (c.loop.invariant.others tells) c.if-at.false
           (used tells) (next_is tells) (other tells);
       reads = reads_then _ 1 _ _ _ _ (omega arith) c.loop.invariant.reads c.in_ok-record_at.ensures.at_most;
       onward = g.met.R.Reads.further_onward _ _ _ c.loop.invariant.onward c.in_ok-record_at.ensures.onward;
@@ -145,11 +145,11 @@ returns-then-at-2-clause-names g c tells = subst NamesIndexes (sym c.damaged.ens
 
 pub returns-then-at-clause-defined : goal.returns-then-at-clause-defined
 returns-then-at-clause-defined g c tells = others_end (g.R.Reads.state c.args.space.now).records c.args.label c.args.key c.loop.at
-    (c.loop.invariant.others tells) c.if-at.true
+    c.loop.counter (c.loop.invariant.others tells) (omega arith) c.if-at.true
 
 pub returns-clause-defined : goal.returns-clause-defined
-returns-clause-defined g c tells = others_end (g.R.Reads.state c.args.space.now).records c.args.label c.args.key c.loop.at (c.loop.invariant.others tells)
-    c.if-at-2.false
+returns-clause-defined g c tells = others_end (g.R.Reads.state c.args.space.now).records c.args.label c.args.key c.loop.at c.loop.counter (c.loop.invariant.others tells)
+    (omega arith) c.if-at-2.false
 
 pub returns-in_err-record_at-clause-onward : goal.returns-in_err-record_at-clause-onward
 returns-in_err-record_at-clause-onward g c =
@@ -192,8 +192,9 @@ returns-in_err-get_into-clause-damaged g c tells =
 pub returns-in_err-get_into-clause-names : goal.returns-in_err-get_into-clause-names
 returns-in_err-get_into-clause-names g c tells = space_has NamesIndexes tt tt c.from_residual.result c.in_err-get_into.field-0.0 c.from_residual.ensures.1
 
-pub returns-in_err-get_into-clause-sound : goal.returns-in_err-get_into-clause-sound
-returns-in_err-get_into-clause-sound g c tells ds are room = space_exit c.from_residual.result c.in_err-get_into.field-0.0 c.from_residual.ensures.1
+pub returns-in_err-get_into-clause-listed : goal.returns-in_err-get_into-clause-listed
+returns-in_err-get_into-clause-listed g c tells ds are =
+    space_has (BlamesMark (g.R.Reads.state c.args.space.now)) tt tt c.from_residual.result c.in_err-get_into.field-0.0 c.from_residual.ensures.1
 
 pub returns-in_err-get_into-clause-onward : goal.returns-in_err-get_into-clause-onward
 returns-in_err-get_into-clause-onward g c = c.get_into.ensures.onward
@@ -235,7 +236,7 @@ returns-then-is_of_pair-clause-cause g c = ok_cause _ _ _ _ (later_on c.loop.inv
 pub returns-then-at-2-clause-cause : goal.returns-then-at-2-clause-cause
 returns-then-at-2-clause-cause g c = told_cause _ _ _ _ c.loop.invariant.later c.damaged.ensures
 
-pub returns-then-at-2-clause-sound : goal.returns-then-at-2-clause-sound
-returns-then-at-2-clause-sound g c tells ds are room =
+pub returns-then-at-2-clause-listed : goal.returns-then-at-2-clause-listed
+returns-then-at-2-clause-listed g c tells ds are =
     let here = search_here _ _ ds c.loop.at c.loop.counter (c.loop.invariant.told tells ds are) c.if-at-2.true in
     absurd (omega (arith, here.1, are.few))

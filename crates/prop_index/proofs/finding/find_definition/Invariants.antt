@@ -16,7 +16,7 @@ invariant-loop g l =
           → IsSearched (next_definition old.records) (IsPair old.records l.fn.label l.fn.key) ds l.at l.counter;
       named_is : IsOfIndexes l.named;
       at : g.R.Reads.tells → IsDefinitionAt old l.at l.named;
-      others : g.R.Reads.tells → AreOthersPast old.records l.fn.label l.fn.key l.at;
+      others : g.R.Reads.tells → AreOthersPast old.records l.fn.label l.fn.key l.at l.counter;
       reads : ReadsAtMost (1 + l.counter) old (g.R.Reads.state l.space);
       onward : g.R.Reads.onward l.fn.space l.space;
       later : g.R.Reads.faults l.fn.space ≤ g.R.Reads.faults l.space;

@@ -1,9 +1,7 @@
 use Rattle.std.proofs.Common.{◌≡◌, ◌/◌, ◌+◌, ◌<◌, ℕ, length, ap, sym, ◌∙◌, subst, arith, rules}
-use Rattle.std.proofs.lemmas.Result.{err_from_is_err_and}
 use Rattle.rec_bytes.specs.Format as format
 use Rattle.rec_bytes.specs.Space.{SameButReads}
-use Rattle.store_rules.specs.Chains.{In}
-use Rattle.store_rules.specs.Indexes.{heads_of, index_rec}
+use Rattle.store_rules.specs.Indexes.{index_rec}
 use Rattle.store_rules.specs.Views.{Records, kind_at}
 use Rattle.prop_store.proofs.ReadCounts.{reads_more, reads_same, reads_then}
 use Rattle.store_rules.specs.IndexBreaking.{LeadsToDefinition}
@@ -13,8 +11,10 @@ use Rattle.prop_index.proofs.IndexBlames.{blames_before}
 use Rattle.prop_index.specs.Blaming.{NamesIndexes}
 use Rattle.prop_index.specs.Finding.{IsDefined, IsFound}
 use Rattle.prop_index.specs.Heads.{IsBucketOf}
+use Rattle.prop_index.specs.Naming.{BlamesIndex}
+use Rattle.prop_index.proofs.IndexNamed.{head_before, head_index, mark_index}
 use Rattle.prop_index.specs.declared.finding.Definition.{Definition}
-use Rattle.prop_index.proofs.Reread.{definitions_of, room_after, same_records}
+use Rattle.prop_index.proofs.Reread.{definitions_of, same_records}
 use Rattle.prop_store.proofs.Causes.{cause_passed}
 use Rattle.rec_bytes.proofs.Causes.{never_ok, ok_cause}
 use Rattle.prop_index.proofs.heads.find_bucket.Goals as goal
@@ -42,22 +42,26 @@ returns-clause-found g c tells wanted ix =
           (c.in_ok-bucket.ensures.is tells rec_is);
     }
 
-pub returns-in_err-bucket-clause-sound : goal.returns-in_err-bucket-clause-sound
-returns-in_err-bucket-clause-sound g c tells wanted ix room =
+pub returns-in_err-id-clause-wrong : goal.returns-in_err-id-clause-wrong
+returns-in_err-id-clause-wrong g c tells =
+    let s = g.R.Reads.state c.args.space.now in
+    same_has (BlamesIndex s c.args.label c.args.key) c.from_residual.result c.in_err-id.field-0.0 c.from_residual.ensures.1
+    (mark_index s c.args.label c.args.key c.in_err-id.field-0.0 (c.in_err-id.ensures.listed tells))
+
+pub returns-in_err-bucket-clause-wrong : goal.returns-in_err-bucket-clause-wrong
+returns-in_err-bucket-clause-wrong g c tells =
     let s = g.R.Reads.state c.args.space.now in
     let now = g.R.Reads.state c.find_definition.new.space in
     let same : SameButReads s now = reads_same 17 s now c.in_ok-id.ensures.at_most in
     let records = same_records s now same in
     let definition : Definition = record { id = c.in-Some.id; rec = c.find_definition.new.rec } in
     let pair = subst (IsDefined s.records c.args.label c.args.key c.find_definition.new.rec) c.in-Some.is (c.in_ok-id.ensures.defined tells) in
-    let listed : In definition.id ix.definitions = subst (IsFound s.records ix.definitions c.args.label c.args.key) c.in-Some.is
-    (c.in_ok-id.ensures.found tells ix.definitions (definitions_of s.records wanted ix)) in
+    let fault = c.in_err-bucket.field-0.0 in
     let low = c.bucket_of.ensures.low in
-    let heads : kind_at now.records format.index_file (heads_of now.records definition.id (c.bucket_of.result / 15)) ≡ format.heads
-    = ap (λ (r : Records). kind_at r format.index_file (heads_of r definition.id (c.bucket_of.result / 15))) records
-    ∙ ix.heads definition.id (c.bucket_of.result / 15) listed (omega (arith, low)) in
-    let p = err_from_is_err_and c.from_residual-in_err-bucket.result c.from_residual-in_err-bucket.ensures.1 in
-    rw (p.1, p.2) (c.in_err-bucket.ensures.sound tells (pair.rec_is ∙ ap (λ (r : Records). index_rec r definition.id) (sym records)) (room_after s now format.index_file same room) heads)
+    same_has (BlamesIndex s c.args.label c.args.key) c.from_residual-in_err-bucket.result fault c.from_residual-in_err-bucket.ensures.1
+    (head_index s c.args.label c.args.key definition.id (c.bucket_of.result / 15) definition.rec pair (omega (arith, low)) fault
+    (head_before s now definition.id (c.bucket_of.result / 15) fault same
+    (c.in_err-bucket.ensures.wrong tells (pair.rec_is ∙ ap (λ (r : Records). index_rec r definition.id) (sym records)))))
 
 pub returns-in_err-bucket-clause-at_most : goal.returns-in_err-bucket-clause-at_most
 returns-in_err-bucket-clause-at_most g c = reads_then 17 1 18 _ _ _ (omega arith) c.in_ok-id.ensures.at_most c.in_err-bucket.ensures.at_most
@@ -129,6 +133,7 @@ returns-clause-met g c tells =
     let low = c.bucket_of.ensures.low in
     record {
       definition = definition.id;
+      pair = pair.pair;
       has = record {
         leads = pair.leads;
         defined = pair.used;

@@ -6,7 +6,9 @@ use Rattle.store_rules.specs.Indexes.{heads_of}
 use Rattle.prop_index.specs.Blaming.{BlamesBroken}
 use Rattle.prop_store.proofs.Exits.{same_has}
 use Rattle.prop_index.specs.Blaming.{IsOfIndexes, NamesIndexes}
+use Rattle.prop_index.specs.Naming.{BlamesHead}
 use Rattle.prop_index.specs.Reading.{IsReadFault}
+use Rattle.prop_index.proofs.IndexNamed.{heads_fault}
 use Rattle.prop_index.proofs.IndexBlames.{heads_blames, read_names}
 use Rattle.rec_bytes.proofs.Causes.{never_ok, ok_cause}
 use Rattle.prop_store.proofs.Causes.{cause_passed}
@@ -21,6 +23,17 @@ returns-in_err-record_at-clause-damaged g c tells rec_is leads used =
     = c.slot_of-slot.ensures.is.id_is ∙ ap (λ (r : Rec). field 4 r (format.definition_heads + 4 * (c.args.number / 15))) rec_is in
     same_has (BlamesBroken s.records s.shape) c.from_residual.result fault c.from_residual.ensures.1
     (heads_blames s d (c.args.number / 15) c.slot_of-slot.result.id leads used (omega arith) id_is fault
+    (subst (λ named. IsReadFault s c.slot_of-slot.result.id format.heads named fault) c.out_of_range.ensures (c.in_err-record_at.ensures.damaged tells)))
+
+pub returns-in_err-record_at-clause-wrong : goal.returns-in_err-record_at-clause-wrong
+returns-in_err-record_at-clause-wrong g c tells rec_is =
+    let s = g.R.Reads.state c.args.space.now in
+    let d = c.args.definition.now.id in
+    let fault = c.in_err-record_at.field-0.0 in
+    let id_is : c.slot_of-slot.result.id ≡ heads_of s.records d (c.args.number / 15)
+    = c.slot_of-slot.ensures.is.id_is ∙ ap (λ (r : Rec). field 4 r (format.definition_heads + 4 * (c.args.number / 15))) rec_is in
+    same_has (BlamesHead s d (c.args.number / 15)) c.from_residual.result fault c.from_residual.ensures.1
+    (heads_fault s d (c.args.number / 15) c.slot_of-slot.result.id id_is fault
     (subst (λ named. IsReadFault s c.slot_of-slot.result.id format.heads named fault) c.out_of_range.ensures (c.in_err-record_at.ensures.damaged tells)))
 
 pub returns-in_err-record_at-clause-names : goal.returns-in_err-record_at-clause-names

@@ -1,14 +1,12 @@
 use Rattle.std.proofs.Common.{◌≡◌, ◌≢◌, ◌⊎◌, ◌∙◌, Option, Some, List, refl, ap, sym, subst, ◌-◌, ◌<◌, ℕ, arith, inl, inr, ⊎_elim, rules}
-use Rattle.rec_bytes.specs.declared.damage.Damage.{Damage}
-use Rattle.rec_bytes.specs.declared.fault.Fault.TheVariants.{Damaged}
 use Rattle.rec_bytes.specs.Fault.{damage_of}
 use Rattle.rec_bytes.specs.Space.{SameButReads, State, meta_of}
-use Rattle.store_rules.specs.Breaking.{BreaksAny}
-use Rattle.prop_index.specs.Blaming.{BlamesBroken}
-use Rattle.prop_store.specs.GivenOut.{IsLinkDamage}
-use Rattle.prop_store.proofs.Exits.{same_has, space_exit, space_has}
-use Rattle.prop_index.specs.Blaming.{IsEntryAt, IsOfIndexes, NamesIndexes}
-use Rattle.prop_index.proofs.IndexBlames.{beside_blames, blames_reread, breaks_before, link_names}
+use Rattle.rec_bytes.specs.Meta.{IsLinkBelow}
+use Rattle.prop_store.proofs.Exits.{same_has, space_has}
+use Rattle.prop_index.specs.Naming.{BlamesBucket}
+use Rattle.prop_index.proofs.EntrySpares.{gone_spares}
+use Rattle.prop_index.proofs.Sparing.{spares_none, spares_then}
+use Rattle.prop_index.specs.Blaming.{NamesIndexes}
 use Rattle.std.specs.Prelude.{IfSome}
 use Rattle.rec_bytes.specs.declared.record.Rec.{Rec}
 use Rattle.rec_bytes.specs.Format as format
@@ -24,7 +22,7 @@ use Rattle.prop_index.specs.declared.entry_row.Content.{Content}
 use Rattle.prop_index.specs.declared.heads.Bucket.{Bucket}
 use Rattle.prop_index.proofs.DefinitionsStay.{gone_graph, same_graph}
 use Rattle.prop_index.proofs.FillSteps.{elsewhere_of}
-use Rattle.prop_index.specs.Leaving.{IsBucketChain, IsDropped, IsEntryRow, IsEntrySought, NoneThere, OneGone}
+use Rattle.prop_index.specs.Leaving.{IsBetween, IsBucketChain, IsDropped, IsEntryRow, IsEntrySought, NoneThere, OneGone}
 use Rattle.prop_index.specs.Unlinking.{unlinked_entry}
 use Rattle.prop_index.specs.declared.entry_row.EntryRow.{EntryRow}
 use Rattle.prop_index.proofs.Buckets.{after-member, before-member, chain-entries, chain-reread, head-reread, after-low, before-low}
@@ -44,14 +42,14 @@ use Rattle.prop_index.proofs.leaving.drop_entry.Goals as goal
 pub returns-in_default-clause-dropped : goal.returns-in_default-clause-dropped
 returns-in_default-clause-dropped g c tells xs free head chain can =
     let s = g.S.Reads.state c.args.space.now in
-    let now = g.S.Reads.state c.find_entry.new.space in
+    let now = g.S.Reads.state c.tested_row.new.space in
     NoneThere (subst (IsEntrySought s.records xs c.args.content) c.in_default.is (c.in_ok-row.ensures.found tells xs (chain-entries s c.args.bucket.first xs chain)))
     (same_records s now c.in_ok-row.ensures.same)
 
 pub returns-clause-dropped : goal.returns-clause-dropped
 returns-clause-dropped g c tells xs free head chain can =
     let s = g.S.Reads.state c.args.space.now in
-    let now = g.S.Reads.state c.find_entry.new.space in
+    let now = g.S.Reads.state c.tested_row.new.space in
     let t = g.S.Reads.state c.unlink.new.space in
     let same = c.in_ok-row.ensures.same in
     let records = same_records s now same in
@@ -71,12 +69,12 @@ returns-clause-dropped g c tells xs free head chain can =
 pub returns-in_default-clause-keeps : goal.returns-in_default-clause-keeps
 returns-in_default-clause-keeps g c tells xs head chain place store =
     let s = g.S.Reads.state c.args.space.now in
-    kept_after s (g.S.Reads.state c.find_entry.new.space) c.in_ok-row.ensures.same store
+    kept_after s (g.S.Reads.state c.tested_row.new.space) c.in_ok-row.ensures.same store
 
 pub returns-clause-keeps : goal.returns-clause-keeps
 returns-clause-keeps g c tells xs head chain place store =
     let s = g.S.Reads.state c.args.space.now in
-    let now = g.S.Reads.state c.find_entry.new.space in
+    let now = g.S.Reads.state c.tested_row.new.space in
     let t = g.S.Reads.state c.unlink.new.space in
     let same = c.in_ok-row.ensures.same in
     let bucket = c.args.bucket in
@@ -95,109 +93,6 @@ returns-clause-keeps g c tells xs head chain place store =
     t (c.in_ok-unlink.ensures.ok tells ∙ (λ i. unlinked_entry now bucket.slot x (before_is i) (after_is i)))
     (g.met.S.Reads.onward_shape _ _ c.in_ok-unlink.ensures.onward)
 
-pub returns-in_err-row-clause-sound : goal.returns-in_err-row-clause-sound
-returns-in_err-row-clause-sound g c tells xs chain room =
-    let s = g.S.Reads.state c.args.space.now in
-    let p = err_from_is_err_and c.from_residual.result c.from_residual.ensures.1 in
-    rw (p.1, p.2) (c.in_err-row.ensures.sound tells xs (chain-entries s c.args.bucket.first xs chain) room)
-
-pub returns-in_err-test_link-clause-sound : goal.returns-in_err-test_link-clause-sound
-returns-in_err-test_link-clause-sound g c tells xs chain room =
-    let s = g.S.Reads.state c.args.space.now in
-    let now = g.S.Reads.state c.find_entry.new.space in
-    let same = c.in_ok-row.ensures.same in
-    let x = c.in-Some.row.id in
-    let first = c.args.bucket.first in
-    let row = subst (IsEntrySought s.records xs c.args.content) c.in-Some.is (c.in_ok-row.ensures.found tells xs (chain-entries s first xs chain)) in
-    let is : c.number-before.result ≡ previous_entry now.records x
-    = c.number-before.ensures ∙ ap (λ (r : Rec). field 4 r format.indexed_previous) row.rec_is
-    ∙ ap (λ (r : Records). previous_entry r x) (sym (same_records s now same)) in
-    absurd (true≢false (sym (c.in_err-test_link.ensures.sound (room_after s now format.index_file same room)
-    (λ some. subst (λ (n : ℕ). n < high now.records format.index_file) (sym is) (before-low now.records first x xs (chain-reread s now first xs same chain) row.member (λ e. some (is ∙ e)))))))
-
-pub returns-in_err-test_link-2-clause-sound : goal.returns-in_err-test_link-2-clause-sound
-returns-in_err-test_link-2-clause-sound g c tells xs chain room =
-    let s = g.S.Reads.state c.args.space.now in
-    let now = g.S.Reads.state c.find_entry.new.space in
-    let same = c.in_ok-row.ensures.same in
-    let x = c.in-Some.row.id in
-    let first = c.args.bucket.first in
-    let row = subst (IsEntrySought s.records xs c.args.content) c.in-Some.is (c.in_ok-row.ensures.found tells xs (chain-entries s first xs chain)) in
-    let is : c.number-after.result ≡ next_entry now.records x
-    = c.number-after.ensures ∙ ap (λ (r : Rec). field 4 r format.indexed_next) row.rec_is
-    ∙ ap (λ (r : Records). next_entry r x) (sym (same_records s now same)) in
-    absurd (true≢false (sym (c.in_err-test_link-2.ensures.sound (room_after s now format.index_file same room)
-    (λ some. subst (λ (n : ℕ). n < high now.records format.index_file) (sym is) (after-low now.records first x xs (chain-reread s now first xs same chain) row.member (λ e. some (is ∙ e)))))))
-
-pub returns-in_err-row-clause-damaged : goal.returns-in_err-row-clause-damaged
-returns-in_err-row-clause-damaged g c tells d b h =
-    let s = g.S.Reads.state c.args.space.now in
-    same_has (BlamesBroken s.records s.shape) c.from_residual.result c.in_err-row.field-0.0 c.from_residual.ensures.1
-    (c.in_err-row.ensures.damaged tells d b (subst (IsEntryAt s d b 0 c.args.bucket.first) (sym c.out_of_range-named.ensures) h))
-
-pub returns-in_err-row-clause-still : goal.returns-in_err-row-clause-still
-returns-in_err-row-clause-still g c tells d b h =
-    let s = g.S.Reads.state c.args.space.now in
-    let now = g.S.Reads.state c.find_entry.new.space in
-    same_has (BlamesBroken now.records now.shape) c.from_residual.result c.in_err-row.field-0.0 c.from_residual.ensures.1
-    (blames_reread s now c.in_err-row.field-0.0 c.in_err-row.ensures.same (c.in_err-row.ensures.damaged tells d b (subst (IsEntryAt s d b 0 c.args.bucket.first) (sym c.out_of_range-named.ensures) h)))
-
--- what a test of the row's links blames
-row_blames : (s now : State) (o : Option EntryRow) (row : EntryRow) (link : ℕ) → SameButReads s now → o ≡ Some row → IfSome o (IsEntryRow s.records)
-    → ((link ≡ field 4 row.rec format.indexed_next) ⊎ (link ≡ field 4 row.rec format.indexed_previous)) → (bad : Damage) → (link ≢ format.nil)
-    × IsLinkDamage now (key_in format.index_file row.id) format.index_file link bad → BreaksAny now.records now.shape bad
-row_blames s now o row link same is has at bad told =
-    let read : IsEntryRow s.records row = subst (λ (z : Option EntryRow). IfSome z (IsEntryRow s.records)) is has in
-    let records = same_records s now same in
-    beside_blames now row.id link (ap (λ (r : Records). kind_at r format.index_file row.id) records ∙ read.used)
-    (⊎_elim (λ (e : link ≡ field 4 row.rec format.indexed_next). inl (e ∙ ap (λ (r : Rec). field 4 r format.indexed_next) read.rec_is ∙ ap (λ (r : Records). next_entry r row.id) (sym records)))
-    (λ (e : link ≡ field 4 row.rec format.indexed_previous). inr (e ∙ ap (λ (r : Rec). field 4 r format.indexed_previous) read.rec_is ∙ ap (λ (r : Records). previous_entry r row.id) (sym records))) at)
-    told.0 bad told.1
-
-pub returns-in_err-test_link-clause-damaged : goal.returns-in_err-test_link-clause-damaged
-returns-in_err-test_link-clause-damaged g c tells d b h =
-    let s = g.S.Reads.state c.args.space.now in
-    let now = g.S.Reads.state c.find_entry.new.space in
-    same_has (BlamesBroken s.records s.shape) c.from_residual-in_err-test_link.result (Damaged c.in_err-test_link.field-0.0)
-    c.from_residual-in_err-test_link.ensures.1
-    (breaks_before s now c.in_err-test_link.field-0.0 c.in_ok-row.ensures.same
-    (row_blames s now _ c.in-Some.row c.number-before.result c.in_ok-row.ensures.same c.in-Some.is (c.in_ok-row.ensures.row tells) (inr c.number-before.ensures) c.in_err-test_link.field-0.0 c.in_err-test_link.ensures.damaged))
-
-pub returns-in_err-test_link-clause-still : goal.returns-in_err-test_link-clause-still
-returns-in_err-test_link-clause-still g c tells d b h =
-    let s = g.S.Reads.state c.args.space.now in
-    let now = g.S.Reads.state c.find_entry.new.space in
-    same_has (BlamesBroken now.records now.shape) c.from_residual-in_err-test_link.result (Damaged c.in_err-test_link.field-0.0)
-    c.from_residual-in_err-test_link.ensures.1
-    (row_blames s now _ c.in-Some.row c.number-before.result c.in_ok-row.ensures.same c.in-Some.is (c.in_ok-row.ensures.row tells) (inr c.number-before.ensures) c.in_err-test_link.field-0.0 c.in_err-test_link.ensures.damaged)
-
-pub returns-in_err-test_link-2-clause-damaged : goal.returns-in_err-test_link-2-clause-damaged
-returns-in_err-test_link-2-clause-damaged g c tells d b h =
-    let s = g.S.Reads.state c.args.space.now in
-    let now = g.S.Reads.state c.find_entry.new.space in
-    same_has (BlamesBroken s.records s.shape) c.from_residual-in_err-test_link-2.result (Damaged c.in_err-test_link-2.field-0.0)
-    c.from_residual-in_err-test_link-2.ensures.1
-    (breaks_before s now c.in_err-test_link-2.field-0.0 c.in_ok-row.ensures.same
-    (row_blames s now _ c.in-Some.row c.number-after.result c.in_ok-row.ensures.same c.in-Some.is (c.in_ok-row.ensures.row tells) (inl c.number-after.ensures) c.in_err-test_link-2.field-0.0 c.in_err-test_link-2.ensures.damaged))
-
-pub returns-in_err-test_link-2-clause-still : goal.returns-in_err-test_link-2-clause-still
-returns-in_err-test_link-2-clause-still g c tells d b h =
-    let s = g.S.Reads.state c.args.space.now in
-    let now = g.S.Reads.state c.find_entry.new.space in
-    same_has (BlamesBroken now.records now.shape) c.from_residual-in_err-test_link-2.result (Damaged c.in_err-test_link-2.field-0.0)
-    c.from_residual-in_err-test_link-2.ensures.1
-    (row_blames s now _ c.in-Some.row c.number-after.result c.in_ok-row.ensures.same c.in-Some.is (c.in_ok-row.ensures.row tells) (inl c.number-after.ensures) c.in_err-test_link-2.field-0.0 c.in_err-test_link-2.ensures.damaged)
-
-pub returns-in_err-unlink-clause-damaged : goal.returns-in_err-unlink-clause-damaged
-returns-in_err-unlink-clause-damaged g c tells d b h =
-    let s = g.S.Reads.state c.args.space.now in
-    space_has (BlamesBroken s.records s.shape) tt tt c.from_residual-in_err-unlink.result c.in_err-unlink.field-0.0 c.from_residual-in_err-unlink.ensures.1
-
-pub returns-in_err-unlink-clause-still : goal.returns-in_err-unlink-clause-still
-returns-in_err-unlink-clause-still g c tells d b h =
-    let t = g.S.Reads.state c.unlink.new.space in
-    space_has (BlamesBroken t.records t.shape) tt tt c.from_residual-in_err-unlink.result c.in_err-unlink.field-0.0 c.from_residual-in_err-unlink.ensures.1
-
 pub returns-in_default-clause-counted : goal.returns-in_default-clause-counted
 returns-in_default-clause-counted g c tells =
     let live = ap (λ (z : State). (meta_of z format.index_file).live) c.in_ok-row.ensures.same in
@@ -205,7 +100,7 @@ returns-in_default-clause-counted g c tells =
 
 pub returns-clause-counted : goal.returns-clause-counted
 returns-clause-counted g c tells =
-    let now = g.S.Reads.state c.find_entry.new.space in
+    let now = g.S.Reads.state c.tested_row.new.space in
     let x = c.in-Some.row.id in
     let key : IsKey (key_in format.index_file x) = subst (λ (o : Option EntryRow). IfSome o (λ row. IsKey (key_in format.index_file row.id))) c.in-Some.is
     c.in_ok-row.ensures.key in
@@ -222,7 +117,7 @@ returns-in_default-clause-kept g c tells =
 
 pub returns-clause-kept : goal.returns-clause-kept
 returns-clause-kept g c tells =
-    let now = g.S.Reads.state c.find_entry.new.space in
+    let now = g.S.Reads.state c.tested_row.new.space in
     let x = c.in-Some.row.id in
     let key : IsKey (key_in format.index_file x) = subst (λ (o : Option EntryRow). IfSome o (λ row. IsKey (key_in format.index_file row.id))) c.in-Some.is
     c.in_ok-row.ensures.key in
@@ -231,21 +126,6 @@ returns-clause-kept g c tells =
     let gone = ap (λ (z : State). (meta_of z format.index_file).live) (c.in_ok-unlink.ensures.ok tells)
     ∙ unlinked_live now c.args.bucket.slot x c.number-before.result c.number-after.result (omega (arith, small)) in
     omega (arith, live, gone)
-
-pub returns-in_err-row-clause-names : goal.returns-in_err-row-clause-names
-returns-in_err-row-clause-names g c tells =
-    same_has NamesIndexes c.from_residual.result c.in_err-row.field-0.0 c.from_residual.ensures.1
-    (c.in_err-row.ensures.names tells (subst IsOfIndexes (sym c.out_of_range-named.ensures) (inl refl)))
-
-pub returns-in_err-test_link-clause-names : goal.returns-in_err-test_link-clause-names
-returns-in_err-test_link-clause-names g c tells =
-    same_has NamesIndexes c.from_residual-in_err-test_link.result (Damaged c.in_err-test_link.field-0.0) c.from_residual-in_err-test_link.ensures.1
-    (link_names _ c.in-Some.row.id c.number-before.result c.in_err-test_link.field-0.0 c.in_err-test_link.ensures.damaged.1)
-
-pub returns-in_err-test_link-2-clause-names : goal.returns-in_err-test_link-2-clause-names
-returns-in_err-test_link-2-clause-names g c tells =
-    same_has NamesIndexes c.from_residual-in_err-test_link-2.result (Damaged c.in_err-test_link-2.field-0.0) c.from_residual-in_err-test_link-2.ensures.1
-    (link_names _ c.in-Some.row.id c.number-after.result c.in_err-test_link-2.field-0.0 c.in_err-test_link-2.ensures.damaged.1)
 
 pub returns-in_err-unlink-clause-names : goal.returns-in_err-unlink-clause-names
 returns-in_err-unlink-clause-names g c tells = space_has NamesIndexes tt tt c.from_residual-in_err-unlink.result c.in_err-unlink.field-0.0
@@ -266,13 +146,13 @@ dropped_graph s t xs bucket content head chain place elsewhere (OneGone x member
 pub returns-in_default-clause-graph : goal.returns-in_default-clause-graph
 returns-in_default-clause-graph g c tells xs free head chain place can =
     let s = g.S.Reads.state c.args.space.now in
-    let now = g.S.Reads.state c.find_entry.new.space in
+    let now = g.S.Reads.state c.tested_row.new.space in
     same_graph s.records now.records (same_records s now c.in_ok-row.ensures.same)
 
 pub returns-clause-graph : goal.returns-clause-graph
 returns-clause-graph g c tells xs free head chain place can =
     let s = g.S.Reads.state c.args.space.now in
-    let now = g.S.Reads.state c.find_entry.new.space in
+    let now = g.S.Reads.state c.tested_row.new.space in
     let t = g.S.Reads.state c.unlink.new.space in
     let touched = c.in_ok-unlink.ensures.touches in
     let elsewhere : SameElsewhere s.records t.records = subst (λ (r : Records). SameElsewhere r t.records) (same_records s now c.in_ok-row.ensures.same)
@@ -286,7 +166,7 @@ returns-in_default-clause-gone g c tells xs chain x member says =
 
 pub returns-clause-gone : goal.returns-clause-gone
 returns-clause-gone g c tells xs chain x member says =
-    let now = g.S.Reads.state c.find_entry.new.space in
+    let now = g.S.Reads.state c.tested_row.new.space in
     let id = c.in-Some.row.id in
     let key : IsKey (key_in format.index_file id) = subst (λ (o : Option EntryRow). IfSome o (λ row. IsKey (key_in format.index_file row.id))) c.in-Some.is
     c.in_ok-row.ensures.key in
@@ -342,48 +222,6 @@ returns-in_err-row-clause-gone g c _ _ _ _ _ _ = never_ok c.from_residual.result
 pub returns-in_err-row-clause-onward : goal.returns-in_err-row-clause-onward
 returns-in_err-row-clause-onward g c = search rules
 
-pub returns-in_err-test_link-clause-dropped : goal.returns-in_err-test_link-clause-dropped
-returns-in_err-test_link-clause-dropped g c _ _ _ _ _ _ = never_ok c.from_residual-in_err-test_link.result _ _ c.from_residual-in_err-test_link.ensures.1
-
-pub returns-in_err-test_link-clause-keeps : goal.returns-in_err-test_link-clause-keeps
-returns-in_err-test_link-clause-keeps g c _ _ _ _ _ _ = never_ok c.from_residual-in_err-test_link.result _ _ c.from_residual-in_err-test_link.ensures.1
-
-pub returns-in_err-test_link-clause-graph : goal.returns-in_err-test_link-clause-graph
-returns-in_err-test_link-clause-graph g c _ _ _ _ _ _ _ = never_ok c.from_residual-in_err-test_link.result _ _ c.from_residual-in_err-test_link.ensures.1
-
-pub returns-in_err-test_link-clause-counted : goal.returns-in_err-test_link-clause-counted
-returns-in_err-test_link-clause-counted g c _ = never_ok c.from_residual-in_err-test_link.result _ _ c.from_residual-in_err-test_link.ensures.1
-
-pub returns-in_err-test_link-clause-kept : goal.returns-in_err-test_link-clause-kept
-returns-in_err-test_link-clause-kept g c _ = never_ok c.from_residual-in_err-test_link.result _ _ c.from_residual-in_err-test_link.ensures.1
-
-pub returns-in_err-test_link-clause-absent : goal.returns-in_err-test_link-clause-absent
-returns-in_err-test_link-clause-absent g c _ _ _ _ = never_ok c.from_residual-in_err-test_link.result _ _ c.from_residual-in_err-test_link.ensures.1
-
-pub returns-in_err-test_link-clause-gone : goal.returns-in_err-test_link-clause-gone
-returns-in_err-test_link-clause-gone g c _ _ _ _ _ _ = never_ok c.from_residual-in_err-test_link.result _ _ c.from_residual-in_err-test_link.ensures.1
-
-pub returns-in_err-test_link-2-clause-dropped : goal.returns-in_err-test_link-2-clause-dropped
-returns-in_err-test_link-2-clause-dropped g c _ _ _ _ _ _ = never_ok c.from_residual-in_err-test_link-2.result _ _ c.from_residual-in_err-test_link-2.ensures.1
-
-pub returns-in_err-test_link-2-clause-keeps : goal.returns-in_err-test_link-2-clause-keeps
-returns-in_err-test_link-2-clause-keeps g c _ _ _ _ _ _ = never_ok c.from_residual-in_err-test_link-2.result _ _ c.from_residual-in_err-test_link-2.ensures.1
-
-pub returns-in_err-test_link-2-clause-graph : goal.returns-in_err-test_link-2-clause-graph
-returns-in_err-test_link-2-clause-graph g c _ _ _ _ _ _ _ = never_ok c.from_residual-in_err-test_link-2.result _ _ c.from_residual-in_err-test_link-2.ensures.1
-
-pub returns-in_err-test_link-2-clause-counted : goal.returns-in_err-test_link-2-clause-counted
-returns-in_err-test_link-2-clause-counted g c _ = never_ok c.from_residual-in_err-test_link-2.result _ _ c.from_residual-in_err-test_link-2.ensures.1
-
-pub returns-in_err-test_link-2-clause-kept : goal.returns-in_err-test_link-2-clause-kept
-returns-in_err-test_link-2-clause-kept g c _ = never_ok c.from_residual-in_err-test_link-2.result _ _ c.from_residual-in_err-test_link-2.ensures.1
-
-pub returns-in_err-test_link-2-clause-absent : goal.returns-in_err-test_link-2-clause-absent
-returns-in_err-test_link-2-clause-absent g c _ _ _ _ = never_ok c.from_residual-in_err-test_link-2.result _ _ c.from_residual-in_err-test_link-2.ensures.1
-
-pub returns-in_err-test_link-2-clause-gone : goal.returns-in_err-test_link-2-clause-gone
-returns-in_err-test_link-2-clause-gone g c _ _ _ _ _ _ = never_ok c.from_residual-in_err-test_link-2.result _ _ c.from_residual-in_err-test_link-2.ensures.1
-
 pub returns-in_err-unlink-clause-dropped : goal.returns-in_err-unlink-clause-dropped
 returns-in_err-unlink-clause-dropped g c _ _ _ _ _ _ = never_ok c.from_residual-in_err-unlink.result _ _ c.from_residual-in_err-unlink.ensures.1
 
@@ -414,12 +252,6 @@ returns-in_err-row-clause-touches g c = index_same 3 _ _ c.in_err-row.ensures.sa
 pub returns-in_default-clause-touches : goal.returns-in_default-clause-touches
 returns-in_default-clause-touches g c = index_same 3 _ _ c.in_ok-row.ensures.same
 
-pub returns-in_err-test_link-clause-touches : goal.returns-in_err-test_link-clause-touches
-returns-in_err-test_link-clause-touches g c = index_same 3 _ _ c.in_ok-row.ensures.same
-
-pub returns-in_err-test_link-2-clause-touches : goal.returns-in_err-test_link-2-clause-touches
-returns-in_err-test_link-2-clause-touches g c = index_same 3 _ _ c.in_ok-row.ensures.same
-
 pub returns-in_err-unlink-clause-touches : goal.returns-in_err-unlink-clause-touches
 returns-in_err-unlink-clause-touches g c = index_then 0 3 3 _ _ _ (omega arith) (index_same 0 _ _ c.in_ok-row.ensures.same) c.in_err-unlink.ensures.touches
 
@@ -436,26 +268,6 @@ returns-in_default-clause-cause g c = ok_cause _ _ _ _ c.in_ok-row.ensures.cause
 pub returns-in_default-clause-onward : goal.returns-in_default-clause-onward
 returns-in_default-clause-onward g c = c.in_ok-row.ensures.onward
 
-pub returns-in_err-test_link-clause-cause : goal.returns-in_err-test_link-clause-cause
-returns-in_err-test_link-clause-cause g c =
-    damage_cause _ _ c.from_residual-in_err-test_link.result c.in_err-test_link.field-0.0 c.in_ok-row.ensures.cause.later
-    c.from_residual-in_err-test_link.ensures.1
-
-pub returns-in_err-test_link-2-clause-cause : goal.returns-in_err-test_link-2-clause-cause
-returns-in_err-test_link-2-clause-cause g c =
-    damage_cause _ _ c.from_residual-in_err-test_link-2.result c.in_err-test_link-2.field-0.0 c.in_ok-row.ensures.cause.later
-    c.from_residual-in_err-test_link-2.ensures.1
-
-pub returns-in_err-test_link-clause-onward : goal.returns-in_err-test_link-clause-onward
-returns-in_err-test_link-clause-onward g c = c.in_ok-row.ensures.onward
-
-pub returns-in_err-test_link-2-clause-onward : goal.returns-in_err-test_link-2-clause-onward
-returns-in_err-test_link-2-clause-onward g c = c.in_ok-row.ensures.onward
-
-pub returns-in_err-unlink-clause-sound : goal.returns-in_err-unlink-clause-sound
-returns-in_err-unlink-clause-sound g c tells xs chain room =
-    space_exit c.from_residual-in_err-unlink.result c.in_err-unlink.field-0.0 c.from_residual-in_err-unlink.ensures.1
-
 pub unlink-requires-clause-slot : goal.unlink-requires-clause-slot
 unlink-requires-clause-slot g c = c.requires.key
 
@@ -465,24 +277,70 @@ unlink-requires-clause-place g c = c.requires.place
 pub unlink-requires-clause-id : goal.unlink-requires-clause-id
 unlink-requires-clause-id g c = subst (λ (o : Option EntryRow). IfSome o (λ row. IsKey (key_in format.index_file row.id))) c.in-Some.is c.in_ok-row.ensures.key
 
-pub unlink-requires-clause-before : goal.unlink-requires-clause-before
-unlink-requires-clause-before g c = c.in_ok-test_link.ensures.key
-
-pub unlink-requires-clause-after : goal.unlink-requires-clause-after
-unlink-requires-clause-after g c = c.in_ok-test_link-2.ensures.key
-
 -- ---- what is written where a record is blamed
 
 pub returns-in_err-row-clause-unwritten : goal.returns-in_err-row-clause-unwritten
 returns-in_err-row-clause-unwritten g c = on_damage c.from_residual.result _ c.in_err-row.ensures.same
 
-pub returns-in_err-test_link-clause-unwritten : goal.returns-in_err-test_link-clause-unwritten
-returns-in_err-test_link-clause-unwritten g c = on_damage c.from_residual-in_err-test_link.result _ c.in_ok-row.ensures.same
-
-pub returns-in_err-test_link-2-clause-unwritten : goal.returns-in_err-test_link-2-clause-unwritten
-returns-in_err-test_link-2-clause-unwritten g c = on_damage c.from_residual-in_err-test_link-2.result _ c.in_ok-row.ensures.same
-
 pub returns-in_err-unlink-clause-unwritten : goal.returns-in_err-unlink-clause-unwritten
 returns-in_err-unlink-clause-unwritten g c =
     space_has (λ fault. IfSome (damage_of fault) (λ _. SameButReads (g.S.Reads.state c.args.space.now) (g.S.Reads.state c.unlink.new.space))) tt tt
     c.from_residual-in_err-unlink.result c.in_err-unlink.field-0.0 c.from_residual-in_err-unlink.ensures.1
+
+pub unlink-requires-clause-before : goal.unlink-requires-clause-before
+unlink-requires-clause-before g c some =
+    let key = subst (λ (o : Option EntryRow). IfSome o (λ r. field 4 r.rec format.indexed_previous ≢ format.nil → IsKey (key_in format.index_file (field 4 r.rec format.indexed_previous)))) c.in-Some.is c.in_ok-row.ensures.before in
+    subst (λ z. IsKey (key_in format.index_file z)) (sym c.number-before.ensures) (key (λ none. some (c.number-before.ensures ∙ none)))
+
+pub unlink-requires-clause-after : goal.unlink-requires-clause-after
+unlink-requires-clause-after g c some =
+    let key = subst (λ (o : Option EntryRow). IfSome o (λ r. field 4 r.rec format.indexed_next ≢ format.nil → IsKey (key_in format.index_file (field 4 r.rec format.indexed_next)))) c.in-Some.is c.in_ok-row.ensures.after in
+    subst (λ z. IsKey (key_in format.index_file z)) (sym c.number-after.ensures) (key (λ none. some (c.number-after.ensures ∙ none)))
+
+pub returns-in_err-row-clause-names : goal.returns-in_err-row-clause-names
+returns-in_err-row-clause-names g c tells = same_has NamesIndexes c.from_residual.result c.in_err-row.field-0.0 c.from_residual.ensures.1
+    (c.in_err-row.ensures.names tells)
+
+pub returns-in_err-row-clause-wrong : goal.returns-in_err-row-clause-wrong
+returns-in_err-row-clause-wrong g c tells d b h =
+    same_has (BlamesBucket (g.S.Reads.state c.args.space.now) d b) c.from_residual.result c.in_err-row.field-0.0 c.from_residual.ensures.1
+    (c.in_err-row.ensures.wrong tells d b h)
+
+pub returns-in_err-unlink-clause-wrong : goal.returns-in_err-unlink-clause-wrong
+returns-in_err-unlink-clause-wrong g c tells d b h =
+    space_has (BlamesBucket (g.S.Reads.state c.args.space.now) d b) tt tt c.from_residual-in_err-unlink.result c.in_err-unlink.field-0.0
+    c.from_residual-in_err-unlink.ensures.1
+
+pub returns-in_err-row-clause-spares : goal.returns-in_err-row-clause-spares
+returns-in_err-row-clause-spares g c _ _ _ _ _ _ = never_ok c.from_residual.result _ _ c.from_residual.ensures.1
+
+pub returns-in_err-unlink-clause-spares : goal.returns-in_err-unlink-clause-spares
+returns-in_err-unlink-clause-spares g c _ _ _ _ _ _ = never_ok c.from_residual-in_err-unlink.result _ _ c.from_residual-in_err-unlink.ensures.1
+
+pub returns-in_default-clause-spares : goal.returns-in_default-clause-spares
+returns-in_default-clause-spares g c tells d b h head place = spares_none _ _ c.in_ok-row.ensures.same
+
+pub returns-clause-spares : goal.returns-clause-spares
+returns-clause-spares g c tells d b h head place =
+    let s = g.S.Reads.state c.args.space.now in
+    let now = g.S.Reads.state c.tested_row.new.space in
+    let t = g.S.Reads.state c.unlink.new.space in
+    let same = c.in_ok-row.ensures.same in
+    let records = same_records s now same in
+    let row = c.in-Some.row in
+    let is = c.in-Some.is in
+    let at = place.is in
+    let key : IsKey (key_in format.index_file row.id) = subst (λ (o : Option EntryRow). IfSome o (λ r. IsKey (key_in format.index_file r.id))) is c.in_ok-row.ensures.key in
+    let read = subst (λ (o : Option EntryRow). IfSome o (IsEntryRow s.records)) is (c.in_ok-row.ensures.row tells) in
+    let between = subst (λ (o : Option EntryRow). IfSome o (IsBetween s)) is (c.in_ok-row.ensures.between tells d b h) in
+    let kinds : (x kind : ℕ) → kind_at s.records format.index_file x ≡ kind → kind_at now.records format.index_file x ≡ kind
+    = λ x kind k. ap (λ (r : Records). kind_at r format.index_file x) records ∙ k in
+    let before_is = c.number-before.ensures in
+    let after_is = c.number-after.ensures in
+    spares_then s now t (spares_none s now same)
+    (gone_spares now t c.args.bucket.slot row.id c.number-before.result c.number-after.result (c.in_ok-unlink.ensures.ok tells) key.id
+    (kinds row.id format.indexed read.used) (kinds c.args.bucket.slot.id format.heads head.heads)
+    (λ some. kinds c.number-before.result format.indexed (ap (kind_at s.records format.index_file) before_is ∙ between.before (λ none. some (before_is ∙ none))))
+    (λ some. kinds c.number-after.result format.indexed (ap (kind_at s.records format.index_file) after_is ∙ between.after (λ none. some (after_is ∙ none))))
+    (λ e. between.other (sym before_is ∙ e)) (λ e. between.another (sym after_is ∙ e))
+    (subst (λ (z : State). IsLinkBelow (meta_of z format.index_file).free (meta_of z format.index_file).high) (sym same) between.free) (omega (arith, at)))

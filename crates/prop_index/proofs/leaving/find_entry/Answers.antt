@@ -1,4 +1,4 @@
-use Rattle.std.proofs.Common.{inl, ◌≡◌, ◌≤◌, ◌+◌, arith, ap, sym, ◌∙◌, refl, subst}
+use Rattle.std.proofs.Common.{inl, inr, ◌≡◌, ◌≤◌, ◌+◌, arith, ap, sym, ◌∙◌, refl, subst}
 use Rattle.std.proofs.lemmas.Bool.{true≢false}
 use Rattle.rec_bytes.specs.declared.record.Rec.{Rec}
 use Rattle.rec_bytes.specs.Format as format
@@ -6,14 +6,16 @@ use Rattle.rec_bytes.specs.Record.{field}
 use Rattle.rec_bytes.specs.declared.meta.Meta.{Meta}
 use Rattle.store_rules.specs.Indexes.{index_rec, next_entry}
 use Rattle.store_rules.specs.Views.{Records, high, kind_at}
-use Rattle.prop_index.specs.Blaming.{BlamesBroken}
+use Rattle.rec_bytes.specs.declared.damage.Damage.{Damage}
+use Rattle.prop_index.specs.Leaving.{SaysContent}
+use Rattle.prop_index.specs.Naming.{BlamesBucket}
+use Rattle.prop_index.proofs.IndexNamed.{begins_first, entry_fault, late_lacks}
 use Rattle.prop_store.proofs.Exits.{same_has}
 use Rattle.prop_index.specs.Blaming.{IsEntryAt, IsOfIndexes, NamesIndexes}
-use Rattle.prop_index.proofs.IndexBlames.{entry_blames, entry_goes_on, late_breaks, read_fault_same, read_names}
+use Rattle.prop_index.proofs.IndexBlames.{entry_goes_on, read_fault_same, read_names}
 use Rattle.prop_store.proofs.ReadCounts.{reads_same}
-use Rattle.prop_index.proofs.Reread.{same_records, same_then, room_after}
+use Rattle.prop_index.proofs.Reread.{same_records, same_then}
 use Rattle.prop_index.proofs.Searches.{search_begins, search_here, search_on, search_over}
-use Rattle.std.proofs.lemmas.Result.{err_from_is_err_and}
 use Rattle.rec_bytes.proofs.Causes.{never_ok, ok_cause}
 use Rattle.prop_index.proofs.Causes.{told_cause}
 use Rattle.prop_store.proofs.Causes.{cause_passed, later_on}
@@ -24,6 +26,10 @@ loop-init g c = record {
   told = λ tells xs are. search_begins _ _ xs c.args.first are.walk;
   named_is = λ is. is;
   at = λ tells d b h. h;
+  named_file = λ is. is;
+  from = λ tells d b h some. inl (refl, begins_first (g.R.Reads.state c.args.space.now) d b c.args.first c.args.named h some);
+  passed = λ tells some. absurd (some refl);
+  key = λ some. absurd (some refl);
   same = refl;
   onward = g.met.R.Reads.stays_onward _;
   later = omega arith;
@@ -63,14 +69,25 @@ loop-preserved g c =
     ∙ ap (λ (r : Records). index_rec r c.loop.at) records in
     let next_is : g.R.Reads.tells → c.number-at.result ≡ next_entry s.records c.loop.at = λ tells. c.number-at.ensures
     ∙ ap (λ (r : Rec). field 4 r format.indexed_next) (rec_is tells) in
+    let other : g.R.Reads.tells → ¬ SaysContent s.records c.args.content c.loop.at
+    = λ tells says. true≢false (sym (c.is_of.ensures.1 (ap (λ (r : Rec). field 4 r format.indexed_node) (rec_is tells) ∙ says.0, ap (λ (r : Rec). field 8 r format.indexed_hash) (rec_is tells) ∙ says.1)) ∙ c.if-is_of.false) in
     record {
       told = λ tells xs are.
           search_on _ _ xs c.loop.at c.loop.counter (c.loop.invariant.told tells xs are) c.number-at.result c.if-at.false (next_is tells)
-          (λ says. true≢false (sym (c.is_of.ensures.1 (ap (λ (r : Rec). field 4 r format.indexed_node) (rec_is tells) ∙ says.0, ap (λ (r : Rec). field 8 r format.indexed_hash) (rec_is tells) ∙ says.1)) ∙ c.if-is_of.false));
+          (other tells);
       named_is = λ is. subst IsOfIndexes (sym c.out_of_range-named.ensures) (inl refl);
       at = λ tells d b h. subst (IsEntryAt s d b (c.loop.counter + 1) c.number-at.result) (sym c.out_of_range-named.ensures)
           (entry_goes_on s d b c.loop.counter c.loop.at c.loop.named (c.loop.invariant.at tells d b h) c.if-at.false c.number-at.result
           (ap (λ (r : Records). kind_at r format.index_file c.loop.at) (sym records) ∙ c.in_ok-record_at.ensures.used tells) (next_is tells));
+      named_file = λ is. ap (λ (z : Damage). z.file) c.out_of_range-named.ensures;
+      from = λ tells d b h some. inr (record {
+        count = c.loop.counter;
+        leads = (c.loop.invariant.at tells d b h).leads c.if-at.false;
+        used = ap (λ (r : Records). kind_at r format.index_file c.loop.at) (sym records) ∙ c.in_ok-record_at.ensures.used tells;
+        next = sym (next_is tells);
+      });
+      passed = λ tells some. other tells;
+      key = λ some. c.in_ok-record_at.ensures.key;
       same = same_then (g.R.Reads.state c.args.space.now) (g.R.Reads.state c.loop.space) (g.R.Reads.state c.record_at.new.space) c.loop.invariant.same
           (reads_same 1 (g.R.Reads.state c.loop.space) (g.R.Reads.state c.record_at.new.space) c.in_ok-record_at.ensures.at_most);
       onward = g.met.R.Reads.further_onward _ _ _ c.loop.invariant.onward c.in_ok-record_at.ensures.onward;
@@ -80,16 +97,6 @@ loop-preserved g c =
 pub returns-clause-found : goal.returns-clause-found
 returns-clause-found g c tells xs are = search_over _ _ xs c.loop.at c.loop.counter (c.loop.invariant.told tells xs are) c.if-at-2.false
 
-pub returns-in_err-record_at-clause-sound : goal.returns-in_err-record_at-clause-sound
-returns-in_err-record_at-clause-sound g c tells xs are room =
-    let s = g.R.Reads.state c.args.space.now in
-    let now = g.R.Reads.state c.loop.space in
-    let same = c.loop.invariant.same in
-    let here = search_here _ _ xs c.loop.at c.loop.counter (c.loop.invariant.told tells xs are) c.if-at.false in
-    let p = err_from_is_err_and c.from_residual.result c.from_residual.ensures.1 in
-    rw (p.1, p.2) (c.in_err-record_at.ensures.sound tells (room_after s now format.index_file same room)
-    (ap (λ (r : Records). kind_at r format.index_file c.loop.at) (same_records s now same) ∙ are.kind c.loop.at here.0))
-
 pub returns-then-is_of-clause-row : goal.returns-then-is_of-clause-row
 returns-then-is_of-clause-row g c tells =
     let s = g.R.Reads.state c.args.space.now in
@@ -98,20 +105,6 @@ returns-then-is_of-clause-row g c tells =
       rec_is = c.in_ok-record_at.ensures.got tells ∙ ap (λ (r : Records). index_rec r c.loop.at) records;
       used = ap (λ (r : Records). kind_at r format.index_file c.loop.at) (sym records) ∙ c.in_ok-record_at.ensures.used tells;
     }
-
-pub returns-in_err-record_at-clause-damaged : goal.returns-in_err-record_at-clause-damaged
-returns-in_err-record_at-clause-damaged g c tells d b h =
-    let s = g.R.Reads.state c.args.space.now in
-    let now = g.R.Reads.state c.loop.space in
-    same_has (BlamesBroken s.records s.shape) c.from_residual.result c.in_err-record_at.field-0.0 c.from_residual.ensures.1
-    (entry_blames s d b c.loop.counter c.loop.at c.loop.named (c.loop.invariant.at tells d b h) c.if-at.false c.in_err-record_at.field-0.0
-    (read_fault_same s now c.loop.at format.indexed c.loop.named c.loop.invariant.same c.in_err-record_at.field-0.0 (c.in_err-record_at.ensures.damaged tells)))
-
-pub returns-then-at-2-clause-damaged : goal.returns-then-at-2-clause-damaged
-returns-then-at-2-clause-damaged g c tells d b h =
-    let s = g.R.Reads.state c.args.space.now in
-    let late : high s.records format.index_file ≤ c.loop.counter = subst (λ (m : Meta). m.high ≤ c.loop.counter) c.meta-end.ensures (omega arith) in
-    subst (BlamesBroken s.records s.shape) (sym c.damaged.ensures) (late_breaks s d b c.loop.counter c.loop.at c.loop.named (c.loop.invariant.at tells d b h) c.if-at-2.true late)
 
 pub returns-in_err-record_at-clause-names : goal.returns-in_err-record_at-clause-names
 returns-in_err-record_at-clause-names g c tells is =
@@ -173,3 +166,48 @@ returns-then-at-clause-same g c = c.loop.invariant.same
 
 pub returns-then-at-2-clause-same : goal.returns-then-at-2-clause-same
 returns-then-at-2-clause-same g c = c.loop.invariant.same
+
+pub returns-then-is_of-clause-led : goal.returns-then-is_of-clause-led
+returns-then-is_of-clause-led g c tells d b h = record {
+  count = c.loop.counter;
+  leads = (c.loop.invariant.at tells d b h).leads c.if-at.false;
+  from = c.loop.invariant.from tells d b h c.if-at.false;
+}
+
+pub returns-then-is_of-clause-before : goal.returns-then-is_of-clause-before
+returns-then-is_of-clause-before g c = c.loop.invariant.key
+
+pub returns-in_err-record_at-clause-led : goal.returns-in_err-record_at-clause-led
+returns-in_err-record_at-clause-led g c _ _ _ _ = never_ok c.from_residual.result _ _ c.from_residual.ensures.1
+
+pub returns-in_err-record_at-clause-before : goal.returns-in_err-record_at-clause-before
+returns-in_err-record_at-clause-before g c = never_ok c.from_residual.result _ _ c.from_residual.ensures.1
+
+pub returns-in_err-record_at-clause-wrong : goal.returns-in_err-record_at-clause-wrong
+returns-in_err-record_at-clause-wrong g c tells file d b h =
+    let s = g.R.Reads.state c.args.space.now in
+    let now = g.R.Reads.state c.loop.space in
+    same_has (BlamesBucket s d b) c.from_residual.result c.in_err-record_at.field-0.0 c.from_residual.ensures.1
+    (entry_fault s d b c.loop.counter c.loop.at c.loop.named (c.loop.invariant.at tells d b h) c.if-at.false (c.loop.invariant.named_file file) c.in_err-record_at.field-0.0
+    (read_fault_same s now c.loop.at format.indexed c.loop.named c.loop.invariant.same c.in_err-record_at.field-0.0 (c.in_err-record_at.ensures.damaged tells)))
+
+pub returns-then-at-2-clause-wrong : goal.returns-then-at-2-clause-wrong
+returns-then-at-2-clause-wrong g c tells file d b h =
+    let s = g.R.Reads.state c.args.space.now in
+    let late : high s.records format.index_file ≤ c.loop.counter = subst (λ (m : Meta). m.high ≤ c.loop.counter) c.meta-end.ensures (omega arith) in
+    subst (BlamesBucket s d b) (sym c.damaged.ensures)
+    (inr (refl, late_lacks s.records d b c.loop.counter c.loop.at ((c.loop.invariant.at tells d b h).leads c.if-at-2.true) late))
+
+pub returns-then-is_of-clause-apart : goal.returns-then-is_of-clause-apart
+returns-then-is_of-clause-apart g c tells same =
+    let s = g.R.Reads.state c.args.space.now in
+    let now = g.R.Reads.state c.loop.space in
+    let rec_is : c.record_at.new.rec ≡ index_rec s.records c.loop.at = c.in_ok-record_at.ensures.got tells
+    ∙ ap (λ (r : Records). index_rec r c.loop.at) (same_records s now c.loop.invariant.same) in
+    let says = c.is_of.ensures.0 c.if-is_of.true in
+    c.loop.invariant.passed tells (λ none. c.if-at.false (sym same ∙ none))
+    (subst (SaysContent s.records c.args.content) (sym same)
+    (ap (λ (r : Rec). field 4 r format.indexed_node) (sym rec_is) ∙ says.0, ap (λ (r : Rec). field 8 r format.indexed_hash) (sym rec_is) ∙ says.1))
+
+pub returns-in_err-record_at-clause-apart : goal.returns-in_err-record_at-clause-apart
+returns-in_err-record_at-clause-apart g c _ = never_ok c.from_residual.result _ _ c.from_residual.ensures.1

@@ -10,6 +10,7 @@ use Rattle.prop_index.proofs.MadeRules.{entry_made_kept}
 use Rattle.id_freelist.specs.ListDamage.{BlamesList}
 use Rattle.id_freelist.specs.TakeFault.{of_space}
 use Rattle.id_freelist.proofs.ListSteps.{blames_list, list_of_space}
+use Rattle.prop_index.proofs.EntrySpares.{entry_spares}
 use Rattle.prop_index.proofs.ListKept.{entry_kept}
 use Rattle.prop_index.specs.Blaming.{TakeBlamesBroken as BlamesBroken}
 use Rattle.prop_index.proofs.IndexBlames.{any_take, space_names, space_take, take_has, take_names, take_reread}
@@ -101,6 +102,21 @@ returns-clause-kept g c tells head begins place =
     entry_kept (g.S.Reads.state c.args.space.now) (g.S.Reads.state c.take.new.space) (g.S.Reads.state c.link.new.space) c.args.bucket.slot c.args.bucket.first
     c.in_ok-id.id c.args.content node_fits first_fits hash_fits (c.in_ok-id.ensures.ok tells) c.in_ok-id.ensures.is (c.in_ok-id.ensures.undamaged tells)
     (c.in_ok-id.ensures.fresh tells) c.in_ok-id.ensures.key.id c.in_ok-id.ensures.small (c.in_ok-link.ensures.ok tells) head begins place
+
+pub returns-clause-spares : goal.returns-clause-spares
+returns-clause-spares g c tells head begins place =
+    let node_fits : c.args.content.node < 2 ^ 32 = search rules in
+    let first_fits : c.args.bucket.first < 2 ^ 32 = search rules in
+    let hash_fits : c.args.content.hash < 2 ^ 64 = search rules in
+    entry_spares (g.S.Reads.state c.args.space.now) (g.S.Reads.state c.take.new.space) (g.S.Reads.state c.link.new.space) c.args.bucket.slot c.args.bucket.first
+    c.in_ok-id.id c.args.content node_fits first_fits hash_fits (c.in_ok-id.ensures.ok tells) c.in_ok-id.ensures.is (c.in_ok-id.ensures.undamaged tells)
+    (c.in_ok-id.ensures.fresh tells) c.in_ok-id.ensures.key.id c.in_ok-id.ensures.small (c.in_ok-link.ensures.ok tells) head begins place
+
+pub returns-in_err-id-clause-spares : goal.returns-in_err-id-clause-spares
+returns-in_err-id-clause-spares g c _ _ _ _ = never_ok c.from_residual.result _ _ c.from_residual.ensures.1
+
+pub returns-in_err-link-clause-spares : goal.returns-in_err-link-clause-spares
+returns-in_err-link-clause-spares g c _ _ _ _ = never_ok c.from_residual-in_err-link.result _ _ c.from_residual-in_err-link.ensures.1
 
 pub returns-in_err-id-clause-kept : goal.returns-in_err-id-clause-kept
 returns-in_err-id-clause-kept g c _ _ _ _ = never_ok c.from_residual.result _ _ c.from_residual.ensures.1

@@ -1,6 +1,5 @@
-use Rattle.std.proofs.Common.{List, ℕ, sym, ◌∙◌, subst, refl, inl, arith, rules}
+use Rattle.std.proofs.Common.{List, ℕ, sym, ◌∙◌, subst, inl, arith, rules}
 use Rattle.std.specs.Prelude.{IfNone, Option}
-use Rattle.rec_bytes.specs.Format as format
 use Rattle.rec_bytes.specs.Space.{SameButReads}
 use Rattle.store_rules.specs.Chains.{In}
 use Rattle.store_rules.specs.Indexes.{wanted_in}
@@ -15,7 +14,8 @@ use Rattle.prop_index.specs.declared.heads.Bucket.{Bucket}
 use Rattle.prop_index.proofs.IndexBlames.{blames_before, entry_begins, entry_reread}
 use Rattle.prop_index.proofs.GraphFound.{graph_found}
 use Rattle.prop_index.proofs.Lookups.{are_entries, are_readable, caused_exit, definitions_are, early_reads, entries}
-use Rattle.prop_index.proofs.Lookups.{found_is, has_room, lookup_reads, read_lookup, reads_exit, refused_exit}
+use Rattle.prop_index.proofs.Lookups.{found_is, has_range, lookup_reads, read_lookup, reads_exit, refused_exit}
+use Rattle.prop_index.proofs.IndexNamed.{result_sound}
 use Rattle.prop_index.proofs.Reread.{same_then}
 use Rattle.rec_bytes.proofs.Causes.{never_ok, ok_cause}
 use Rattle.prop_index.proofs.looking.lookup.Goals as goal
@@ -25,7 +25,7 @@ returns-in_err-bucket-clause-refused g c tells store =
     let s = g.R.Reads.state c.args.space.now in
     refused_exit s.records c.args.label c.args.key c.from_residual.result c.find_bucket.result c.in_err-bucket.field-0.0 c.in_err-bucket.was
     c.from_residual.ensures.1
-    (c.find_bucket.ensures.sound tells (wanted_in s.records) store.indexes (has_room s store format.index_file refl))
+    (result_sound s (wanted_in s.records) store.indexes (has_range s store) c.args.label c.args.key c.find_bucket.result (c.find_bucket.ensures.wrong tells))
 
 pub returns-in_default-clause-refused : goal.returns-in_default-clause-refused
 returns-in_default-clause-refused g c tells store ds walked =
@@ -171,9 +171,9 @@ returns-in_err-nodes-clause-damaged g c tells =
     let same : SameButReads s now = reads_same 18 s now c.in_ok-bucket.ensures.at_most in
     let number = bucket_of c.hash_of-hash.result in
     let bucket = c.in-Some.bucket in
-    let met = subst (IfBucketMet s.records number) c.in-Some.is (c.in_ok-bucket.ensures.met tells) in
+    let met = subst (IfBucketMet s.records c.args.label c.args.key number) c.in-Some.is (c.in_ok-bucket.ensures.met tells) in
     let at = subst (IsEntryAt now met.definition number 0 bucket.first) (sym c.out_of_range-named.ensures)
-    (entry_reread s now met.definition number 0 bucket.first _ same (entry_begins s number bucket met)) in
+    (entry_reread s now met.definition number 0 bucket.first _ same (entry_begins s c.args.label c.args.key number bucket met)) in
     let p = err_from_is_err_and c.from_residual-in_err-nodes.result c.from_residual-in_err-nodes.ensures.1 in
     rw (p.1, p.2) (read_lookup s.records s.shape c.in_err-nodes.field-0.0 (blames_before s now c.in_err-nodes.field-0.0 same (c.in_err-nodes.ensures.damaged tells met.definition number at)))
 
