@@ -22,6 +22,7 @@ pub mod LeftIndexes
 pub mod LiveIndexes
 pub mod NodeAdded
 pub mod NodeEntries
+pub mod NodeFound
 pub mod NodeGone
 pub mod NodePut
 pub mod NodeWeights

@@ -1,10 +1,11 @@
 -- A node that is deleted.
 use Rattle.std.specs.Prelude.{◌≡◌, ◌≢◌, ◌⊎◌, ℕ, None}
+use Rattle.rec_bytes.specs.declared.damage.Damage.{Damage}
 use Rattle.rec_bytes.specs.Format as format
 use Rattle.rec_bytes.specs.Space.{State}
 use Rattle.store_rules.specs.Views.{kind_at}
 use Rattle.node_store.specs.Loading.{row_at}
-use Rattle.change_parts.specs.Damage.{IsAsFound, IsBroken, IsEntryDamage}
+use Rattle.change_parts.specs.Damage.{IsAsFound, IsBroken, IsEntryDamage, IsOfIndex}
 use Rattle.node_changes.specs.Entries.{HasIndexes}
 use Rattle.change_parts.specs.declared.change_fault.ChangeFault.{ChangeFault}
 use Rattle.change_parts.specs.declared.change_fault.ChangeFault.TheVariants.{NoNode, NoEdge}
@@ -44,3 +45,17 @@ IsDeleteCause s t id Memory = Unit {0}
 IsDeleteCause s t id Disk = Unit {0}
 IsDeleteCause s t id (Damaged damage) = IsBroken s damage
     ⊎ (IsEntryDamage t damage × (IsAsFound s t damage ⊎ HasIndexes s.records))
+
+-- The record is one that a deletion of the node may write: the node's own, one of a property, of a
+-- block or of the indexes, or the meta record of one of these four files.
+abbrev pub IsOfNode : ℕ → Damage → Type 0
+IsOfNode id damage =
+    ((damage.file ≡ format.nodes_file) × (damage.id ≡ id))
+    ⊎ (IsOfIndex damage ⊎ ((damage.file ≡ format.properties_file)
+    ⊎ ((damage.file ≡ format.strings_file) ⊎ ((damage.file ≡ format.meta_file)
+    × ((damage.id ≡ format.nodes_file)
+    ⊎ ((damage.id ≡ format.properties_file) ⊎ (damage.id ≡ format.strings_file)))))))
+
+-- every other record is as it was
+abbrev pub KeepsButNode : State → State → ℕ → Type 0
+KeepsButNode s t id = (damage : Damage) → IsAsFound s t damage ⊎ IsOfNode id damage

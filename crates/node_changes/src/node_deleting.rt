@@ -9,7 +9,7 @@ ghost use Rattle.change_parts.specs.Change.{IsRefusal, MakesChange};
 ghost use Rattle.change_parts.specs.ChangeFault.{HasChangeCause, LeavesSpace};
 ghost use Rattle.change_parts.specs.Damage.{BlamesBroken};
 ghost use Rattle.change_parts.specs.Degrees.{HasDegree};
-ghost use Rattle.node_changes.specs.NodeDeleting.{HasDegree, IsDeleteCause, IsUnused, KeepsOtherKinds};
+ghost use Rattle.node_changes.specs.NodeDeleting.{HasDegree, IsDeleteCause, IsUnused, KeepsButNode, KeepsOtherKinds};
 ghost use Rattle.change_parts.specs.Store.{IsStore, graph_in};
 
 use crate::entries::{held_values, leave_values};
@@ -46,6 +46,8 @@ pub fn delete_node<S: Space>(
     ensures gone { S.tells → OnOk result (IsUnused (S.state space.new).records id) }
     ensures kinds { S.tells → IfOk result (λ _. IsStore (S.state space.old) names.now.names
         → KeepsOtherKinds (S.state space.old) (S.state space.new) id) }
+    // which records may be other, also after a refusal
+    ensures keeps { S.tells → KeepsButNode (S.state space.old) (S.state space.new) id }
     ensures leaves { IfErr result (LeavesSpace (S.state space.old) (S.state space.new)) }
     ensures light { IfOk result (λ weight. weight + start_weight ≤ most_weight) }
     ensures writes { IfOk result (λ weight.

@@ -60,6 +60,8 @@ use Rattle.store_rules.specs.Indexes.{AreIndexed, IsIndexed, wanted_in}
 use Rattle.change_parts.proofs.PairsPut.{label_at}
 use Rattle.change_parts.proofs.Reasons.{outside_refused}
 use Rattle.rec_bytes.proofs.Causes.{never_ok, ok_cause}
+use Rattle.node_changes.specs.NodeDeleting.{KeepsButNode}
+use Rattle.node_changes.proofs.NodeFound.{kept_dropped, kept_given, kept_left, kept_read, kept_then}
 use Rattle.node_changes.proofs.node_deleting.delete_node.Goals as goal
 use Rattle.node_changes.proofs.node_deleting.delete_node.Goals.{After-drop_all, After-give, After-held_values, After-leave_values, After-load}
 use Rattle.node_changes.proofs.node_deleting.delete_node.Given.{Over}
@@ -663,3 +665,64 @@ pub returns-clause-cause : goal.returns-clause-cause
 returns-clause-cause g c =
     ok_cause _ _ _ _ (later_on (later_on (later_on (later_on c.in_ok-node.ensures.cause.later c.in_ok-held.ensures.cause.later)
     c.in_ok-dropped.ensures.cause.later) c.in_ok-give.ensures.cause.later) c.in_ok-entries.ensures.cause.later)
+
+-- ---- which records are other
+
+-- after the properties were taken away, and after the identifier was given back
+dropped_keeps : (g : Over) (c : After-drop_all g) → g.S.Reads.tells
+    → KeepsButNode (g.S.Reads.state c.args.space.now) (g.S.Reads.state c.drop_all.new.space) c.args.id
+dropped_keeps g c tells =
+    let s = g.S.Reads.state c.args.space.now in
+    let n = g.S.Reads.state c.held_values.new.space in
+    let u = g.S.Reads.state c.drop_all.new.space in
+    kept_then s n u c.args.id (kept_read s n c.args.id (read g (goal.at.After-drop_all g c).After-held_values))
+    (kept_dropped n u c.args.id c.node_owner.result c.node_owner.ensures (c.drop_all.ensures.leaves tells))
+
+given_keeps : (g : Over) (c : After-give g) → g.S.Reads.tells
+    → KeepsButNode (g.S.Reads.state c.args.space.now) (g.S.Reads.state c.give.new.space) c.args.id
+given_keeps g c tells =
+    let s = g.S.Reads.state c.args.space.now in
+    let u = g.S.Reads.state c.drop_all.new.space in
+    let v = g.S.Reads.state c.give.new.space in
+    kept_then s u v c.args.id (dropped_keeps g (goal.at.After-give g c).After-drop_all tells) (kept_given u v c.args.id (c.give.ensures.stays tells))
+
+left_keeps : (g : Over) (c : After-leave_values g) → g.S.Reads.tells
+    → KeepsButNode (g.S.Reads.state c.args.space.now) (g.S.Reads.state c.leave_values.new.space) c.args.id
+left_keeps g c tells =
+    let s = g.S.Reads.state c.args.space.now in
+    let v = g.S.Reads.state c.give.new.space in
+    let w = g.S.Reads.state c.leave_values.new.space in
+    kept_then s v w c.args.id (given_keeps g (goal.at.After-leave_values g c).After-give tells)
+    (kept_left 48 v w c.args.id tells c.leave_values.ensures.at_most)
+
+pub returns-in_err-node-clause-keeps : goal.returns-in_err-node-clause-keeps
+returns-in_err-node-clause-keeps g c tells =
+    kept_read (g.S.Reads.state c.args.space.now) (g.S.Reads.state c.load.new.space) c.args.id
+    (same g (goal.at.returns-in_err-node-clause-keeps g c).After-load)
+
+pub returns-in_default-clause-keeps : goal.returns-in_default-clause-keeps
+returns-in_default-clause-keeps g c tells =
+    kept_read (g.S.Reads.state c.args.space.now) (g.S.Reads.state c.load.new.space) c.args.id
+    (same g (goal.at.returns-in_default-clause-keeps g c).After-load)
+
+pub returns-then-node-ne0-clause-keeps : goal.returns-then-node-ne0-clause-keeps
+returns-then-node-ne0-clause-keeps g c tells =
+    kept_read (g.S.Reads.state c.args.space.now) (g.S.Reads.state c.load.new.space) c.args.id
+    (same g (goal.at.returns-then-node-ne0-clause-keeps g c).After-load)
+
+pub returns-in_err-held-clause-keeps : goal.returns-in_err-held-clause-keeps
+returns-in_err-held-clause-keeps g c tells =
+    kept_read (g.S.Reads.state c.args.space.now) (g.S.Reads.state c.held_values.new.space) c.args.id
+    (read g (goal.at.returns-in_err-held-clause-keeps g c).After-held_values)
+
+pub returns-in_err-dropped-clause-keeps : goal.returns-in_err-dropped-clause-keeps
+returns-in_err-dropped-clause-keeps g c tells = dropped_keeps g (goal.at.returns-in_err-dropped-clause-keeps g c).After-drop_all tells
+
+pub returns-in_err-give-clause-keeps : goal.returns-in_err-give-clause-keeps
+returns-in_err-give-clause-keeps g c tells = given_keeps g (goal.at.returns-in_err-give-clause-keeps g c).After-give tells
+
+pub returns-in_err-entries-clause-keeps : goal.returns-in_err-entries-clause-keeps
+returns-in_err-entries-clause-keeps g c tells = left_keeps g (goal.at.returns-in_err-entries-clause-keeps g c).After-leave_values tells
+
+pub returns-clause-keeps : goal.returns-clause-keeps
+returns-clause-keeps g c tells = left_keeps g (goal.at.returns-clause-keeps g c).After-leave_values tells
