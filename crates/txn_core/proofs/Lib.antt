@@ -1,3 +1,4 @@
+pub mod ChangedRecords
 pub mod Finding
 pub mod KeptCommits
 pub mod Kept

@@ -1,5 +1,6 @@
 pub mod Again
 pub mod Base
+pub mod Changed
 pub mod Committed
 pub mod Config
 pub mod Kept

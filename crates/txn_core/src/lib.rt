@@ -5,6 +5,7 @@
 
 mod again_fault;
 mod base;
+mod changed;
 mod checking_point;
 mod committed;
 mod committing;

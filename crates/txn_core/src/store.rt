@@ -58,6 +58,8 @@ use std::alloc::{AllocError, Global};
 pub struct Store<'d, D: Disk> {
     pub(crate) base: Base<'d, D>,
     pub(crate) draft: WriteSet,
+    /// Room for the records of a draft that are changed.
+    pub(crate) spare: WriteSet,
     /// How many records were asked for.
     pub(crate) reads: u64,
 }
@@ -157,6 +159,7 @@ impl<'d, D: Disk> Store<'d, D> {
             Ok(base) => Ok(Store {
                 base,
                 draft: WriteSet::new(alloc),
+                spare: WriteSet::new(alloc),
                 reads: 0,
             }),
             Err(refusal) => Err(refusal),
@@ -366,6 +369,7 @@ impl<'d, D: Disk> Store<'d, D> {
         let Store {
             base,
             draft: _,
+            spare: _,
             reads: _,
         } = self;
         base.into_disk()
