@@ -97,9 +97,3 @@ pub decided_next : (shape : Shape) (bytes : List ℕ) (last : Option Key) (index
     → IsNext shape last (key_at bytes (10 + 69 * index)) × Ascend shape (Some (key_at bytes (10 + 69 * index)))
     (writes_in bytes (10 + 69 * (index + 1)) (count_of bytes - (index + 1)))
 decided_next shape bytes last index lt decides is = subst (Ascend shape last) (writes_in-first bytes index (count_of bytes) lt) (decides.1 is.ascend)
-
-pub is_shipment : (shape : Shape) (bytes : List ℕ) (last : Option Key) (index : ℕ) → count_of bytes ≤ 2047 → index ≡ count_of bytes
-    → length bytes ≡ 10 + 69 * count_of bytes → Decides shape bytes last index → IsShipment shape bytes
-is_shipment shape bytes last index few all whole decides =
-    let rest : count_of bytes - index ≡ 0 = omega arith in
-    record { few = few; whole = whole; ascend = decides.0 (subst (λ (n : ℕ). Ascend shape last (writes_in bytes (10 + 69 * index) n)) (sym rest) tt) }

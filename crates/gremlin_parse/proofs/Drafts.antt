@@ -23,17 +23,6 @@ pub record IsEmpty (source : Source) (draft : Draft) : Type 0 where
   pub none : draft.count ≡ 0
   pub plain : draft.is_ordered ≡ false
 
-pub empty_is_draft : (source : Source) (draft : Draft) → IsEmpty source draft → IsDraft source draft
-empty_is_draft source draft empty = record {
-  items_are = empty.first ∙ ap (items_from (first_items source)) (sym empty.no_steps);
-  counted = empty.none ∙ ap steps_in (sym empty.no_steps);
-  early = let none = empty.none in let maps : maps_count draft.maps ≡ 0 = ap maps_count empty.no_maps in omega (arith, none, maps);
-  order_last = λ ordered. let clash : true ≡ false = sym ordered ∙ empty.plain in cc;
-}
-
-pub empty_place : (source : Source) (draft : Draft) → IsEmpty source draft → draft_place source draft ≡ Steps (query_from source)
-empty_place source draft empty = λ i. steps_place (empty.plain i) (query_of source (empty.no_steps i) (empty.no_maps i))
-
 -- the stage of the query so far
 pub stage_is : (source : Source) (draft : Draft) → IsDraft source draft → stage_of (drafted source draft) ≡ draft_stage draft
 stage_is source draft is = λ i. record { items = mapped draft.maps (sym is.items_are i); steps = sym is.counted i + maps_count draft.maps }

@@ -125,12 +125,6 @@ leaves_first [] two bytes stop leaves = absurd leaves
 leaves_first (symbol ∷ one) two bytes stop (inl here) = inl here
 leaves_first (symbol ∷ one) two bytes stop (inr (content, middle, reads, later)) = inr (content, middle, reads, leaves_first one two middle stop later)
 
-pub leaves_after : (one two : List Symbol) (contents : Contents one) (bytes middle : List ℕ) (stop : Stop) → ReadsAll one contents bytes middle
-    → LeavesOne two middle stop → LeavesOne (one ++ two) bytes stop
-leaves_after [] two contents bytes middle stop same leaves = subst (λ b. LeavesOne two b stop) (sym same) leaves
-leaves_after (symbol ∷ one) two contents bytes middle stop (next, here, later) leaves =
-    inr (contents.0, next, here, leaves_after one two contents.1 next middle stop later leaves)
-
 -- What was read is part of the bytes.
 pub read_within : (symbols : List Symbol) (contents : Contents symbols) (bytes rest : List ℕ) → ReadsAll symbols contents bytes rest
     → length rest ≤ length bytes

@@ -144,18 +144,6 @@ reads_tag line bytes after session rest takes at (digit, blank, after_is, is, en
       },
     )
 
-pub leaves_tag : (line bytes after : List ℕ) (left : ℕ) → Takes AnyBlanks tt line bytes → bytes ≡ 64 ∷ after → LeavesSession after left → LeavesTag line left
-leaves_tag line bytes after left takes at leaves = record {
-  blanks = takes.prefix;
-  bytes = after;
-  line_is = takes.bytes_are ∙ ap (λ (b : List ℕ). takes.prefix ++ b) at;
-  are_blanks = takes.is;
-  leaves = leaves;
-}
-
-pub reads_no_tag : (line bytes : List ℕ) → Takes AnyBlanks tt line bytes → EndsRun is_at bytes → ReadsTag line None line
-reads_no_tag line bytes takes plain = (record { blanks = takes.prefix; bytes = bytes; line_is = takes.bytes_are; are_blanks = takes.is; starts = takes.ends; plain = plain }, refl)
-
 -- what was read is what the line names
 pub named_is : (line : List ℕ) (session : Option ℕ) (rest : List ℕ) → ReadsTag line session rest → session ≡ named_by (tag_in line)
 named_is line None rest (plain, same) =

@@ -392,16 +392,6 @@ steps_walk (suc k) end query (t ∷ ts) within early (inr none) = absurd none
 
 -- ---- sources
 
-abbrev NextSource : Command → (List Token → Source → Type 0) → List Token → Type 0
-NextSource end Text tokens = (source : Source) × (text : List Token) × (rest : List Token) × (tokens ≡ text ++ rest) × Text text source
-    × Walks end (Steps (query_from source)) rest
-
-next_id : (end : Command) (edges : Bool) (ids : List ℕ) (tokens : List Token) → Walks end (NextId edges ids) tokens → (id : ℕ)
-    × Next end (identifier id) (AfterId edges (ids ++ id ∷ [])) tokens
-next_id end edges ids [] walks = cc
-next_id end edges ids (t ∷ ts) (inl none) = absurd none
-next_id end edges ids (t ∷ ts) (inr (id, allows, same, later)) = (id, (ts, (λ i. same i ∷ ts), later))
-
 abbrev LaterIds : Command → Bool → List ℕ → List Token → Type 0
 LaterIds end edges ids tokens = (more : List ℕ) × (rest : List Token) × (tokens ≡ (after_commas (map identifier more) ++ closing ∷ []) ++ rest)
     × Walks end (Steps (query_from (elements_of edges (ids ++ more)))) rest

@@ -58,16 +58,6 @@ module _ (s : Records) (shape : Shape) {most : ℕ} {empty : List ℕ} (well : K
     abbrev t : State
     t = tallied change p h
 
-    -- the groups of other nodes stay
-    pub other_here : group.owner ≢ n → rec_at t.records format.groups_file g ≡ rec_at p.records format.groups_file g
-    other_here ne = elsewhere-tallied change p h (key_in format.groups_file g) (λ e. by end.owns e)
-      where
-        by : Owns (kind_at s format.nodes_file) (group_at s) h n → key_in format.groups_file g ≡ h.key → ⊥
-        by (inl o) e = let f = ap (λ (q : Key). q.file) (e ∙ ap (λ (z : Head). z.key) o.is) in omega arith
-        by (inr o) e =
-            let id : g ≡ o.row.id = ap (λ (q : Key). q.id) (e ∙ o.key) in
-            ne (ap (λ (q : GroupRow). q.owner) (same_group group o.row (sym is ∙ ap (group_at s) id ∙ o.group)) ∙ o.owner)
-
   module _ (own : group.owner ≡ n) where
     dense : kind_at s format.nodes_file n ≡ format.dense
     dense = ap (kind_at s format.nodes_file) (sym own) ∙ well.grouped.owned g group is

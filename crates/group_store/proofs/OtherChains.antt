@@ -163,9 +163,6 @@ others_read s t node same = subst (λ (z : State). KeepsOtherChains s z node) (s
   after = λ n g ne there. inl refl;
 })
 
-pub others_same : (s : State) (node : ℕ) → KeepsOtherChains s s node
-others_same s node = others_read s s node refl
-
 -- the group of a head is the node's own
 head_owned : (s : State) (head : Head) (node : ℕ) → head.key.file ≡ format.groups_file → IsHeadOf s.records head node → IsOwnedBy s.records node head.key.id
 head_owned s head node file (inl o) = absurd (let f = ap (λ (h : Head). h.key.file) o.is in omega arith)

@@ -152,11 +152,6 @@ pub row_sound : (fault : RowFault) → rows.NotDamaged {T = Option RelRow} (Err 
 row_sound rows_fault.Disk h = tt
 row_sound (rows_fault.Damaged damage) h = h
 
-pub chain_sound : (fault : Fault) → faults.NotDamaged {T = ℕ} (Err fault) → IsUndamaged fault
-chain_sound chain_fault.Memory h = tt
-chain_sound chain_fault.Disk h = tt
-chain_sound (chain_fault.Damaged damage) h = h
-
 -- a relationship that is left is there
 pub rel_there : (s : State) (node rel : ℕ) (rest : List ℕ) (most : ℕ) (empty : List ℕ) → IsSpread s node rel (rel ∷ rest) most empty
     → loading.row_at s.records rel ≢ None

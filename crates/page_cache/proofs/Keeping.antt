@@ -19,13 +19,6 @@ use Rattle.page_cache.proofs.LastPages.{lookup-promoted}
 pub stay_none : (pages : Pages) → StayKept pages pages
 stay_none pages = record { room = refl; full = λ full. full; stay = λ key kept. inl kept }
 
-pub stay_on : (a b c : Pages) → StayKept a b → StayKept b c → StayKept a c
-stay_on a b c first more = record {
-  room = more.room ∙ first.room;
-  full = λ full. more.full (first.full full);
-  stay = λ key kept. ⊎_elim (λ still. more.stay key still) (λ full. inr (more.full full)) (first.stay key kept);
-}
-
 -- a page that is used keeps its bytes, as each other does
 pub kept_used : (key : Key) (old new : Pages) → IsUsed key old new → (other : Key) → kept_page other new ≡ kept_page other old
 kept_used key old new used other = ⊎_elim

@@ -211,21 +211,6 @@ module _ (s : State) (owner : Owner) (is : IsOwner owner) (used : IsInUse s.reco
           let l = ap (λ (z : List ℕ). length z) all ∙ length-append r.passed (y ∷ ys) in let c = r.count_is in omega arith,
         )
 
-    -- it is none of those passed
-    pub on_list_twice : In at r.passed → (members : List ℕ) → IsPropertyList s.records (first_of s.records owner) members → ⊥
-    on_list_twice i members list =
-        let e = past_rest s.records (first_of s.records owner) r.passed at r.past members list.walk in
-        by e.rest (subst AreOnce e.all (once_walk (next_property s.records) (first_of s.records owner) members list.walk)) e.walk
-      where
-        twice : (ps : List ℕ) (ys : List ℕ) → AreOnce (ps ++ at ∷ ys) → In at ps → ⊥
-        twice [] ys once j = elim j [ ]
-        twice (p ∷ ps) ys once (inl e) = once.0 (subst (λ z. In z (ps ++ at ∷ ys)) e (in_right at ps (at ∷ ys) (inl refl)))
-        twice (p ∷ ps) ys once (inr j) = twice ps ys once.1 j
-
-        by : (rest : List ℕ) → AreOnce (r.passed ++ rest) → IsWalk (next_property s.records) at rest → ⊥
-        by [] once walk = some walk
-        by (y ∷ ys) once walk = twice r.passed ys (subst (λ z. AreOnce (r.passed ++ z ∷ ys)) (sym walk.0) once) i
-
     -- there are too many
     pub too_many : 32 ≤ count → Breaks s.records s.shape (damage file x 5)
     too_many le = element_breaks (λ members list. let here = on_list members list in let few = list.few in let more = here.1 in omega arith)

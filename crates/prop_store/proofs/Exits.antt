@@ -19,12 +19,6 @@ space_undamaged Disk = tt
 pub space_exit : {T : Type 0} (r : Result T Fault) (fault : SpaceFault) → IsErrAnd r (λ f. f ≡ of_space fault) → NotDamaged r
 space_exit r fault h = let p = err_from_is_err_and r h in subst NotDamaged (sym p.1) (subst (λ f. NotDamaged {T = ℕ} (Err f)) (sym p.2) (space_undamaged fault))
 
--- and one that is passed on as it is, is none where it was none
-pub same_exit : {T U : Type 0} (r : Result T Fault) (q : Result U Fault) (fault : Fault) → q ≡ Err fault → IsErrAnd r (λ f. f ≡ fault) → NotDamaged q
-    → NotDamaged r
-same_exit r q fault is h sound = let p = err_from_is_err_and r h in subst NotDamaged (sym p.1)
-    (subst (λ f. NotDamaged {T = ℕ} (Err f)) (sym p.2) (subst NotDamaged is sound))
-
 -- a fault of a space has what both of its causes have
 pub space_has : {T : Type 0} (P : Fault → Type 0) → P faults.Memory → P faults.Disk → (r : Result T Fault) (fault : SpaceFault)
     → IsErrAnd r (λ f. f ≡ of_space fault) → IfErr r P

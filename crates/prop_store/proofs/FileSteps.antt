@@ -315,7 +315,3 @@ module _ (s m t : Records) (shape : Shape) (file id : ℕ) (rec : Rec) (old new 
   -- One more is live.
   pub live_taken : (meta_in t file).live ≡ (meta_in s file).live + 1
   live_taken = ap (λ r. (metas.meta_of r).live) meta_stays ∙ taken.live
-
-  -- Nothing was written beside the file.
-  pub beside_taken : IsSameBeside file s t
-  beside_taken key out other = others key (λ e. out (ap (λ (k : Key). k.file) e)) ∙ taken.others key other

@@ -74,9 +74,6 @@ module _ (key first next : ℕ) where
     abbrev inline_sized : Rec
     inline_sized = with_field 2 (keyed format.text_inline key) format.property_length (length text)
 
-    abbrev inline_record : Rec
-    inline_record = with_field 4 (with_text inline_sized format.property_text text) format.property_next next
-
     pub inline-is : property_record key (values.Text text) first next ≡ with_field 4
         (with_text (with_field 2 (keyed format.text_inline key) format.property_length (length text)) format.property_text text) format.property_next next
     inline-is = rw (short_true text short) refl

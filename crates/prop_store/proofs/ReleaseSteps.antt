@@ -62,10 +62,6 @@ pub record LeavesLinked (s t : State) (blocks rest : List ℕ) : Type 0 where
   pub left : AreUsedOnce t.records rest
   pub link : 0 < length blocks → IsLinkBelow (meta_of t format.strings_file).free (meta_of t format.strings_file).high
 
-pub none_linked : (s : State) (blocks : List ℕ) → AreUsedOnce s.records blocks
-    → (0 < length blocks → IsLinkBelow (meta_of s format.strings_file).free (meta_of s format.strings_file).high) → LeavesLinked s s blocks blocks
-none_linked s blocks used link = record { harmless = λ d why. why; left = used; link = link }
-
 pub one_linked : (s t u : State) (blocks whole rest : List ℕ) (id : ℕ) → 0 < length blocks → whole ≡ id ∷ rest → id < format.most_ids
     → u ≡ given t format.strings_file id → LeavesLinked s t blocks whole → LeavesLinked s u blocks rest
 one_linked s t u blocks whole rest id some e few now left =

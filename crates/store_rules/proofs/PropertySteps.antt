@@ -69,9 +69,6 @@ module _ (s : Records) (shape : Shape) (store : IsWellFormed s shape) (file x : 
     pub value_lacked : maps.get (properties_at (graph_of s) (target_in file x)) text ≡ None
     value_lacked = ap (λ m. maps.get m text) (properties_at-is s file x es element used are) ∙ get-map_of_none names es text lack
 
-    pub nothing_removed : without_value (graph_of s) (target_in file x) text ≡ graph_of s
-    nothing_removed = graph_kept s file x es element used are (λ properties. maps.remove properties text) (map_of-lacking names es text lack)
-
 -- ---- changes
 -- The records are a well-formed store, and their graph is this one.
 pub record IsStoreOf (t : Records) (shape : Shape) (graph : Graph) : Type 0 where

@@ -101,26 +101,6 @@ outcome_takes outcomes.SourceFault d a b c new p f = drops_joined d p f
 outcome_takes outcomes.Exhausted d a b c new p f = drops_joined d p f
 
 module _ (tells : Type 0) (start now new : Reading) (left_start left : List ℕ) where
-  pub outcome_counts : (o : Outcome) (d : Bool) → Passed tells start left_start d now left → StepCounts (steps.Ended o) d now new → OutcomeCounts o start new
-  outcome_counts (outcomes.Found found) true p c = omega (arith, p.more refl, c.0)
-  outcome_counts (outcomes.Found found) false p c = omega (arith, p.no_less, c.1 refl)
-  outcome_counts outcomes.End d p c = c.1
-  outcome_counts outcomes.SourceFault d p c = (record { had_not_ended = p.start_goes_on c.0.had_not_ended; has_not_ended = c.0.has_not_ended; none_held = c.0.none_held }, c.1)
-  outcome_counts outcomes.Exhausted d p c = (record { had_not_ended = p.start_goes_on c.0.had_not_ended; has_not_ended = c.0.has_not_ended; none_held = c.0.none_held }, c.1)
-
-  pub outcome_stays : (o : Outcome) (d : Bool) → Passed tells start left_start d now left → StepCounts (steps.Ended o) d now new → new.ended ≡ false
-      → start.ended ≡ false
-  outcome_stays (outcomes.Found found) d p c e = p.start_goes_on (sym c.2 ∙ e)
-  outcome_stays outcomes.End d p c e = absurd (cc (c.1, e))
-  outcome_stays outcomes.SourceFault d p c e = p.start_goes_on c.0.had_not_ended
-  outcome_stays outcomes.Exhausted d p c e = p.start_goes_on c.0.had_not_ended
-
-  pub outcome_asked : (o : Outcome) (d : Bool) → Passed tells start left_start d now left → StepCounts (steps.Ended o) d now new → start.ended ≡ false
-      → new.ended ≡ true → new.taken < 2 ^ 30
-  outcome_asked (outcomes.Found found) d p c e f = omega (arith, c.3, p.asked e (sym c.2 ∙ f))
-  outcome_asked outcomes.End d p c e f = subst (λ (r : Reading). r.taken < 2 ^ 30) (sym c.0) (p.asked e (ap (λ (r : Reading). r.ended) (sym c.0) ∙ f))
-  outcome_asked outcomes.SourceFault d p c e f = absurd (cc (c.0.has_not_ended, f))
-  outcome_asked outcomes.Exhausted d p c e f = absurd (cc (c.0.has_not_ended, f))
 
 -- a step further
 pub passed_on : (tells : Type 0) (start now new : Reading) (left_start left left_new : List ℕ) (d e : Bool) → Passed tells start left_start d now left

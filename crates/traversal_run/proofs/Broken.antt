@@ -74,11 +74,6 @@ all_named : (records : Records) (mark : ℕ) (ps : List ℕ) → ((p : ℕ) → 
 all_named records mark [] named = refl
 all_named records mark (p ∷ ps) named = (λ i. lt_true (key_of records p) mark (named p (inl refl)) i && all_named records mark ps (λ q at. named q (inr at)) i)
 
-pub keys_below : (mark : ℕ) (es : List Property) → ((key : ℕ) → In key (keys_of es) → key < mark)
-    → list_all (λ (prop : Prop). nat_lt prop.key mark) (map prop_of es) ≡ true
-keys_below mark [] known = refl
-keys_below mark (e ∷ es) known = (λ i. lt_true e.key mark (known e.key (inl refl)) i && keys_below mark es (λ key at. known key (inr at)) i)
-
 pub owner_unnamed : (s : State) (owner : Owner) → IsOwner owner → IsInUse s.records owner → (props : List Prop)
     → props ≡ map prop_of (properties_met s.records owner)
     → list_all (λ (prop : Prop). nat_lt prop.key (name_count s.records)) props ≡ false → Breaks s.records s.shape (damage owner.key.file owner.key.id 5)

@@ -70,25 +70,6 @@ pub counts_end : (graph : Graph) (source now rest : Source) (before so_far : ℕ
 counts_end graph source now rest before so_far same none is =
     let long : length (left_of graph now) ≡ 0 = ap length none in (omega arith, ended graph now rest is)
 
--- what a count makes of the source
-pub count_feeds : (graph : Graph) (source rest : Source) (before after : ℕ) (told fits : Bool) → Counts graph source before fits rest after
-    → fits || told ≡ true
-    → Feeds graph source (stages.Count before told) [] rest (stages.Count after told)
-count_feeds graph source rest before after true fits counts gives = (refl, refl)
-count_feeds graph source rest before after false true counts gives =
-    let none : length (left_of graph rest) ≡ 0 = ap length counts.1 in
-    let is = counts.0 in
-    let same : before + length (left_of graph source) ≡ after + length (left_of graph rest) = omega arith in
-    (ap (counted false) same, ap (λ n. nat_lt 9223372036854775807 n) same)
-count_feeds graph source rest before after false false counts gives = cc
-
-pub count_past : (graph : Graph) (source rest : Source) (before after : ℕ) (told fits : Bool) → Counts graph source before fits rest after
-    → fits || told ≡ false
-    → counts_past (stages.Count before told) (left_of graph source) ≡ true
-count_past graph source rest before after told true counts none = cc
-count_past graph source rest before after true false counts none = cc
-count_past graph source rest before after false false counts none = lt-ltb 9223372036854775807 (before + length (left_of graph source)) counts
-
 -- ---- another step
 
 -- the step takes one more item

@@ -113,9 +113,6 @@ module _ (graph : Graph) (d : ℕ) (few : AreFewAt graph d) where
   hop_batch : (list : List Item) → length list ≤ 2 * d → IsBatch d true (list ++ [])
   hop_batch list most = let fits = elements-few list in inl (subst (λ (l : List Item). elements_in l ≤ 2 * d) (sym (append-nil list)) (omega arith))
 
-  one_batch : (list : List Item) → length list ≤ 1 → IsBatch d false (list ++ [])
-  one_batch list one = inr (subst (λ (l : List Item). length l ≤ 1) (sym (append-nil list)) one)
-
   mapped_batch : (mapping : Mapping) (item : Item) → IsBatch d (gives_edges mapping) (mapped graph mapping item ++ [])
   mapped_batch (mappings.Neighbours hop) (items.Vertex id) = hop_batch _ (neighbours_few hop.direction hop.labels id)
   mapped_batch (mappings.Neighbours hop) (items.Edge id label from to) = hop_batch [] (omega arith)

@@ -103,8 +103,6 @@ as_hop stage hop item s t makes reads =
     (λ (is : stage ≡ stages.Mapped (mappings.Incident hop)). subst (λ (step : Stage). StageReads step item s t) is reads) makes
 
 module _ {R : Type 0} (space : SpaceGhosts R) (names : List (List ℕ)) (stage : Stage) (old : R) (before : Left) where
-  pub fed_first : FedHop space names stage stage old old before before
-  fed_first = record { one = λ id hop makes only. inl (record { same = refl; only = only; here = refl }); none = λ none. (none, refl) }
 
   -- it is no vertex in use, or that was not told
   pub took_row : (step : Stage) (now mid : R) (left rest : Left) (x : ℕ) → FedHop space names stage step old now before left → TakesId left x rest
@@ -204,9 +202,6 @@ idle_alone rows alone at any lt waits =
 -- a count and a filter are no hops
 pub no_count : (stage : Stage) (so_far : ℕ) (told : Bool) → stage ≡ stages.Count so_far told → is_hop stage ≡ true → ⊥
 no_count stage so_far told is hop = off_on hop (ap is_hop is)
-
-pub no_filter : (stage : Stage) (test : Filter) → stage ≡ filter_stage test → is_hop stage ≡ true → ⊥
-no_filter stage test is hop = off_on hop (ap is_hop is)
 
 hop_shut : (stage : Stage) → is_hop stage ≡ true → is_open stage ≡ false
 hop_shut (stages.Mapped mapping) hop = refl

@@ -102,13 +102,6 @@ node_label-is s id row found =
     ap (option_map (λ (node : Node). node.label)) (find_collect node_number (node_of s) (high s format.nodes_file) id (nodes_numbered s) (kind_below (high s format.nodes_file) (rec_at s format.nodes_file id) id is.0) ∙ node_used s id is.0)
     ∙ ap (λ (r : NodeRow). Some (name_at s r.label)) (sym is.1)
 
--- whose number is a name's in a store
-pub label_known : (s : Records) (shape : Shape) → IsWellFormed s shape → (id : ℕ) (row : NodeRow) → Some row ≡ nodes.row_at s id → row.label < name_count s
-label_known s shape store id row found =
-    let is = node_rows.kind-row_at-Some s id row (sym found) in
-    subst (λ (r : NodeRow). r.label < name_count s) (sym is.1)
-    (store.named.nodes_named id (node_in (rec_at s format.nodes_file id) id) (row_some (kind_at s format.nodes_file id) (node_in (rec_at s format.nodes_file id) id) is.0))
-
 -- ---- a text that is no name
 
 module _ (s : State) (store : IsWellFormed s.records s.shape) (text : List ℕ) (none : FindsName s.records None text) where

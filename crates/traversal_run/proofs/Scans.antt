@@ -149,12 +149,6 @@ idle_scan rows most at any is lt waits =
     let none : at ≡ 0 = omega arith in
     waits (ap (λ n. (get_or rows n any).waiting) none ∙ ap (λ (rs : List Row). (get_or rs 0 any).waiting) is)
 
-pub busy_scan : (rows : List Row) (most : ℕ) (item : Item) → rows ≡ limit_row most (item ∷ []) ∷ [] → AreIdle rows → ⊥
-busy_scan rows most item is idle = clash (subst AreIdle is idle).0
-  where
-    clash : item ∷ [] ≡ [] → ⊥
-    clash e = cc
-
 pub quiet_scan : (rows : List Row) (most at : ℕ) (any : Row) → rows ≡ limit_row most [] ∷ [] → at < length rows → is_open (get_or rows at any).stage ≡ true → ⊥
 quiet_scan rows most at any is lt opens =
     let lt_one : at < 1 = subst (λ (rs : List Row). at < length rs) is lt in

@@ -18,10 +18,6 @@ all_one : (P : ℕ → Type 0) (number : ℕ) → P number → All P (number ∷
 all_one P number holds zero d lt = holds
 all_one P number holds (suc k) d lt = absurd (omega arith)
 
--- a hop that names none
-pub none_named : (s : Records) → AreTypeNumbers s [] []
-none_named s = record { finds = λ number lt. refl; below = all_none (λ number. number < name_count s); none = λ is. refl }
-
 -- one that names a type of the store
 pub one_named : (s : Records) (number : ℕ) (text : List ℕ) → FindsName s (Some number) text → number < name_count s → AreTypeNumbers s (number ∷ []) (text ∷ [])
 one_named s number text finds lt = record {
