@@ -43,8 +43,13 @@ module _ (next prev : ℕ → ℕ) (test : ℕ → Bool) (high : ℕ) where
   pub line_of_chain : (b f : ℕ) (xs : List ℕ) → IsChain next prev b f xs → ((x : ℕ) → In x xs → x < high) → ((x : ℕ) → In x xs → test x ≡ true)
       → IsLine next fits high b f xs
   line_of_chain b f [] h low ok = h
-  line_of_chain b f (x ∷ xs) h low ok =
-      (h.0, low x (inl refl), and_from (test x) (nat_eq (prev x) b) (ok x (inl refl)) (eq-eqb (prev x) b h.2), line_of_chain x (next x) xs h.3 (λ y i. low y (inr i)) (λ y i. ok y (inr i)))
+  line_of_chain b f (x ∷ xs) h low ok = (
+    h.0,
+    low x (inl refl),
+    and_from (test x) (nat_eq (prev x) b) (ok x (inl refl)) (eq-eqb (prev x) b h.2),
+    line_of_chain x (next x) xs h.3
+        (λ y i. low y (inr i)) (λ y i. ok y (inr i)),
+  )
 
 -- a chain is determined
 pub chain_one : (next prev : ℕ → ℕ) (b f : ℕ) (xs ys : List ℕ) → IsChain next prev b f xs → IsChain next prev b f ys → xs ≡ ys
@@ -118,7 +123,8 @@ module _ (records : Records) (head : rules.Head) (n : ℕ) (side : Side) (fit : 
   pub head_chain : high records format.relationships_file ≤ format.most_ids → (first : ℕ) → first ≡ rules.first_of records head → (xs : List ℕ) → IsIt first xs
       → IsHeadChain records head n xs
   head_chain room first is xs h = record {
-    chain = subst (λ f. IsChain next prev format.nil f xs) is (chain_of_line next prev (λ x. is_of side n (rel_of x)) (high records format.relationships_file) room format.nil first xs h);
+    chain = subst (λ f. IsChain next prev format.nil f xs) is (chain_of_line next prev (λ x. is_of side n (rel_of x)) (high records format.relationships_file)
+        room format.nil first xs h);
     only = λ x i. stands_of x
         (below_in next (λ before x. is_of side n (rel_of x) && nat_eq (prev x) before) (high records format.relationships_file) room format.nil first xs h x i)
         (test_of_line next prev (λ x. is_of side n (rel_of x)) (high records format.relationships_file) format.nil first xs h x i);
@@ -153,7 +159,8 @@ found_is records after head n side mark first Nothing fit read is room at has mu
 found_is records after head n side mark first Missing fit read is room at has must h = (
   must,
   no_ends records head n side fit first at
-      (subst (λ m. (xs : List ℕ) → ¬ IsLineIn (chain_line side n) records m first xs) is (subst (λ (r : Records). (xs : List ℕ) → ¬ IsLineIn (chain_line side n) r mark first xs) read h)),
+      (subst (λ m. (xs : List ℕ) → ¬ IsLineIn (chain_line side n) records m first xs) is (subst (λ (r : Records). (xs : List ℕ) → ¬ IsLineIn (chain_line side n)
+      r mark first xs) read h)),
 )
 found_is records after head n side mark first (Items v) fit read is room at has must h =
     let ends = head_ends records head n side fit first v.items room at

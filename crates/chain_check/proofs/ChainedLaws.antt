@@ -134,7 +134,8 @@ module _ (records : Records) where
         ((step g).0 m)),
     (λ k. (step g).1 (⊎_elim
         (λ (lt : k.node < mark). inl ((h g).1 (record { node = k.node; below = lt; on = k.on })))
-        (λ (ge : mark ≤ k.node). let lt : k.node < mark + 1 = k.below in let same : k.node ≡ mark = omega arith in inr (subst (λ n. IsOnChain records n g) same k.on))
+        (λ (ge : mark ≤ k.node). let lt : k.node < mark + 1 = k.below in let same : k.node ≡ mark = omega arith in inr (subst (λ n. IsOnChain records n g)
+        same k.on))
         (cases_lt k.node mark))),
   )
 

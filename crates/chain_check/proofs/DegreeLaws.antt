@@ -34,7 +34,8 @@ degree_more records x y n r lt e next =
     let read = stands_read records x n r lt e in
     ⊎_elim
     (λ (t : is_of_node n r ≡ true). count_more test x y next (read ∙ t) ∙ ap (λ b. length (ids test x) + cond b 1 0) (sym t))
-    (λ (f : is_of_node n r ≡ false). count_same test x y next (read ∙ f) ∙ (let z : length (ids test x) ≡ length (ids test x) + 0 = omega arith in z) ∙ ap (λ b. length (ids test x) + cond b 1 0) (sym f))
+    (λ (f : is_of_node n r ≡ false). count_same test x y next (read ∙ f) ∙ (let z : length (ids test x) ≡ length (ids test x) + 0 = omega arith in z) ∙ ap
+    (λ b. length (ids test x) + cond b 1 0) (sym f))
     (cases_Bool (is_of_node n r))
 
 -- where each node keeps the rule the store does

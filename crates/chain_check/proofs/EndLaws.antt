@@ -86,7 +86,8 @@ module _ (records : Records) where
   -- and so do all nodes
   pub nodes_keep : ((n : ℕ) → n < high records format.nodes_file → NodeKeeps records n) → (n : ℕ) → NodeKeeps records n
   nodes_keep each n = record {
-    chain = λ is. let k = each n (kind_below (high records format.nodes_file) (rec_at records format.nodes_file n) n (λ z. let e : 1 ≡ 0 = sym is ∙ z in omega arith)) in k.chain is;
+    chain = λ is. let k = each n (kind_below (high records format.nodes_file) (rec_at records format.nodes_file n) n (λ z. let e : 1 ≡ 0 = sym is ∙ z in omega
+        arith)) in k.chain is;
   }
 
   row_end : (n x : ℕ) (row : RelRow) → rel_at records x ≡ Some row → rules.IsEnd n row
@@ -99,7 +100,8 @@ module _ (records : Records) where
   head_end : (head : rules.Head) (n x : ℕ) → IsHeadOf records head n → (s : Stands records head x) → rules.IsEnd n s.row
   head_end head n x (inl o) s = ⊎_elim
       (λ (b : (head.key.file ≡ format.nodes_file) × rules.IsEnd head.key.id s.row). subst (λ (h : rules.Head). rules.IsEnd h.key.id s.row) o.is b.1)
-      (λ (b : (head.key.file ≡ format.groups_file) × rules.IsInGroup (group_at records) head s.row). absurd (let f = b.0 in let k = ap (λ (h : rules.Head). h.key.file) o.is in omega arith))
+      (λ (b : (head.key.file ≡ format.groups_file) × rules.IsInGroup (group_at records) head s.row). absurd (let f = b.0 in let k = ap
+      (λ (h : rules.Head). h.key.file) o.is in omega arith))
       s.on
   head_end head n x (inr o) s = stands_end records head n x o s
 
@@ -185,7 +187,13 @@ module _ (records : Records) where
         let node : m ≡ n = end_node m n p mb.end ma.end in
         let rel : mb.end.rel ≡ ma.end.rel = end_rel m n p mb.end ma.end in
         let x = ma.end.rel in
-        let one : IsInChain records n x = record { head = group_head (group_of i) (place_of i); owns = inr (own_of i a.must); members = a.listed.members; chain = a.listed.chain; member = ma.member } in
+        let one : IsInChain records n x = record {
+          head = group_head (group_of i) (place_of i);
+          owns = inr (own_of i a.must);
+          members = a.listed.members;
+          chain = a.listed.chain;
+          member = ma.member;
+        } in
         let other : IsInChain records n x = record {
           head = group_head (group_of j) (place_of j);
           owns = inr (subst (ChainedHead records (group_head (group_of j) (place_of j))) node (own_of j b.must));
@@ -201,8 +209,10 @@ module _ (records : Records) where
           half_end ma.end,
           rel_low x ma.stands.row ma.stands.live,
           (λ k. ⊎_elim
-              (λ (e : ma.stands.row.from ≡ n). let keeps = subst (λ z. EndKeeps records z x) e (k.from ma.stands.row ma.stands.live) in apart_heads (keeps.once one other))
-              (λ (e : ma.stands.row.to ≡ n). let keeps = subst (λ z. EndKeeps records z x) e (k.to ma.stands.row ma.stands.live) in apart_heads (keeps.once one other))
+              (λ (e : ma.stands.row.from ≡ n). let keeps = subst (λ z. EndKeeps records z x) e (k.from ma.stands.row ma.stands.live) in apart_heads
+              (keeps.once one other))
+              (λ (e : ma.stands.row.to ≡ n). let keeps = subst (λ z. EndKeeps records z x) e (k.to ma.stands.row ma.stands.live) in apart_heads
+              (keeps.once one other))
               end),
         )
       where
@@ -210,7 +220,8 @@ module _ (records : Records) where
         half_end {k} {q} e = half_of e.rel q (leaves (rec_at records format.relationships_file e.rel) k) e.end
 
     -- so what is met twice doesn't
-    pub group_twice : (mark count : ℕ) (marks : List Bool) (p : ℕ) → ((q : ℕ) → Decides (marked marks q) (AmongHeads (IsSparse records) (AreNodeEnds records) mark q)) → IsTwice Begins (AreGroupEnds records) count marks p
+    pub group_twice : (mark count : ℕ) (marks : List Bool) (p : ℕ) → ((q : ℕ) → Decides (marked marks q) (AmongHeads (IsSparse records) (AreNodeEnds records)
+        mark q)) → IsTwice Begins (AreGroupEnds records) count marks p
         → (x : ℕ) × (x ≡ p / 2) × (x < high records format.relationships_file) × (¬ RelKeeps records x)
     group_twice mark count marks p told t = ⊎_elim
         (λ (m : marked marks p ≡ true). let a = (told p).0 m in absurd (apart a.id t.head p a.here t.here))
@@ -247,8 +258,11 @@ module _ (records : Records) where
           let p = owned_by records n own.row.id own.row own.group own.owner in
           let same : k.0 ≡ n = sym o.owner ∙ ap (owner_at records) (sym id) ∙ p.owner in
           let i = number_of g place n own.field (subst (λ m. IsOnChain records m g) same k.1) in
-          let l = (heads i.id i.low).list i.begins in
-          (l.1.members, subst (λ h. IsHeadChain records h n l.1.members) (sym i.is) (subst (λ m. IsHeadChain records (group_head (group_of i.id) (place_of i.id)) m l.1.members) i.owner l.1.chain));
+          let l = (heads i.id i.low).list i.begins in (
+            l.1.members,
+            subst (λ h. IsHeadChain records h n l.1.members) (sym i.is)
+                (subst (λ m. IsHeadChain records (group_head (group_of i.id) (place_of i.id)) m l.1.members) i.owner l.1.chain),
+          );
     }
 
     pub heads_of_keeps : (id : ℕ) → GroupKeeps records (group_of id) → HeadKeeps Begins (AreGroupEnds records) id
@@ -270,7 +284,8 @@ module _ (records : Records) where
 
     module _ (first last : List Bool)
         (nodes : (p : ℕ) → Decides (marked first p) (AmongHeads (IsSparse records) (AreNodeEnds records) (high records format.nodes_file) p))
-        (groups : (p : ℕ) → Decides (marked last p) ((marked first p ≡ true) ⊎ AmongHeads Begins (AreGroupEnds records) (3 * high records format.groups_file) p)) where
+        (groups : (p : ℕ) → Decides (marked last p) ((marked first p ≡ true) ⊎ AmongHeads Begins (AreGroupEnds records) (3 * high records format.groups_file)
+        p)) where
       node_met : (p : ℕ) → AmongHeads (IsSparse records) (AreNodeEnds records) (high records format.nodes_file) p → IsMet records p
       node_met p a = record {
         node = a.id;

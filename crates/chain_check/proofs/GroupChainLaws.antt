@@ -64,7 +64,8 @@ module _ (records : Records) where
   }
     where
       member : (g : ℕ) (row : GroupRow) → group_at records g ≡ Some row → IsGroupOf records row.owner g
-      member g row live = (members g (kind_below (high records format.groups_file) (group_rec g) g (some_row (kind_at records format.groups_file g) (group_in (group_rec g) g) row live).0)) row live
+      member g row live = (members g (kind_below (high records format.groups_file) (group_rec g) g (some_row (kind_at records format.groups_file g)
+          (group_in (group_rec g) g) row live).0)) row live
 
   -- ---- group chains as lines
 
@@ -78,8 +79,12 @@ module _ (records : Records) where
         (nat_eq (field 4 (group_rec g) format.group_owner) n && rules.is_filled (group_rec g)) t in
         let low = kind_low (high records format.groups_file) (group_rec g) g lt in
         let some : kind_at records format.groups_file g ≢ 0 = λ e. true≢false
-        (sym both.0 ∙ ap not (eq_true (field 1 (group_rec g) format.kind) 0 (sym low ∙ e))) in
-        (group_in (group_rec g) g, row_some (kind_at records format.groups_file g) (group_in (group_rec g) g) some, eqb-true (field 4 (group_rec g) format.group_owner) n (and_parts (nat_eq (field 4 (group_rec g) format.group_owner) n) (rules.is_filled (group_rec g)) both.1).0)
+        (sym both.0 ∙ ap not (eq_true (field 1 (group_rec g) format.kind) 0 (sym low ∙ e))) in (
+          group_in (group_rec g) g,
+          row_some (kind_at records format.groups_file g) (group_in (group_rec g) g) some,
+          eqb-true (field 4 (group_rec g)
+              format.group_owner) n (and_parts (nat_eq (field 4 (group_rec g) format.group_owner) n) (rules.is_filled (group_rec g)) both.1).0,
+        )
 
     filled_of : (g : ℕ) → test g ≡ true → rules.is_filled (group_rec g) ≡ true
     filled_of g t =
@@ -98,7 +103,8 @@ module _ (records : Records) where
         and_from (not (nat_eq (field 1 (group_rec g) format.kind) format.free_kind))
         (nat_eq (field 4 (group_rec g) format.group_owner) n && rules.is_filled (group_rec g))
         (ap not (eq_false (field 1 (group_rec g) format.kind) 0 (λ e. r.0 (low ∙ e))))
-        (and_from (nat_eq (field 4 (group_rec g) format.group_owner) n) (rules.is_filled (group_rec g)) (eq_true (field 4 (group_rec g) format.group_owner) n (ap (λ (w : GroupRow). w.owner) r.1 ∙ owner)) filled)
+        (and_from (nat_eq (field 4 (group_rec g) format.group_owner) n) (rules.is_filled (group_rec g)) (eq_true (field 4 (group_rec g) format.group_owner) n
+        (ap (λ (w : GroupRow). w.owner) r.1 ∙ owner)) filled)
 
     -- types that are distinct, and groups that are told apart by them
     apart_in : (x : ℕ) (xs : List ℕ) → AllByRecursion (λ y. nat_eq (group_label records x) y ≡ false) (map (group_label records) xs) → (y : ℕ) → In y xs
@@ -126,7 +132,8 @@ module _ (records : Records) where
     unfolding IsDistinct
     distinct_of b f [] h once = tt
     distinct_of b f (x ∷ xs) h once = (
-      apart_all x xs (λ y i e. head_once next x xs h.1 (walk_of_chain next prev x (next x) xs h.3) (subst (λ z. In z xs) (sym (once x y (inl refl) (inr i) e)) i)),
+      apart_all x xs (λ y i e. head_once next x xs h.1 (walk_of_chain next prev x (next x) xs h.3) (subst (λ z. In z xs) (sym (once x y (inl refl) (inr i) e))
+          i)),
       distinct_of x (next x) xs h.3 (λ g k i j e. once g k (inr i) (inr j) e),
     )
 
@@ -136,8 +143,10 @@ module _ (records : Records) where
 
       chain_from : high records format.groups_file ≤ format.most_ids → (xs : List ℕ) → AreIts xs → IsGroupChain records n xs
       chain_from room xs h = record {
-        chain = subst (λ f. IsChain next prev format.nil f xs) is (chain_of_line next prev test (high records format.groups_file) room format.nil first xs h.line);
-        only = λ g i. row_of g (below_in next (λ before x. test x && nat_eq (prev x) before) (high records format.groups_file) room format.nil first xs h.line g i) (passes g i);
+        chain = subst (λ f. IsChain next prev format.nil f xs) is (chain_of_line next prev test (high records format.groups_file) room format.nil first xs
+            h.line);
+        only = λ g i. row_of g (below_in next (λ before x. test x && nat_eq (prev x) before) (high records format.groups_file) room format.nil first xs h.line g
+            i) (passes g i);
         filled = λ g i. filled_of g (passes g i);
         once = once_of xs h.types;
       }
@@ -164,10 +173,14 @@ module _ (records : Records) where
         → high records format.groups_file ≤ format.most_ids
         → first ≡ first_link records n → IsDense records n → GroupsFound after mark n first found → FoundIs (IsDense records n) (IsGroupChain records n) found
     found_is after mark first Nothing read is room at dense h = absurd h
-    found_is after mark first Missing read is room at dense h =
-        (dense, λ xs k. subst (λ m. (ys : List ℕ) → ¬ AreGroups records m n first ys) is (subst (λ (r : Records). (ys : List ℕ) → ¬ AreGroups r mark n first ys) read h) xs (groups_from first at xs k))
+    found_is after mark first Missing read is room at dense h = (
+      dense,
+      λ xs k. subst (λ m. (ys : List ℕ) → ¬ AreGroups records m n first ys) is (subst (λ (r : Records). (ys : List ℕ) → ¬ AreGroups r mark n first ys)
+          read h) xs (groups_from first at xs k),
+    )
     found_is after mark first (Items v) read is room at dense h =
-        let groups = chain_from first at room v.items (subst (λ m. AreGroups records m n first v.items) is (subst (λ (r : Records). AreGroups r mark n first v.items) read h)) in
+        let groups = chain_from first at room v.items (subst (λ m. AreGroups records m n first v.items) is
+        (subst (λ (r : Records). AreGroups r mark n first v.items) read h)) in
         (dense, groups, (λ xs k. group_chain_one n xs v.items k groups))
 
   -- ---- what the marks say
@@ -197,7 +210,8 @@ module _ (records : Records) where
   pub head_of_keeps : (n : ℕ) → OwnerKeeps records n → HeadKeeps (IsDense records) (IsGroupChain records) n
   head_of_keeps n k = record { list = k.groups }
 
-  module _ (marks : List Bool) (told : (p : ℕ) → Decides (marked marks p) (AmongHeads (IsDense records) (IsGroupChain records) (high records format.nodes_file) p)) where
+  module _ (marks : List Bool) (told : (p : ℕ) → Decides (marked marks p) (AmongHeads (IsDense records) (IsGroupChain records) (high records format.nodes_file)
+      p)) where
     pub member_of_mark : (g : ℕ) → (is_live records format.groups_file g ≡ true → marked marks g ≡ true) → HasOwner g
     member_of_mark g h row live =
         let kind = some_row (kind_at records format.groups_file g) (group_in (group_rec g) g) row live in

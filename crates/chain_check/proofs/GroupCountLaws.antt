@@ -113,7 +113,8 @@ module _ (records : Records) where
       length_all : length listed.members ≡ count_of test (rel_at records) mark
       length_all = length_same listed.members all
           (once_walk (λ x. next_in (rec_at records format.relationships_file x) row.owner) (rules.first_of records head) listed.members
-          (walk_of_chain (λ x. next_in (rec_at records format.relationships_file x) row.owner) (λ x. prev_in (rec_at records format.relationships_file x) row.owner) format.nil (rules.first_of records head) listed.members listed.chain))
+          (walk_of_chain (λ x. next_in (rec_at records format.relationships_file x) row.owner) (λ x. prev_in (rec_at records format.relationships_file x)
+          row.owner) format.nil (rules.first_of records head) listed.members listed.chain))
           (once_ids (λ x. passes test (rel_at records x)) mark)
           (λ x i.
           let s = listed.only x i in
@@ -135,7 +136,8 @@ module _ (records : Records) where
       pub length_line : (xs : List ℕ) → IsIt xs → length xs ≡ count_of test (rel_at records) mark
       length_line xs h =
           let c : IsHeadChain records head row.owner xs = head_chain records head row.owner side fit room (field 4 (group_rec g) place) refl xs h in
-          ap length (chain_one (λ x. next_in (rec_at records format.relationships_file x) row.owner) (λ x. prev_in (rec_at records format.relationships_file x) row.owner) format.nil (rules.first_of records head) xs listed.members c.chain listed.chain)
+          ap length (chain_one (λ x. next_in (rec_at records format.relationships_file x) row.owner) (λ x. prev_in (rec_at records format.relationships_file x)
+          row.owner) format.nil (rules.first_of records head) xs listed.members c.chain listed.chain)
           ∙ length_all
 
     -- ---- the three of them
@@ -147,7 +149,8 @@ module _ (records : Records) where
     read = (some_row (kind_at records format.groups_file g) (group_in (group_rec g) g) row live).1
 
     -- a line of the record is one of the row
-    from_record : (place : ℕ) (xs : List ℕ) → IsLineIn (chain_line (side_at place (field 4 (group_rec g) format.group_type)) (field 4 (group_rec g) format.group_owner)) records mark (field 4 (group_rec g) place) xs → side_line place xs
+    from_record : (place : ℕ) (xs : List ℕ) → IsLineIn (chain_line (side_at place (field 4 (group_rec g) format.group_type)) (field 4 (group_rec g)
+        format.group_owner)) records mark (field 4 (group_rec g) place) xs → side_line place xs
     from_record place xs h = subst (λ (w : GroupRow). IsLineIn (chain_line (side_at place w.label) w.owner) records mark (field 4 (group_rec g) place) xs) read
         h
 

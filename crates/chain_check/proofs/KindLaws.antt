@@ -22,7 +22,8 @@ pub kinds_all : (records : Records) (kinds : List ℕ) → length kinds ≡ high
     → ((n : ℕ) → n < length kinds → kind_of kinds n ≡ kind_at records format.nodes_file n) → AreKinds records kinds
 kinds_all records kinds len below n = ⊎_elim
     (λ (lt : n < length kinds). below n lt)
-    (λ (ge : length kinds ≤ n). get_or_past kinds n 0 ge ∙ sym (kind_high (high records format.nodes_file) (rec_at records format.nodes_file n) n (omega arith)))
+    (λ (ge : length kinds ≤ n). get_or_past kinds n 0 ge ∙ sym (kind_high (high records format.nodes_file) (rec_at records format.nodes_file n) n
+    (omega arith)))
     (cases_lt n (length kinds))
 
 -- what is said by one list of kinds is said by the same kinds

@@ -143,7 +143,8 @@ module _ (records : Records) (rows : List LinkRow) (are : AreLinkRows records ro
         record {
           members = h.members;
           chain = line_by link next stands fits (length rows) to_rows format.nil (first_link records n) h.members below;
-          are = h.are ∙ sym (map_by link stands (length rows) (λ x. row_end n x (row_at rows x)) (end_of records n) ends_same format.nil (first_link records n) h.members below);
+          are = h.are ∙ sym (map_by link stands (length rows) (λ x. row_end n x (row_at rows x)) (end_of records n) ends_same format.nil (first_link records n)
+              h.members below);
         }
 
 -- ---- the head of a chain
@@ -154,7 +155,8 @@ ends_one : (rows : List LinkRow) (n first : ℕ) (xs ys : List ℕ) → length r
 ends_one rows n first xs ys room h k =
     h.are
     ∙ ap (map (λ x. row_end n x (row_at rows x)))
-    (line_one (λ x. row_next n (row_at rows x)) (λ before x. row_fits n before (row_at rows x)) (length rows) format.nil first h.members k.members room h.chain k.chain)
+    (line_one (λ x. row_next n (row_at rows x)) (λ before x. row_fits n before (row_at rows x)) (length rows) format.nil first h.members k.members room h.chain
+    k.chain)
     ∙ sym k.are
 
 -- what a walk finds is the one list of ends
@@ -212,7 +214,8 @@ module _ (records after : Records) (rows : List LinkRow) (nodes : ℕ) (same : a
 
   pub marks_found : (old new : List Bool) (found : Option Broke)
       → IfNone found ((p : ℕ) → Decides (marked new p) ((marked old p ≡ true) ⊎ AmongHeads (IsSparse after) (AreRowEndsOf rows after) nodes p))
-      → IfNone found ((p : ℕ) → Decides (marked new p) ((marked old p ≡ true) ⊎ AmongHeads (IsSparse records) (AreNodeEnds records) (high records format.nodes_file) p))
+      → IfNone found ((p : ℕ) → Decides (marked new p) ((marked old p ≡ true) ⊎ AmongHeads (IsSparse records) (AreNodeEnds records)
+      (high records format.nodes_file) p))
   marks_found old new (Some b) h = tt
   marks_found old new None h = λ p.
       let d : Decides (marked new p) ((marked old p ≡ true) ⊎ AmongHeads (IsSparse records) (AreRowEndsOf rows records) (high records format.nodes_file) p)

@@ -34,7 +34,8 @@ pub apart_link : {A : Type 0} (h : Head) (x : ℕ) → IsPlace h → h.key ≡ r
 apart_link h x other same = absurd (other.elsewhere (ap (λ (k : Key). k.file) same))
 
 -- a push leaves each other head
-pub first_pushed_other : (old new : Records) (head h : Head) (node rel : ℕ) (xs : List ℕ) → IsPlace head → IsPlace h → h ≢ head → HasPushed old new head node rel xs → first_of new h ≡ first_of old h
+pub first_pushed_other : (old new : Records) (head h : Head) (node rel : ℕ) (xs : List ℕ) → IsPlace head → IsPlace h → h ≢ head → HasPushed old new head node
+    rel xs → first_of new h ≡ first_of old h
 first_pushed_other old new head h node rel xs place other ne done =
     done.only.same h.key 4 h.field other.fits
     ((λ e. apart_link h (first_of old head) other e), ((λ e. apart_link h rel other e), ((λ e. apart_head h head other place ne e), tt)))
@@ -74,7 +75,8 @@ module _ (s : State) (owns at : Head → ℕ → Type 0) (heads : AreHeads owns)
       let member : (x : ℕ) → In x (rel ∷ here.members) → at head x ⊎ (x ≡ rel) = λ x i. ⊎_elim (λ e. inr e) (λ k. inl (here.only x k)) i in
       record {
         members = there.members;
-        chain = subst (λ f. IsChainFrom new n f there.members) (sym (first_pushed_other s.records new head h node rel here.members place (heads.place h n o) ne done))
+        chain = subst (λ f. IsChainFrom new n f there.members) (sym (first_pushed_other s.records new head h node rel here.members place (heads.place h n o)
+            ne done))
             (done.others n (first_of s.records h) there.members there.chain (λ x i k. apart h n x o ne (there.only x i) (member x k)));
         only = λ x i. inl (there.only x i);
         all = λ x a. ⊎_elim (λ k. there.all x k) (λ k. absurd (ne k.0)) a;

@@ -15,15 +15,27 @@ use Rattle.chain_edit.proofs.AllPushed.{apart_head, apart_link, head_cases}
 use Rattle.chain_edit.proofs.Removals.{has_unlinked}
 
 -- a removal leaves each other head
-pub first_unlinked_other : (old new : Records) (head h : Head) (node rel : ℕ) (xs : List ℕ) → IsPlace head → IsPlace h → h ≢ head → HasUnlinked old new head node rel xs → first_of new h ≡ first_of old h
+pub first_unlinked_other : (old new : Records) (head h : Head) (node rel : ℕ) (xs : List ℕ) → IsPlace head → IsPlace h → h ≢ head → HasUnlinked old new head
+    node rel xs → first_of new h ≡ first_of old h
 first_unlinked_other old new head h node rel xs place other ne done =
-    done.only.same h.key 4 h.field other.fits (leads, ((λ e. apart_link h rel other e), ((λ e. apart_link h rel other e), ((λ e. apart_link h (next_of old node rel) other e), tt))))
+    done.only.same h.key 4 h.field other.fits (
+      leads,
+      (
+        (λ e. apart_link h rel other e),
+        (
+          (λ e. apart_link h rel other e),
+          ((λ e. apart_link h (next_of old node rel) other e), tt),
+        ),
+      ),
+    )
   where
     before : ℕ
     before = prev_of old node rel
 
-    leads : h.key ≡ (lead_place old head node rel).key → (h.field + 4 ≤ (lead_place old head node rel).field) ⊎ ((lead_place old head node rel).field + 4 ≤ h.field)
-    leads = on_test (λ (p : Head). h.key ≡ p.key → (h.field + 4 ≤ p.field) ⊎ (p.field + 4 ≤ h.field)) (prev_of old node rel) nil head (next_place old node (prev_of old node rel))
+    leads : h.key ≡ (lead_place old head node rel).key → (h.field + 4 ≤ (lead_place old head node rel).field) ⊎ ((lead_place old head node rel).field + 4 ≤
+        h.field)
+    leads = on_test (λ (p : Head). h.key ≡ p.key → (h.field + 4 ≤ p.field) ⊎ (p.field + 4 ≤ h.field)) (prev_of old node rel) nil head
+        (next_place old node (prev_of old node rel))
         (λ _ e. apart_head h head other place ne e) (λ _ e. apart_link h (prev_of old node rel) other e)
 
 module _ (s : State) (owns at : Head → ℕ → Type 0) (heads : AreHeads owns) (all : AllListed s.records owns at)
@@ -46,7 +58,11 @@ module _ (s : State) (owns at : Head → ℕ → Type 0) (heads : AreHeads owns)
   listed_here = record {
     members = without rel here.members;
     chain = done.chain;
-    only = λ x i. (here.only x (in_without rel here.members x i), λ _ e. gone (next_of s.records node) rel (first_of s.records head) here.members (walk_of_chain _ _ nil (first_of s.records head) here.members here.chain) (subst (λ z. In z (without rel here.members)) e i));
+    only = λ x i. (
+      here.only x (in_without rel here.members x i),
+      λ _ e. gone (next_of s.records node) rel (first_of s.records head) here.members
+          (walk_of_chain _ _ nil (first_of s.records head) here.members here.chain) (subst (λ z. In z (without rel here.members)) e i),
+    );
     all = λ x a. stays_without rel here.members x (a.1 refl) (here.all x a.0);
   }
 
@@ -56,7 +72,8 @@ module _ (s : State) (owns at : Head → ℕ → Type 0) (heads : AreHeads owns)
       let there = all.each h n o in
       record {
         members = there.members;
-        chain = subst (λ f. IsChainFrom new n f there.members) (sym (first_unlinked_other s.records new head h node rel here.members place (heads.place h n o) ne done))
+        chain = subst (λ f. IsChainFrom new n f there.members) (sym (first_unlinked_other s.records new head h node rel here.members place (heads.place h n o)
+            ne done))
             (done.others n (first_of s.records h) there.members there.chain (λ x i k. apart h n x o ne (there.only x i) (here.only x k)));
         only = λ x i. (there.only x i, λ e. absurd (ne e));
         all = λ x a. there.all x a.0;

@@ -1,5 +1,6 @@
 -- What is beside a relationship that is taken out: tests of it, and what they leave.
-use Rattle.std.proofs.Common.{◌≡◌, ◌≢◌, ◌+◌, ℕ, zero, suc, ◌<◌, nat_eq, cond, Bool, true, false, Some, IfSome, List, [], ◌∷◌, sym, ap, ◌∙◌, subst, inl, inr, ⊎_elim, arith, refl}
+use Rattle.std.proofs.Common.{◌≡◌, ◌≢◌, ◌+◌, ℕ, zero, suc, ◌<◌, nat_eq, cond, Bool, true, false, Some, IfSome, List, [], ◌∷◌, sym, ap, ◌∙◌, subst}
+use Rattle.std.proofs.Common.{inl, inr, ⊎_elim, arith, refl}
 use Rattle.rec_bytes.specs.declared.damage.Damage.{Damage}
 use Rattle.rec_bytes.specs.declared.fault.Fault.{Fault}
 use Rattle.rec_bytes.specs.declared.fault.Fault.TheVariants.{Memory, Disk, Damaged}
@@ -25,7 +26,8 @@ use Rattle.rel_store.specs.Loading.{rel_mark}
 use Rattle.chain_edit.specs.Breaks.{IsBreakFault}
 use Rattle.chain_edit.specs.Chains.{IsChainAt, next_of, prev_of}
 use Rattle.chain_edit.specs.Links.{backed, prev_set}
-use Rattle.chain_edit.specs.Unlinking.{CanUnlink, IsAstray, IsAstrayFault, IsBehind, IsLinkedIn, IsLoneHead, IsUnlinkFault, alone, astray_damage, leads_to, led, put_back, put_led, seen, unlinked}
+use Rattle.chain_edit.specs.Unlinking.{CanUnlink, IsAstray, IsAstrayFault, IsBehind, IsLinkedIn, IsLoneHead, IsUnlinkFault, alone, astray_damage}
+use Rattle.chain_edit.specs.Unlinking.{leads_to, led, put_back, put_led, seen, unlinked}
 use Rattle.chain_edit.specs.Walking.{ReadsAtMost}
 use Rattle.chain_edit.proofs.Edits.{elsewhere-backed}
 use Rattle.chain_edit.proofs.LinkLaws.{put_rel_elsewhere}
@@ -49,7 +51,8 @@ module _ (next prev : ℕ → ℕ) (f : ℕ) (xs : List ℕ) (r : ℕ) (chain : 
   -- what comes before it leads to it, or the first link does
   pub led_member : cond (nat_eq (prev r) nil) f (next (prev r)) ≡ r
   led_member = on_test (λ v. v ≡ r) (prev r) nil f (next (prev r))
-      (λ (none : prev r ≡ nil). ⊎_elim (λ (e : f ≡ r). e) (λ i. absurd (nil_out next f xs walked (subst (λ z. In z xs) none i))) (before_in next prev nil f xs r chain member))
+      (λ (none : prev r ≡ nil). ⊎_elim (λ (e : f ≡ r). e) (λ i. absurd (nil_out next f xs walked (subst (λ z. In z xs) none i)))
+      (before_in next prev nil f xs r chain member))
       (λ (some : prev r ≢ nil). ⊎_elim (λ (k : (f ≡ r) × (prev r ≡ nil)). absurd (some k.1)) (λ k. k) (next_before next prev nil f xs r chain member))
 
   -- and what comes after it is another than it and than what comes before it
@@ -82,16 +85,23 @@ Blames s head node rel Memory = Unit {0}
 Blames s head node rel Disk = Unit {0}
 Blames s head node rel (Damaged damage) = IsAstray s.records head node rel damage
 
-astray : (s : State) (head : Head) (node rel : ℕ) (damage : Damage) → damage ≡ astray_damage rel → (IsLinkedIn s.records head node rel → ⊥) → IsAstray s.records head node rel damage
-astray s head node rel damage is not = record { is = is; out = λ xs chain i. not (chain_linked s.records head node rel xs (record { chain = chain; member = i })) }
+astray : (s : State) (head : Head) (node rel : ℕ) (damage : Damage) → damage ≡ astray_damage rel → (IsLinkedIn s.records head node rel → ⊥) → IsAstray s.records
+    head node rel damage
+astray s head node rel damage is not = record {
+  is = is;
+  out = λ xs chain i. not (chain_linked s.records head node rel xs
+      (record { chain = chain; member = i }));
+}
 
-pub behind_blames : (s t : State) (head : Head) (node rel before after : ℕ) (fault : Fault) → t ≡ after_get s → before ≡ prev_of s.records node rel → after ≡ next_of s.records node rel
+pub behind_blames : (s t : State) (head : Head) (node rel before after : ℕ) (fault : Fault) → t ≡ after_get s → before ≡ prev_of s.records node rel
+    → after ≡ next_of s.records node rel
     → IsAstrayFault ((after ≢ nil) × (IsBehind t.records node rel before after → ⊥)) rel fault → Blames s head node rel fault
 behind_blames s t head node rel before after Memory read b a told = tt
 behind_blames s t head node rel before after Disk read b a told = tt
 behind_blames s t head node rel before after (Damaged damage) read b a told = astray s head node rel damage told.0 (λ linked.
     told.1.1 (subst (λ (z : State). IsBehind z.records node rel before after) (sym read)
-    (subst (λ x. IsBehind s.records node rel x after) (sym b) (subst (λ x. IsBehind s.records node rel (prev_of s.records node rel) x) (sym a) (linked.behind (λ none. told.1.0 (a ∙ none)))))))
+    (subst (λ x. IsBehind s.records node rel x after) (sym b) (subst (λ x. IsBehind s.records node rel (prev_of s.records node rel) x) (sym a)
+    (linked.behind (λ none. told.1.0 (a ∙ none)))))))
 
 -- a read unless there is none changes no record
 pub seen_records : (t : State) (x : ℕ) → (seen t x).records ≡ t.records
@@ -111,13 +121,15 @@ blamed s head node rel Disk told = tt
 blamed s head node rel (Damaged damage) told = inr told
 
 -- not where it is in one
-pub not_blamed : (s : State) (head : Head) (node rel : ℕ) (fault : Fault) (xs : List ℕ) → CanUnlink s.records head node rel xs → Blames s head node rel fault → IfSome (damage_of fault) (λ _. ⊥)
+pub not_blamed : (s : State) (head : Head) (node rel : ℕ) (fault : Fault) (xs : List ℕ) → CanUnlink s.records head node rel xs → Blames s head node rel fault
+    → IfSome (damage_of fault) (λ _. ⊥)
 not_blamed s head node rel Memory xs can told = tt
 not_blamed s head node rel Disk xs can told = tt
 not_blamed s head node rel (Damaged damage) xs can told = told.out xs can.chain can.member
 
 -- it breaks the third rule, where it stands at no other head
-astray_breaks : (s : State) (head : Head) (node rel : ℕ) (row : RelRow) (damage : Damage) → rel_at s.records rel ≡ Some row → IsLoneHead s.records head node rel row
+astray_breaks : (s : State) (head : Head) (node rel : ℕ) (row : RelRow) (damage : Damage) → rel_at s.records rel ≡ Some row → IsLoneHead s.records head node rel
+    row
     → IsAstray s.records head node rel damage → Breaks s.records s.shape damage
 astray_breaks s head node rel row damage live lone bad =
     let r = rec_at s.records format.relationships_file rel in
@@ -131,9 +143,11 @@ astray_breaks s head node rel row damage live lone bad =
   where
     out : IsInChain s.records node rel → ⊥
     out here = bad.out here.members
-        (subst (λ (h : Head). IsChainAt s.records h node here.members) (lone.lone here.head here.owns (here.chain.only rel here.member)) here.chain.chain) here.member
+        (subst (λ (h : Head). IsChainAt s.records h node here.members) (lone.lone here.head here.owns (here.chain.only rel here.member)) here.chain.chain)
+        here.member
 
-pub blames_breaks : (s : State) (head : Head) (node rel : ℕ) (row : RelRow) (fault : Fault) → rel_at s.records rel ≡ Some row → IsLoneHead s.records head node rel row
+pub blames_breaks : (s : State) (head : Head) (node rel : ℕ) (row : RelRow) (fault : Fault) → rel_at s.records rel ≡ Some row → IsLoneHead s.records head node
+    rel row
     → Blames s head node rel fault → IsBreakFault s fault
 blames_breaks s head node rel row Memory live lone told = tt
 blames_breaks s head node rel row Disk live lone told = tt
@@ -157,7 +171,8 @@ lead_reads s t u v after first then last =
 pub gets_written : (s t u v : State) (after : ℕ) → t ≡ after_get s → u ≡ seen t after → v ≡ after_get u → v.written ≡ s.written
 unfolding seen
 gets_written s t u v after first then last =
-    ap (λ (z : State). z.written) last ∙ ap (λ (z : State). z.written) then ∙ on_test (λ (z : State). z.written ≡ t.written) after nil t (after_get t) (λ _. refl) (λ _. refl) ∙ ap (λ (z : State). z.written) first
+    ap (λ (z : State). z.written) last ∙ ap (λ (z : State). z.written) then ∙ on_test (λ (z : State). z.written ≡ t.written) after nil t (after_get t)
+    (λ _. refl) (λ _. refl) ∙ ap (λ (z : State). z.written) first
 
 gets_keep : (n : ℕ) (s : State) → (after_gets n s).written ≡ s.written
 unfolding after_gets
@@ -174,7 +189,8 @@ on_damage Disk p = tt
 on_damage (Damaged damage) p = p
 
 -- ---- what is written
-pub wrote : (s s3 s4 s5 s6 : State) (before rel after : ℕ) (head : Key) → s3.written ≡ s.written → WritesOnly s3 s4 (rel_key rel ∷ []) → WritesOnly s4 s5 (rel_key after ∷ [])
+pub wrote : (s s3 s4 s5 s6 : State) (before rel after : ℕ) (head : Key) → s3.written ≡ s.written → WritesOnly s3 s4 (rel_key rel ∷ []) → WritesOnly s4 s5
+    (rel_key after ∷ [])
     → WritesOnly s5 s6 (rel_key before ∷ head ∷ []) → WritesOnly s s6 (rel_key before ∷ rel_key rel ∷ rel_key after ∷ head ∷ [])
 wrote s s3 s4 s5 s6 before rel after head same one two three = record {
   each = λ q w. ⊎_elim
@@ -191,7 +207,8 @@ pub wrote_none : (s t : State) (keys : List Key) → t ≡ s → WritesOnly s t 
 wrote_none s t keys is = writes_none s t keys (ap (λ (z : State). z.written) is)
 
 -- what comes to the front writes what stood first, itself and the head
-pub wrote_front : (s s1 s2 s3 s4 : State) (first rel : ℕ) (head : Key) → s1.written ≡ s.written → WritesOnly s1 s2 (rel_key first ∷ []) → WritesOnly s2 s3 (rel_key rel ∷ [])
+pub wrote_front : (s s1 s2 s3 s4 : State) (first rel : ℕ) (head : Key) → s1.written ≡ s.written → WritesOnly s1 s2 (rel_key first ∷ []) → WritesOnly s2 s3
+    (rel_key rel ∷ [])
     → WritesOnly s3 s4 (head ∷ []) → WritesOnly s s4 (rel_key first ∷ rel_key rel ∷ head ∷ [])
 wrote_front s s1 s2 s3 s4 first rel head same one two three =
     writes_then s s3 s4 (rel_key first ∷ rel_key rel ∷ []) (head ∷ [])
@@ -199,7 +216,8 @@ wrote_front s s1 s2 s3 s4 first rel head same one two three =
 
 -- ---- the state
 
-pub alone_is : (r one two was : Rec) (node place : ℕ) → place ≡ place_of r node → r ≡ was → one ≡ with_field 4 r place nil → two ≡ with_field 4 one (place + 4) nil → two ≡ alone was node
+pub alone_is : (r one two was : Rec) (node place : ℕ) → place ≡ place_of r node → r ≡ was → one ≡ with_field 4 r place nil → two ≡ with_field 4 one (place + 4)
+    nil → two ≡ alone was node
 alone_is r one two was node place p is first second =
     second ∙ ap (λ z. with_field 4 z (place + 4) nil) first ∙ ap (λ q. with_field 4 (with_field 4 r q nil) (q + 4) nil) p ∙ ap (λ z. alone z node) is
 
@@ -209,7 +227,8 @@ unfolding put_back seen backed
 back_is g k a node x to r got apart = ⊎_elim
     (λ (e : (x ≡ nil) × (nat_eq x nil ≡ true)). rw e.1 refl)
     (λ (e : (x ≢ nil) × (nat_eq x nil ≡ false)). rw e.1
-    (ap (λ q. after_put (after_put (after_get (after_get g)) k a) (rel_key x) (with_field 4 q (place_of q node) to)) (got e.0 ∙ sym (put_other g.records k a (rel_key x) (apart e.0)))))
+    (ap (λ q. after_put (after_put (after_get (after_get g)) k a) (rel_key x) (with_field 4 q (place_of q node) to))
+    (got e.0 ∙ sym (put_other g.records k a (rel_key x) (apart e.0)))))
     (eq_cases x nil)
 
 led_is : (t : State) (head : Head) (node before after : ℕ) (r : Rec) → (before ≡ nil → r ≡ t.records head.key) → (before ≢ nil → r ≡ t.records (rel_key before))
@@ -217,7 +236,8 @@ led_is : (t : State) (head : Head) (node before after : ℕ) (r : Rec) → (befo
 unfolding put_led led
 led_is t head node before after r none some = ⊎_elim
     (λ (e : (before ≡ nil) × (nat_eq before nil ≡ true)). rw e.1 (ap (λ q. after_put (after_get t) head.key (with_field 4 q head.field after)) (none e.0)))
-    (λ (e : (before ≢ nil) × (nat_eq before nil ≡ false)). rw e.1 (ap (λ q. after_put (after_get t) (rel_key before) (with_field 4 q (place_of q node + 4) after)) (some e.0)))
+    (λ (e : (before ≢ nil) × (nat_eq before nil ≡ false)). rw e.1 (ap (λ q. after_put (after_get t) (rel_key before) (with_field 4 q (place_of q node + 4)
+    after)) (some e.0)))
     (eq_cases before nil)
 
 rel_other : (x y : ℕ) → x ≢ y → rel_key x ≢ rel_key y
@@ -226,7 +246,8 @@ rel_other x y ne e = ne (ap (λ (k : Key). k.id) e)
 backed_other : (t : State) (node x to y : ℕ) → (x ≢ nil → y ≢ x) → (backed t node x to).records (rel_key y) ≡ t.records (rel_key y)
 unfolding backed
 backed_other t node x to y ne = on_test (λ (z : State). z.records (rel_key y) ≡ t.records (rel_key y)) x nil t (prev_set t node x to)
-    (λ _. refl) (λ some. put_other t.records (rel_key x) (with_field 4 (t.records (rel_key x)) (place_of (t.records (rel_key x)) node) to) (rel_key y) (rel_other y x (ne some)))
+    (λ _. refl) (λ some. put_other t.records (rel_key x) (with_field 4 (t.records (rel_key x)) (place_of (t.records (rel_key x)) node) to) (rel_key y)
+    (rel_other y x (ne some)))
 
 -- a relationship that a store can have is none of none
 pub some_rel : (rel : ℕ) → IsKey (rel_key rel) → rel ≢ nil
@@ -264,7 +285,8 @@ module _ (s s1 s2 : State) (head : Head) (node rel before after : ℕ) (behind l
   -- what is before it is another
   before_other : before ≢ nil → before ≢ rel
   before_other some e =
-      let led : next_of s.records node (prev_of s.records node rel) ≡ rel = on_test (λ v. v ≡ rel → next_of s.records node (prev_of s.records node rel) ≡ rel) (prev_of s.records node rel) nil (first_of s.records head) (next_of s.records node (prev_of s.records node rel))
+      let led : next_of s.records node (prev_of s.records node rel) ≡ rel = on_test (λ v. v ≡ rel → next_of s.records node (prev_of s.records node rel) ≡ rel)
+      (prev_of s.records node rel) nil (first_of s.records head) (next_of s.records node (prev_of s.records node rel))
       (λ none. absurd (some (read.is_before ∙ none))) (λ _ q. q) linked.led in
       let after_is : next_of s.records node rel ≡ rel = ap (next_of s.records node) (sym e ∙ read.is_before) ∙ led in
       (linked.behind (λ none. some_rel rel read.key (sym after_is ∙ none))).other after_is
@@ -276,13 +298,17 @@ module _ (s s1 s2 : State) (head : Head) (node rel before after : ℕ) (behind l
       let a = alone (s.records (rel_key rel)) node in
       let freed = after_put (after_get s) (rel_key rel) a in
       let e3 : s3 ≡ after_get (seen (after_get s) after) = three ∙ ap after_get (read.two ∙ ap (λ (z : State). seen z after) read.one) in
-      let e4 : s4 ≡ after_put (after_get (seen (after_get s) after)) (rel_key rel) a = four ∙ ap (λ (z : State). after_put z (rel_key rel) rec) e3 ∙ ap (λ z. after_put (after_get (seen (after_get s) after)) (rel_key rel) z) rec_is in
+      let e4 : s4 ≡ after_put (after_get (seen (after_get s) after)) (rel_key rel) a = four ∙ ap (λ (z : State). after_put z (rel_key rel) rec) e3 ∙ ap
+      (λ z. after_put (after_get (seen (after_get s) after)) (rel_key rel) z) rec_is in
       let e5 : s5 ≡ after_get (backed freed node after before) = five ∙ ap (λ (z : State). put_back z node after before behind) e4
-      ∙ back_is (after_get s) (rel_key rel) a node after before behind (λ some. read.got_behind some ∙ ap (λ (r : Records). r (rel_key after)) same_one) (λ some. rel_other after rel ((read.behind some).other)) in
+      ∙ back_is (after_get s) (rel_key rel) a node after before behind (λ some. read.got_behind some ∙ ap (λ (r : Records). r (rel_key after)) same_one)
+      (λ some. rel_other after rel ((read.behind some).other)) in
       let e6 : s6 ≡ led (backed freed node after before) head node before after = six ∙ ap (λ (z : State). put_led z head node before after lead) e5
       ∙ led_is (backed freed node after before) head node before after lead
-      (λ none. read.got_head none ∙ ap (λ (r : Records). r head.key) same ∙ sym (elsewhere-backed freed node after before head.key read.elsewhere ∙ put_rel_elsewhere s.records head.key a rel read.elsewhere))
+      (λ none. read.got_head none ∙ ap (λ (r : Records). r head.key) same ∙ sym (elsewhere-backed freed node after before head.key read.elsewhere
+      ∙ put_rel_elsewhere s.records head.key a rel read.elsewhere))
       (λ some. read.got_before some ∙ ap (λ (r : Records). r (rel_key before)) same
-      ∙ sym (backed_other freed node after before before (λ there e. (read.behind there).apart (sym e)) ∙ put_other s.records (rel_key rel) a (rel_key before) (rel_other before rel (before_other some)))) in
+      ∙ sym (backed_other freed node after before before (λ there e. (read.behind there).apart (sym e)) ∙ put_other s.records (rel_key rel) a (rel_key before)
+      (rel_other before rel (before_other some)))) in
       e6 ∙ ap (λ b. led (backed freed node after b) head node b after) read.is_before
       ∙ ap (λ z. led (backed freed node z (prev_of s.records node rel)) head node (prev_of s.records node rel) z) read.is_after

@@ -43,7 +43,8 @@ not_low mark link some above low = ⊎_elim (λ (e : link ≡ format.nil). some 
 
 -- a record of a relationship in use with a link that leads nowhere
 pub link_breaks : (s : State) (x link : ℕ) (row : RelRow) (damage : Damage) → rel_at s.records x ≡ Some row
-    → (field 1 (rec_at s.records format.relationships_file x) format.kind ≢ 0 → Fits (high s.records) format.relationships_file (rec_at s.records format.relationships_file x) → IsLow (rel_mark s) link)
+    → (field 1 (rec_at s.records format.relationships_file x) format.kind ≢ 0 → Fits (high s.records) format.relationships_file
+    (rec_at s.records format.relationships_file x) → IsLow (rel_mark s) link)
     → IsLinkDamage s link (range_damage x) damage → Breaks s.records s.shape damage
 link_breaks s x link row damage live low (LeadsNowhere some above) =
     let r = rec_at s.records format.relationships_file x in
@@ -52,17 +53,22 @@ link_breaks s x link row damage live low (LeadsNowhere some above) =
     RecordRange format.relationships_file x refl lt (λ fits. not_low (rel_mark s) link some above (low (λ e. used (kind_low (rel_mark s) r x lt ∙ e)) fits))
 link_breaks s x link row damage live low (HighLink above) = mark_breaks s above
 
-pub prev_breaks : (s : State) (x n : ℕ) (row : RelRow) (damage : Damage) → rel_at s.records x ≡ Some row → IsLinkDamage s (prev_of s.records n x) (range_damage x) damage → Breaks s.records s.shape damage
-prev_breaks s x n row damage live told = link_breaks s x (prev_of s.records n x) row damage live (λ used fits. prev_low (high s.records) (rec_at s.records format.relationships_file x) n used fits) told
+pub prev_breaks : (s : State) (x n : ℕ) (row : RelRow) (damage : Damage) → rel_at s.records x ≡ Some row → IsLinkDamage s (prev_of s.records n x)
+    (range_damage x) damage → Breaks s.records s.shape damage
+prev_breaks s x n row damage live told = link_breaks s x (prev_of s.records n x) row damage live (λ used fits. prev_low (high s.records)
+    (rec_at s.records format.relationships_file x) n used fits) told
 
-pub next_breaks : (s : State) (x n : ℕ) (row : RelRow) (damage : Damage) → rel_at s.records x ≡ Some row → IsLinkDamage s (next_of s.records n x) (range_damage x) damage → Breaks s.records s.shape damage
-next_breaks s x n row damage live told = link_breaks s x (next_of s.records n x) row damage live (λ used fits. next_low (high s.records) (rec_at s.records format.relationships_file x) n used fits) told
+pub next_breaks : (s : State) (x n : ℕ) (row : RelRow) (damage : Damage) → rel_at s.records x ≡ Some row → IsLinkDamage s (next_of s.records n x)
+    (range_damage x) damage → Breaks s.records s.shape damage
+next_breaks s x n row damage live told = link_breaks s x (next_of s.records n x) row damage live (λ used fits. next_low (high s.records)
+    (rec_at s.records format.relationships_file x) n used fits) told
 
 -- a head is that of its group
 group_head_is : (head : Head) (g : ℕ) → head.key ≡ key_in format.groups_file g → head ≡ group_head g head.field
 group_head_is head g key = λ i. record { key = key i; field = head.field }
 
-group_live : (s : State) (n g place : ℕ) → IsGroupHeadOf s.records (group_head g place) n → (kind_at s.records format.groups_file g ≢ 0) × (g < high s.records format.groups_file)
+group_live : (s : State) (n g place : ℕ) → IsGroupHeadOf s.records (group_head g place) n → (kind_at s.records format.groups_file g ≢ 0) ×
+    (g < high s.records format.groups_file)
 group_live s n g place o =
     let id : g ≡ o.row.id = ap (λ (q : Key). q.id) o.key in
     let used : kind_at s.records format.groups_file g ≢ 0 = subst (λ k. kind_at s.records format.groups_file k ≢ 0) (sym id)
@@ -70,7 +76,8 @@ group_live s n g place o =
     (used, kind_below (high s.records format.groups_file) (rec_at s.records format.groups_file g) g used)
 
 -- a record that has a head, whose link leads nowhere
-pub head_breaks : (s : State) (head : Head) (n : ℕ) (damage : Damage) → IsHeadOf s.records head n → IsLinkDamage s (first_of s.records head) (first_damage head.key) damage → Breaks s.records s.shape damage
+pub head_breaks : (s : State) (head : Head) (n : ℕ) (damage : Damage) → IsHeadOf s.records head n → IsLinkDamage s (first_of s.records head)
+    (first_damage head.key) damage → Breaks s.records s.shape damage
 head_breaks s head n damage owns (HighLink above) = mark_breaks s above
 head_breaks s head n damage (inl o) (LeadsNowhere some above) = subst At (sym o.is) here some above
   where
@@ -82,7 +89,8 @@ head_breaks s head n damage (inl o) (LeadsNowhere some above) = subst At (sym o.
         let r = rec_at s.records format.nodes_file n in
         let lt = kind_below (high s.records format.nodes_file) r n (λ e. absurd (let k = o.sparse in omega arith)) in
         let kind : field 1 r format.kind ≡ format.sparse = sym (kind_low (high s.records format.nodes_file) r n lt) ∙ o.sparse in
-        RecordRange format.nodes_file n refl lt (λ fits. not_low (rel_mark s) (field 4 r format.node_first_link) some above (sparse_low (high s.records) r kind fits))
+        RecordRange format.nodes_file n refl lt (λ fits. not_low (rel_mark s) (field 4 r format.node_first_link) some above (sparse_low (high s.records)
+        r kind fits))
 head_breaks s head n damage (inr o) (LeadsNowhere some above) = subst At (sym (group_head_is head o.row.id o.key)) here o some above
   where
     At : Head → Type 0
@@ -94,7 +102,8 @@ head_breaks s head n damage (inr o) (LeadsNowhere some above) = subst At (sym (g
         let r = rec_at s.records format.groups_file g in
         let live = group_live s n g head.field own in
         let used : field 1 r format.kind ≢ 0 = λ e. live.0 (kind_low (high s.records format.groups_file) r g live.1 ∙ e) in
-        RecordRange format.groups_file g refl live.1 (λ fits. not_low (rel_mark s) (field 4 r head.field) some above (group_low (high s.records) r head.field own.field used fits))
+        RecordRange format.groups_file g refl live.1 (λ fits. not_low (rel_mark s) (field 4 r head.field) some above (group_low (high s.records) r head.field
+        own.field used fits))
 
 -- ---- the third rule
 
@@ -105,7 +114,8 @@ stands_low s head x at =
     kind_below (rel_mark s) r x (some_row (kind_at s.records format.relationships_file x) (rel_in r x) at.row at.live).0
 
 -- a head that has no chain
-pub no_chain : (s : State) (head : Head) (n : ℕ) → IsChainHead s.records head n → ((members : List ℕ) → ¬ IsHeadChain s.records head n members) → Breaks s.records s.shape (chain_damage head.key)
+pub no_chain : (s : State) (head : Head) (n : ℕ) → IsChainHead s.records head n → ((members : List ℕ) → ¬ IsHeadChain s.records head n members)
+    → Breaks s.records s.shape (chain_damage head.key)
 no_chain s head n (inl o) none = subst At (sym o.is) here none
   where
     At : Head → Type 0
@@ -124,29 +134,42 @@ no_chain s head n (inr c) none = subst At (sym (group_head_is head c.own.row.id 
     here = λ own none.
         GroupChains c.own.row.id (group_live s n c.own.row.id head.field own).1 (n, c.on) (λ keeps. let k = keeps.chains head.field n own in none k.0 k.1)
 
-module _ (s : State) (owner : Key) (first n : ℕ) (head : Head) (key : head.key ≡ owner) (is : first ≡ first_of s.records head) (owns : IsChainHead s.records head n) where
+module _ (s : State) (owner : Key) (first n : ℕ) (head : Head) (key : head.key ≡ owner) (is : first ≡ first_of s.records head)
+    (owns : IsChainHead s.records head n) where
   -- a walk of a head's chain that fails, though it may meet each relationship
   pub walk_breaks : (budget : ℕ) (damage : Damage) → rel_mark s ≤ budget → IsWalkDamage s owner first n budget damage → Breaks s.records s.shape damage
   walk_breaks budget damage enough (HighMark above) = mark_breaks s above
   walk_breaks budget damage enough (NoWalk none) =
       subst (λ (k : Key). Breaks s.records s.shape (chain_damage k)) key (no_chain s head n owns (λ members c.
       let sound = sound_below s (first_of s.records head) n members c.chain (λ x i. stands_low s head x (c.only x i)) in
-      none members (subst (λ f. IsSoundWalk s f n budget members) (sym is) (record { chain = sound.chain; few = let few = sound.few in omega arith; low = sound.low }))))
+      none members (subst (λ f. IsSoundWalk s f n budget members) (sym is) (record {
+        chain = sound.chain;
+        few = let few = sound.few in omega arith;
+        low =
+            sound.low;
+      }))))
 
   -- a count of it that fails
-  pub length_breaks : (members : Members) (damage : Damage) → ((x : ℕ) → StandsAt (rel_at s.records) (group_at s.records) head x → stands s.records n members x ≡ true)
+  pub length_breaks : (members : Members) (damage : Damage) → ((x : ℕ) → StandsAt (rel_at s.records) (group_at s.records) head x → stands s.records n members x
+      ≡ true)
       → IsLengthDamage s owner first n members damage → Breaks s.records s.shape damage
   length_breaks members damage right (HighLength above) = mark_breaks s above
   length_breaks members damage right (NoChain none) =
       subst (λ (k : Key). Breaks s.records s.shape (chain_damage k)) key (no_chain s head n owns (λ xs c.
-      none xs (subst (λ f. IsMemberChain s f n members xs) (sym is) (record { chain = c.chain; low = λ x i. stands_low s head x (c.only x i); are = λ x i. right x (c.only x i) }))))
+      none xs (subst (λ f. IsMemberChain s f n members xs) (sym is) (record {
+        chain = c.chain;
+        low = λ x i. stands_low s head x (c.only x i);
+        are = λ x i.
+            right x (c.only x i);
+      }))))
 
   pub walk_fault_breaks : (budget : ℕ) (fault : Fault) → rel_mark s ≤ budget → IsWalkFault s owner first n budget fault → IsBreakFault s fault
   walk_fault_breaks budget Memory enough told = tt
   walk_fault_breaks budget Disk enough told = tt
   walk_fault_breaks budget (Damaged damage) enough told = walk_breaks budget damage enough told
 
-  pub length_fault_breaks : (members : Members) (fault : Fault) → ((x : ℕ) → StandsAt (rel_at s.records) (group_at s.records) head x → stands s.records n members x ≡ true)
+  pub length_fault_breaks : (members : Members) (fault : Fault) → ((x : ℕ) → StandsAt (rel_at s.records) (group_at s.records) head x → stands s.records n
+      members x ≡ true)
       → IsLengthFault s owner first n members fault → IsBreakFault s fault
   length_fault_breaks members Memory right told = tt
   length_fault_breaks members Disk right told = tt

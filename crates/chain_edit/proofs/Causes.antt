@@ -12,14 +12,16 @@ use Rattle.rec_bytes.specs.declared.space.SpaceFault.{SpaceFault}
 use Rattle.rec_bytes.specs.declared.space.SpaceFault.TheVariants as spaces
 use Rattle.rec_bytes.proofs.Causes.{passed}
 
-pub cause_passed : {T U : Type 0} (before mid now : ℕ) (r : Result T Fault) (fault : Fault) → before ≤ mid → HasFaultCause {T = U} mid now (Err fault) → IsErrAnd r (λ f. f ≡ fault) → HasFaultCause before now r
+pub cause_passed : {T U : Type 0} (before mid now : ℕ) (r : Result T Fault) (fault : Fault) → before ≤ mid → HasFaultCause {T = U} mid now (Err fault)
+    → IsErrAnd r (λ f. f ≡ fault) → HasFaultCause before now r
 cause_passed before mid now r fault early cause is = passed (λ f. f) faults.Disk faults.Disk before mid now r fault (λ e. e) early cause is
 
 blames_disk : (fault : SpaceFault) → of_space fault ≡ faults.Disk → fault ≡ spaces.Disk
 blames_disk spaces.Memory e = absurd cc
 blames_disk spaces.Disk e = refl
 
-pub space_cause_passed : {T U : Type 0} (before mid now : ℕ) (r : Result T Fault) (fault : SpaceFault) → before ≤ mid → HasCause {T = U} mid now (Err fault) → IsErrAnd r (λ f. f ≡ of_space fault) → HasFaultCause before now r
+pub space_cause_passed : {T U : Type 0} (before mid now : ℕ) (r : Result T Fault) (fault : SpaceFault) → before ≤ mid → HasCause {T = U} mid now (Err fault)
+    → IsErrAnd r (λ f. f ≡ of_space fault) → HasFaultCause before now r
 space_cause_passed before mid now r fault early cause is = passed of_space spaces.Disk faults.Disk before mid now r fault (blames_disk fault) early cause is
 
 -- want of memory blames no disk
@@ -30,7 +32,8 @@ memory_cause {T} before now r early is =
     subst (HasFaultCause before now) (sym p.1) (subst (λ f. HasFaultCause {T = T} before now (Err f)) (sym p.2) here)
 
 -- nor does damage
-pub damage_cause : {T : Type 0} (before now : ℕ) (r : Result T Fault) (damage : Damage) → before ≤ now → IsErrAnd r (λ f. f ≡ faults.Damaged damage) → HasFaultCause before now r
+pub damage_cause : {T : Type 0} (before now : ℕ) (r : Result T Fault) (damage : Damage) → before ≤ now → IsErrAnd r (λ f. f ≡ faults.Damaged damage)
+    → HasFaultCause before now r
 damage_cause {T} before now r damage early is =
     let p = err_from_is_err_and r is in
     let here : HasFaultCause {T = T} before now (Err (faults.Damaged damage)) = record { later = early; disk = λ blamed. absurd cc } in
@@ -41,6 +44,7 @@ pub same_has : {T E : Type 0} (P : E → Type 0) (r : Result T E) (fault : E) �
 same_has P r fault is has = let p = err_from_is_err_and r is in rw (p.1, p.2) has
 
 -- and a fault of a space has what both of its causes have
-pub space_has : {T : Type 0} (P : Fault → Type 0) → P faults.Memory → P faults.Disk → (r : Result T Fault) (fault : SpaceFault) → IsErrAnd r (λ f. f ≡ of_space fault) → IfErr r P
+pub space_has : {T : Type 0} (P : Fault → Type 0) → P faults.Memory → P faults.Disk → (r : Result T Fault) (fault : SpaceFault) → IsErrAnd r
+    (λ f. f ≡ of_space fault) → IfErr r P
 space_has P memory disk r spaces.Memory is = same_has P r faults.Memory is memory
 space_has P memory disk r spaces.Disk is = same_has P r faults.Disk is disk

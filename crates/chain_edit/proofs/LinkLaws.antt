@@ -31,7 +31,8 @@ key_cases a b = ⊎_elim
 
 pub field-set_same : (records : Records) (p : Head) (to : ℕ) → p.field + 4 ≤ 64 → to < 2 ^ 32 → field 4 (set_at records p to p.key) p.field ≡ to
 field-set_same records p to fits small =
-    ap (λ r. field 4 r p.field) (put_same records p.key (with_field 4 (records p.key) p.field to)) ∙ field-with_field_same 4 (records p.key) p.field to fits small
+    ap (λ r. field 4 r p.field) (put_same records p.key (with_field 4 (records p.key) p.field to)) ∙ field-with_field_same 4 (records p.key) p.field to fits
+    small
 
 -- each other number stays
 pub field-set_other : (records : Records) (p : Head) (to : ℕ) (key : Key) (n at : ℕ) → at + n ≤ 64 → (key ≡ p.key → (at + n ≤ p.field) ⊎ (p.field + 4 ≤ at))
@@ -104,12 +105,14 @@ module _ (records : Records) (p : Head) (to : ℕ) (past : IsPastEnds p) where
   pub place-set : (m x : ℕ) → place_of (rel_rec (set_at records p to) x) m ≡ place_of (rel_rec records x) m
   place-set m x = ap (λ s. cond (nat_eq s m) 16 24) (low-set x 4 8 (omega arith))
 
-  pub next-set_other : (m x : ℕ) → (key_in 2 x ≡ p.key → IsAside (place_of (rel_rec records x) m + 4) p.field) → next_of (set_at records p to) m x ≡ next_of records m x
+  pub next-set_other : (m x : ℕ) → (key_in 2 x ≡ p.key → IsAside (place_of (rel_rec records x) m + 4) p.field) → next_of (set_at records p to) m x ≡ next_of
+      records m x
   next-set_other m x apart =
       ap (λ q. field 4 (rel_rec (set_at records p to) x) (q + 4)) (place-set m x)
       ∙ field-set_other records p to (key_in 2 x) 4 (place_of (rel_rec records x) m + 4) (let b = place_high (rel_rec records x) m in omega arith) apart
 
-  pub prev-set_other : (m x : ℕ) → (key_in 2 x ≡ p.key → IsAside (place_of (rel_rec records x) m) p.field) → prev_of (set_at records p to) m x ≡ prev_of records m x
+  pub prev-set_other : (m x : ℕ) → (key_in 2 x ≡ p.key → IsAside (place_of (rel_rec records x) m) p.field) → prev_of (set_at records p to) m x ≡ prev_of records
+      m x
   prev-set_other m x apart =
       ap (λ q. field 4 (rel_rec (set_at records p to) x) q) (place-set m x)
       ∙ field-set_other records p to (key_in 2 x) 4 (place_of (rel_rec records x) m) (let b = place_high (rel_rec records x) m in omega arith) apart
@@ -145,7 +148,8 @@ module _ (records : Records) (n id to : ℕ) where
 
   pub next_of-set_next_other : (m x : ℕ) → (x ≡ id → Differ records n m id) → next_of (set_at records (next_place records n id) to) m x ≡ next_of records m x
   next_of-set_next_other m x ne = next-set_other records (next_place records n id) to next_past m x
-      (λ e. let is = same_id x id e in rw is (aside 4 (place_of (rel_rec records id) m) (place_of (rel_rec records id) n) (place_is (rel_rec records id) m) (place_is (rel_rec records id) n) (λ q. ne is (sym q))))
+      (λ e. let is = same_id x id e in rw is (aside 4 (place_of (rel_rec records id) m) (place_of (rel_rec records id) n) (place_is (rel_rec records id) m)
+      (place_is (rel_rec records id) n) (λ q. ne is (sym q))))
 
   pub prev_of-set_next : (m x : ℕ) → prev_of (set_at records (next_place records n id) to) m x ≡ prev_of records m x
   prev_of-set_next m x = prev-set_other records (next_place records n id) to next_past m x
@@ -162,14 +166,16 @@ module _ (records : Records) (n id to : ℕ) where
 
   pub prev_of-set_prev_other : (m x : ℕ) → (x ≡ id → Differ records n m id) → prev_of (set_at records (prev_place records n id) to) m x ≡ prev_of records m x
   prev_of-set_prev_other m x ne = prev-set_other records (prev_place records n id) to prev_past m x
-      (λ e. let is = same_id x id e in rw is (aside_same (place_of (rel_rec records id) m) (place_of (rel_rec records id) n) (place_is (rel_rec records id) m) (place_is (rel_rec records id) n) (λ q. ne is (sym q))))
+      (λ e. let is = same_id x id e in rw is (aside_same (place_of (rel_rec records id) m) (place_of (rel_rec records id) n) (place_is (rel_rec records id) m)
+      (place_is (rel_rec records id) n) (λ q. ne is (sym q))))
     where
       aside_same : (p q : ℕ) → IsPrevious p → IsPrevious q → p ≢ q → IsAside p q
       aside_same p q h k ne = ⊎_elim (λ l. inl (omega arith)) (λ l. inr (omega arith)) (aside 0 p q h k ne)
 
   pub next_of-set_prev : (m x : ℕ) → next_of (set_at records (prev_place records n id) to) m x ≡ next_of records m x
   next_of-set_prev m x = next-set_other records (prev_place records n id) to prev_past m x
-      (λ _. aside_previous (place_of (rel_rec records x) m) (place_of (rel_rec records id) n) (place_is (rel_rec records x) m) (place_is (rel_rec records id) n))
+      (λ _. aside_previous (place_of (rel_rec records x) m) (place_of (rel_rec records id) n) (place_is (rel_rec records x) m) (place_is (rel_rec records id)
+      n))
 
   pub place-set_prev : (m x : ℕ) → place_of (rel_rec (set_at records (prev_place records n id) to) x) m ≡ place_of (rel_rec records x) m
   place-set_prev m x = place-set records (prev_place records n id) to prev_past m x

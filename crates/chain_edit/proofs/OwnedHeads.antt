@@ -36,7 +36,8 @@ ends_differ r n m a b ne = ⊎_elim
 
 -- the record of a relationship in use names the ends of its row
 pub end_in : (s : Records) (x n : ℕ) (row : RelRow) → rel_at s x ≡ Some row → IsEnd n row → IsEndOf (rec_at s format.relationships_file x) n
-end_in s x n row live end = subst (IsEnd n) (sym (some_row (kind_at s format.relationships_file x) (rel_in (rec_at s format.relationships_file x) x) row live).1) end
+end_in s x n row live end = subst (IsEnd n) (sym (some_row (kind_at s format.relationships_file x) (rel_in (rec_at s format.relationships_file x) x)
+    row live).1) end
 
 module _ (kind : ℕ → ℕ) (groups : ℕ → Option GroupRow) where
   place : (h : Head) (n : ℕ) → Owns kind groups h n → IsPlace h
@@ -80,22 +81,26 @@ module _ (kind : ℕ → ℕ) (groups : ℕ → Option GroupRow) where
   other_record h n m (inr o) ne e = let f = ap (λ (z : Key). z.file) (e ∙ o.key) in omega arith
 
   -- the group of a head has what is on the head
-  pub in_head_group : (h : Head) (n : ℕ) (row : RelRow) → Owns kind groups h n → IsOn groups h row → (g : ℕ) → In g (group_of_head h) → (at : ℕ) × IsInGroup groups (record { key = key_in format.groups_file g; field = at }) row
+  pub in_head_group : (h : Head) (n : ℕ) (row : RelRow) → Owns kind groups h n → IsOn groups h row → (g : ℕ) → In g (group_of_head h) → (at : ℕ)
+      × IsInGroup groups (record { key = key_in format.groups_file g; field = at }) row
   in_head_group h n row o on g i = by (nat_cases h.key.file format.groups_file)
     where
-      by : (h.key.file ≡ format.groups_file) ⊎ (h.key.file ≢ format.groups_file) → (at : ℕ) × IsInGroup groups (record { key = key_in format.groups_file g; field = at }) row
+      by : (h.key.file ≡ format.groups_file) ⊎ (h.key.file ≢ format.groups_file) → (at : ℕ) × IsInGroup groups
+          (record { key = key_in format.groups_file g; field = at }) row
       by (inr ne) = elim (subst (In g) (ap (λ b. cond b (h.key.id ∷ []) []) (eq_false h.key.file format.groups_file ne)) i) [ ]
       by (inl e) =
-          let same : g ≡ h.key.id = ⊎_elim (λ k. k) (λ k. absurd k) (subst (In g) (ap (λ b. cond b (h.key.id ∷ []) []) (eq_true h.key.file format.groups_file e)) i) in
+          let same : g ≡ h.key.id = ⊎_elim (λ k. k) (λ k. absurd k) (subst (In g) (ap (λ b. cond b (h.key.id ∷ []) []) (eq_true h.key.file format.groups_file
+          e)) i) in
           let key : h.key ≡ key_in format.groups_file g = ap (λ f. record { file = f; id = h.key.id }) e ∙ ap (key_in format.groups_file) (sym same) in
           (h.field, ⊎_elim (λ k. absurd (let f = k.0 in omega arith)) (λ k. subst (λ z. IsInGroup groups (record { key = z; field = h.field }) row) key k.1) on)
 
-module _ (s : Records) (empty : List ℕ) (grouped : IsGrouped (kind_at s format.nodes_file) (first_link s) (rec_at s format.groups_file) (group_at s) empty) where
-  abbrev Own : Head → ℕ → Type 0
-  Own = Owns (kind_at s format.nodes_file) (group_at s)
+module _ (s : Records) (empty : List ℕ) (grouped : IsGrouped (kind_at s format.nodes_file) (first_link s) (rec_at s format.groups_file) (group_at s) empty)
+  where
+    abbrev Own : Head → ℕ → Type 0
+    Own = Owns (kind_at s format.nodes_file) (group_at s)
 
-  -- chains of two heads use different links of a relationship that is on both
-  pub heads_differ : (h k : Head) (n m : ℕ) (row : RelRow) (r : Rec) → Own h n → Own k m → h ≢ k → IsOn (group_at s) h row → IsOn (group_at s) k row
-      → (IsEnd n row → IsEndOf r n) → (IsEnd m row → IsEndOf r m) → place_of r n ≢ place_of r m
-  heads_differ h k n m row r a b ne on at of_n of_m = ends_differ r n m (of_n (end_on _ _ h n row a on)) (of_m (end_on _ _ k m row b at))
-      (λ same. ne (only_head s empty grouped h k n row a (subst (Own k) (sym same) b) on at))
+    -- chains of two heads use different links of a relationship that is on both
+    pub heads_differ : (h k : Head) (n m : ℕ) (row : RelRow) (r : Rec) → Own h n → Own k m → h ≢ k → IsOn (group_at s) h row → IsOn (group_at s) k row
+        → (IsEnd n row → IsEndOf r n) → (IsEnd m row → IsEndOf r m) → place_of r n ≢ place_of r m
+    heads_differ h k n m row r a b ne on at of_n of_m = ends_differ r n m (of_n (end_on _ _ h n row a on)) (of_m (end_on _ _ k m row b at))
+        (λ same. ne (only_head s empty grouped h k n row a (subst (Own k) (sym same) b) on at))

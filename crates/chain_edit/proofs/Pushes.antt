@@ -16,7 +16,8 @@ use Rattle.chain_edit.specs.Links.{backed, next_set}
 use Rattle.chain_edit.specs.Pushing.{CanPush, HasPushed, pushed}
 use Rattle.store_rules.proofs.ChainSteps.{chain_push, first_in, nil_out}
 use Rattle.chain_edit.proofs.Edits.{elsewhere-backed, field-backed, next_of-backed, place-backed, prev_of-backed_same, prev_of-backed_other}
-use Rattle.chain_edit.proofs.LinkLaws.{elsewhere-set_next, field-set_other, field-set_same, next_of-set_next_same, next_of-set_next_other, prev_of-set_next, rel-set_elsewhere, rel_rec, set_at}
+use Rattle.chain_edit.proofs.LinkLaws.{elsewhere-set_next, field-set_other, field-set_same, next_of-set_next_same, next_of-set_next_other}
+use Rattle.chain_edit.proofs.LinkLaws.{prev_of-set_next, rel-set_elsewhere, rel_rec, set_at}
 
 module _ (s : State) (head : Head) (node rel : ℕ) (place : IsPlace head) where
   first : ℕ
@@ -55,15 +56,18 @@ module _ (s : State) (head : Head) (node rel : ℕ) (place : IsPlace head) where
 
   next_other : (m x : ℕ) → (x ≡ rel → Differ s.records node m rel) → next_of new m x ≡ next_of s.records m x
   unfolding back linked
-  next_other m x ne = ap (λ r. next_in r m) (new_rel x) ∙ next_of-set_next_other back.records node rel first m x (λ e. differ_back m rel (ne e)) ∙ next_of-backed (after_get s) node first rel m x
+  next_other m x ne = ap (λ r. next_in r m) (new_rel x) ∙ next_of-set_next_other back.records node rel first m x (λ e. differ_back m rel (ne e))
+      ∙ next_of-backed (after_get s) node first rel m x
 
   prev_same : rel < 2 ^ 25 → first ≢ nil → prev_of new node first ≡ rel
   unfolding back linked
-  prev_same small there = ap (λ r. prev_in r node) (new_rel first) ∙ prev_of-set_next back.records node rel first node first ∙ prev_of-backed_same (after_get s) node first rel (omega arith) there
+  prev_same small there = ap (λ r. prev_in r node) (new_rel first) ∙ prev_of-set_next back.records node rel first node first ∙ prev_of-backed_same (after_get s)
+      node first rel (omega arith) there
 
   prev_other : (m x : ℕ) → (x ≡ first → Differ s.records node m first) → prev_of new m x ≡ prev_of s.records m x
   unfolding back linked
-  prev_other m x ne = ap (λ r. prev_in r m) (new_rel x) ∙ prev_of-set_next back.records node rel first m x ∙ prev_of-backed_other (after_get s) node first rel m x ne
+  prev_other m x ne = ap (λ r. prev_in r m) (new_rel x) ∙ prev_of-set_next back.records node rel first m x ∙ prev_of-backed_other (after_get s) node first rel m
+      x ne
 
   -- ---- numbers
   first_new : rel < 2 ^ 25 → first_of new head ≡ rel
@@ -75,7 +79,8 @@ module _ (s : State) (head : Head) (node rel : ℕ) (place : IsPlace head) where
     same = λ key n at fits apart.
         ap (λ (r : Records). field n (r key) at) new_is
         ∙ field-set_other linked.records head rel key n at fits apart.1.1.0
-        ∙ field-set_other back.records (next_place back.records node rel) first key n at fits (rw (place-backed (after_get s) node first rel node rel) apart.1.0)
+        ∙ field-set_other back.records (next_place back.records node rel) first key n at fits (rw (place-backed (after_get s) node first rel node rel)
+        apart.1.0)
         ∙ field-backed (after_get s) node first rel key n at fits apart.0;
   }
 
@@ -90,12 +95,15 @@ module _ (s : State) (head : Head) (node rel : ℕ) (place : IsPlace head) where
 
     chain_new : IsChainFrom new node rel (rel ∷ xs)
     unfolding first
-    chain_new = chain_push (next_of s.records node) (prev_of s.records node) (next_of new node) (prev_of new node) first rel xs can.chain can.new (λ e. omega arith)
-        next_same (prev_other node rel (λ e. absurd (not_first e)) ∙ can.alone) (prev_same small) (λ x ne. next_other node x (λ e. absurd (ne e))) (λ x ne ne'. prev_other node x (λ e. absurd (ne' e)))
+    chain_new = chain_push (next_of s.records node) (prev_of s.records node) (next_of new node) (prev_of new node) first rel xs can.chain can.new
+        (λ e. omega arith)
+        next_same (prev_other node rel (λ e. absurd (not_first e)) ∙ can.alone) (prev_same small) (λ x ne. next_other node x (λ e. absurd (ne e)))
+        (λ x ne ne'. prev_other node x (λ e. absurd (ne' e)))
 
     others_stay : (m from : ℕ) (ys : List ℕ) → IsChainFrom s.records m from ys → ShareNoLink s.records node (rel ∷ xs) m ys → IsChainFrom new m from ys
     others_stay m from ys chain apart =
-        let there : (x : ℕ) → In x ys → x ≢ nil = λ x i e. nil_out (next_of s.records m) from ys (walk_of_chain _ _ nil from ys chain) (subst (λ z. In z ys) e i) in
+        let there : (x : ℕ) → In x ys → x ≢ nil = λ x i e. nil_out (next_of s.records m) from ys (walk_of_chain _ _ nil from ys chain)
+        (subst (λ z. In z ys) e i) in
         chain_stays (next_of s.records m) (prev_of s.records m) (next_of new m) (prev_of new m) nil from ys
         (λ x i. next_other m x (λ e. subst (Differ s.records node m) e (apart x i (inl e))))
         (λ x i. prev_other m x (λ e. subst (Differ s.records node m) e

@@ -18,7 +18,9 @@ use Rattle.chain_edit.specs.Links.{backed, next_set, number_set}
 use Rattle.chain_edit.specs.Unlinking.{CanUnlink, HasUnlinked, alone, lead_place, led, unlinked}
 use Rattle.store_rules.proofs.ChainSteps.{after_in, after_other, before_in, before_other, chain_unlink, first_before, nil_out, on_test}
 use Rattle.chain_edit.proofs.Edits.{elsewhere-backed, field-backed, next_of-backed, place-backed, prev_of-backed_same, prev_of-backed_other}
-use Rattle.chain_edit.proofs.LinkLaws.{elsewhere-set_next, elsewhere-set_prev, field-set_other, field-set_same, next_of-set_next_same, next_of-set_next_other, next_of-set_prev, place-set_next, place-set_prev, prev_of-set_next, prev_of-set_prev_same, prev_of-set_prev_other, rel-set_elsewhere, rel_rec, set_at}
+use Rattle.chain_edit.proofs.LinkLaws.{elsewhere-set_next, elsewhere-set_prev, field-set_other, field-set_same, next_of-set_next_same}
+use Rattle.chain_edit.proofs.LinkLaws.{next_of-set_next_other, next_of-set_prev, place-set_next, place-set_prev, prev_of-set_next}
+use Rattle.chain_edit.proofs.LinkLaws.{prev_of-set_prev_same, prev_of-set_prev_other, rel-set_elsewhere, rel_rec, set_at}
 
 -- a relationship without neighbours
 module _ (records : Records) (node rel : ℕ) where
@@ -54,11 +56,13 @@ module _ (records : Records) (node rel : ℕ) where
 
   prev_of-freed_same : prev_of freed node rel ≡ nil
   unfolding single
-  prev_of-freed_same = ap (λ (r : Records). prev_of r node rel) freed_is ∙ prev_of-set_next single node rel nil node rel ∙ prev_of-set_prev_same records node rel nil (omega arith)
+  prev_of-freed_same = ap (λ (r : Records). prev_of r node rel) freed_is ∙ prev_of-set_next single node rel nil node rel ∙ prev_of-set_prev_same records node
+      rel nil (omega arith)
 
   prev_of-freed_other : (m x : ℕ) → (x ≡ rel → Differ records node m rel) → prev_of freed m x ≡ prev_of records m x
   unfolding single
-  prev_of-freed_other m x ne = ap (λ (r : Records). prev_of r m x) freed_is ∙ prev_of-set_next single node rel nil m x ∙ prev_of-set_prev_other records node rel nil m x ne
+  prev_of-freed_other m x ne = ap (λ (r : Records). prev_of r m x) freed_is ∙ prev_of-set_next single node rel nil m x ∙ prev_of-set_prev_other records node rel
+      nil m x ne
 
   elsewhere-freed : (key : Key) → key.file ≢ 2 → freed key ≡ records key
   unfolding single
@@ -75,7 +79,8 @@ module _ (records : Records) (node rel : ℕ) where
 
 -- the one before gets the one after
 module _ (s : State) (head : Head) (elsewhere : head.key.file ≢ 2) (node before after : ℕ) where
-  pub on_led : (P : State → Type 0) → (before ≡ nil → P (number_set s head after)) → (before ≢ nil → P (next_set s node before after)) → P (led s head node before after)
+  pub on_led : (P : State → Type 0) → (before ≡ nil → P (number_set s head after)) → (before ≢ nil → P (next_set s node before after)) → P
+      (led s head node before after)
   unfolding led
   on_led P none some = on_test P before nil (number_set s head after) (next_set s node before after) none some
 
@@ -83,13 +88,16 @@ module _ (s : State) (head : Head) (elsewhere : head.key.file ≢ 2) (node befor
   rel_stays x = rel-set_elsewhere s.records head after elsewhere x
 
   prev_of-led : (m x : ℕ) → prev_of (led s head node before after).records m x ≡ prev_of s.records m x
-  prev_of-led m x = on_led (λ t. prev_of t.records m x ≡ prev_of s.records m x) (λ _. ap (λ r. prev_in r m) (rel_stays x)) (λ _. prev_of-set_next s.records node before after m x)
+  prev_of-led m x = on_led (λ t. prev_of t.records m x ≡ prev_of s.records m x) (λ _. ap (λ r. prev_in r m) (rel_stays x)) (λ _. prev_of-set_next s.records node
+      before after m x)
 
   next_of-led_same : after < 2 ^ 32 → before ≢ nil → next_of (led s head node before after).records node before ≡ after
-  next_of-led_same small there = on_led (λ t. next_of t.records node before ≡ after) (λ e. absurd (there e)) (λ _. next_of-set_next_same s.records node before after small)
+  next_of-led_same small there = on_led (λ t. next_of t.records node before ≡ after) (λ e. absurd (there e)) (λ _. next_of-set_next_same s.records node before
+      after small)
 
   next_of-led_other : (m x : ℕ) → (x ≡ before → Differ s.records node m before) → next_of (led s head node before after).records m x ≡ next_of s.records m x
-  next_of-led_other m x ne = on_led (λ t. next_of t.records m x ≡ next_of s.records m x) (λ _. ap (λ r. next_in r m) (rel_stays x)) (λ _. next_of-set_next_other s.records node before after m x ne)
+  next_of-led_other m x ne = on_led (λ t. next_of t.records m x ≡ next_of s.records m x) (λ _. ap (λ r. next_in r m) (rel_stays x))
+      (λ _. next_of-set_next_other s.records node before after m x ne)
 
 module _ (s : State) (head : Head) (node rel : ℕ) (place : IsPlace head) where
   first : ℕ
@@ -143,7 +151,8 @@ module _ (s : State) (head : Head) (node rel : ℕ) (place : IsPlace head) where
   unfolding after
   next_same some = rw new_is (next_of-led_same back head place.elsewhere node before after (small node rel) some)
 
-  next_other : (m x : ℕ) → (x ≡ before → Differ s.records node m before) → (x ≡ rel → Differ s.records node m rel) → next_of new.records m x ≡ next_of s.records m x
+  next_other : (m x : ℕ) → (x ≡ before → Differ s.records node m before) → (x ≡ rel → Differ s.records node m rel) → next_of new.records m x ≡ next_of s.records
+      m x
   unfolding back
   next_other m x nb nr = rw new_is (next_of-led_other back head place.elsewhere node before after m x (λ e. differ_back m before (nb e))
       ∙ next_of-backed free node after before m x ∙ ap (λ (r : Records). next_of r m x) free_is ∙ next_of-freed_other s.records node rel m x nr)
@@ -156,13 +165,16 @@ module _ (s : State) (head : Head) (node rel : ℕ) (place : IsPlace head) where
   prev_rel : after ≢ rel → prev_of new.records node rel ≡ nil
   unfolding back
   prev_rel apart = rw new_is (prev_of-led back head place.elsewhere node before after node rel
-      ∙ prev_of-backed_other free node after before node rel (λ e. absurd (apart (sym e))) ∙ ap (λ (r : Records). prev_of r node rel) free_is ∙ prev_of-freed_same s.records node rel)
+      ∙ prev_of-backed_other free node after before node rel (λ e. absurd (apart (sym e))) ∙ ap (λ (r : Records). prev_of r node rel) free_is
+      ∙ prev_of-freed_same s.records node rel)
 
   prev_same : after ≢ nil → prev_of new.records node after ≡ before
   unfolding back before
-  prev_same some = rw new_is (prev_of-led back head place.elsewhere node before after node after ∙ prev_of-backed_same free node after before (small_before node rel) some)
+  prev_same some = rw new_is (prev_of-led back head place.elsewhere node before after node after ∙ prev_of-backed_same free node after before
+      (small_before node rel) some)
 
-  prev_other : (m x : ℕ) → (x ≡ after → Differ s.records node m after) → (x ≡ rel → Differ s.records node m rel) → prev_of new.records m x ≡ prev_of s.records m x
+  prev_other : (m x : ℕ) → (x ≡ after → Differ s.records node m after) → (x ≡ rel → Differ s.records node m rel) → prev_of new.records m x ≡ prev_of s.records m
+      x
   unfolding back
   prev_other m x na nr = rw new_is (prev_of-led back head place.elsewhere node before after m x
       ∙ prev_of-backed_other free node after before m x (λ e. differ_free m after (na e))
@@ -185,7 +197,8 @@ module _ (s : State) (head : Head) (node rel : ℕ) (place : IsPlace head) where
       (λ _. ap (λ r. field 4 r head.field) (elsewhere-set_next back.records node before after head.key place.elsewhere ∙ back_stays head.key place.elsewhere)))
 
   -- ---- the same, of the space as it is left
-  pub unlinked_next : prev_of s.records node rel ≢ nil → next_of (unlinked s head node rel).records node (prev_of s.records node rel) ≡ next_of s.records node rel
+  pub unlinked_next : prev_of s.records node rel ≢ nil → next_of (unlinked s head node rel).records node (prev_of s.records node rel) ≡ next_of s.records node
+      rel
   unfolding new before after
   unlinked_next some = next_same some
 
@@ -193,7 +206,8 @@ module _ (s : State) (head : Head) (node rel : ℕ) (place : IsPlace head) where
   unfolding new before
   unlinked_next_other x nr nb = next_other node x (λ e. absurd (nb e)) (λ e. absurd (nr e))
 
-  pub unlinked_prev : next_of s.records node rel ≢ nil → prev_of (unlinked s head node rel).records node (next_of s.records node rel) ≡ prev_of s.records node rel
+  pub unlinked_prev : next_of s.records node rel ≢ nil → prev_of (unlinked s head node rel).records node (next_of s.records node rel) ≡ prev_of s.records node
+      rel
   unfolding new before after
   unlinked_prev some = prev_same some
 
@@ -229,13 +243,16 @@ module _ (s : State) (head : Head) (node rel : ℕ) (place : IsPlace head) where
   unfolding before
   led_some some = rw (eq_false (prev_of s.records node rel) nil some) refl
 
-  only : ChangeOnly s.records new.records (lead_place s.records head node rel ∷ prev_place s.records node rel ∷ next_place s.records node rel ∷ prev_place s.records node after ∷ [])
+  only : ChangeOnly s.records new.records (lead_place s.records head node rel ∷ prev_place s.records node rel ∷ next_place s.records node rel ∷ prev_place
+      s.records node after ∷ [])
   unfolding back before
   only = record {
     same = λ key n at fits apart.
         rw new_is (on_led back head place.elsewhere node before after (λ t. field n (t.records key) at ≡ field n (back.records key) at)
-        (λ none. field-set_other back.records head after key n at fits (subst (λ (p : Head). key ≡ p.key → (at + n ≤ p.field) ⊎ (p.field + 4 ≤ at)) (led_none none) apart.0))
-        (λ some. field-set_other back.records (next_place back.records node before) after key n at fits (rw (place_back node before) (subst (λ (p : Head). key ≡ p.key → (at + n ≤ p.field) ⊎ (p.field + 4 ≤ at)) (led_some some) apart.0))))
+        (λ none. field-set_other back.records head after key n at fits (subst (λ (p : Head). key ≡ p.key → (at + n ≤ p.field) ⊎ (p.field + 4 ≤ at))
+        (led_none none) apart.0))
+        (λ some. field-set_other back.records (next_place back.records node before) after key n at fits (rw (place_back node before)
+        (subst (λ (p : Head). key ≡ p.key → (at + n ≤ p.field) ⊎ (p.field + 4 ≤ at)) (led_some some) apart.0))))
         ∙ field-backed free node after before key n at fits (rw (place_free node after) apart.1.1.1.0)
         ∙ ap (λ (r : Records). field n (r key) at) free_is
         ∙ field-freed s.records node rel key n at fits apart.1.0 apart.1.1.0;
@@ -268,7 +285,8 @@ module _ (s : State) (head : Head) (node rel : ℕ) (place : IsPlace head) where
 
     before_apart : before ≢ rel
     unfolding first before
-    before_apart = before_other (next_of s.records node) (prev_of s.records node) nil first xs rel (nil_out (next_of s.records node) first xs walked) can.chain can.member
+    before_apart = before_other (next_of s.records node) (prev_of s.records node) nil first xs rel (nil_out (next_of s.records node) first xs walked)
+        can.chain can.member
 
     first_new : first_of new.records head ≡ cond (nat_eq first rel) after first
     first_new = ⊎_elim
@@ -279,16 +297,20 @@ module _ (s : State) (head : Head) (node rel : ℕ) (place : IsPlace head) where
     chain_new : IsChainAt new.records head node (without rel xs)
     unfolding first before after
     chain_new = rw first_new (chain_unlink (next_of s.records node) (prev_of s.records node) (next_of new.records node) (prev_of new.records node) rel
-        next_same prev_same (λ x nr nb. next_other node x (λ e. absurd (nb e)) (λ e. absurd (nr e))) (λ x nr na. prev_other node x (λ e. absurd (na e)) (λ e. absurd (nr e)))
+        next_same prev_same (λ x nr nb. next_other node x (λ e. absurd (nb e)) (λ e. absurd (nr e))) (λ x nr na. prev_other node x (λ e. absurd (na e))
+        (λ e. absurd (nr e)))
         nil first xs (nil_out _ first xs walked) can.chain can.member)
 
     others_stay : (m from : ℕ) (ys : List ℕ) → IsChainFrom s.records m from ys → ShareNoLink s.records node xs m ys → IsChainFrom new.records m from ys
     others_stay m from ys chain apart =
         let out = nil_out (next_of s.records m) from ys (walk_of_chain _ _ nil from ys chain) in
         let some : (x : ℕ) → In x ys → x ≢ nil = λ x i e. out (subst (λ z. In z ys) e i) in
-        let at_rel : (x : ℕ) → In x ys → x ≡ rel → Differ s.records node m rel = λ x i e. subst (Differ s.records node m) e (apart x i (subst (λ z. In z xs) (sym e) can.member)) in
-        let at_after : (x : ℕ) → In x ys → x ≡ after → Differ s.records node m after = λ x i e. subst (Differ s.records node m) e (apart x i (⊎_elim (λ none. absurd (some x i (e ∙ none))) (λ k. subst (λ z. In z xs) (sym e) k) after_member)) in
-        let at_before : (x : ℕ) → In x ys → x ≡ before → Differ s.records node m before = λ x i e. subst (Differ s.records node m) e (apart x i (⊎_elim (λ q. absurd (some x i (e ∙ before_nil q))) (λ k. subst (λ z. In z xs) (sym e) k) before_member)) in
+        let at_rel : (x : ℕ) → In x ys → x ≡ rel → Differ s.records node m rel = λ x i e. subst (Differ s.records node m) e
+        (apart x i (subst (λ z. In z xs) (sym e) can.member)) in
+        let at_after : (x : ℕ) → In x ys → x ≡ after → Differ s.records node m after = λ x i e. subst (Differ s.records node m) e
+        (apart x i (⊎_elim (λ none. absurd (some x i (e ∙ none))) (λ k. subst (λ z. In z xs) (sym e) k) after_member)) in
+        let at_before : (x : ℕ) → In x ys → x ≡ before → Differ s.records node m before = λ x i e. subst (Differ s.records node m) e
+        (apart x i (⊎_elim (λ q. absurd (some x i (e ∙ before_nil q))) (λ k. subst (λ z. In z xs) (sym e) k) before_member)) in
         chain_stays (next_of s.records m) (prev_of s.records m) (next_of new.records m) (prev_of new.records m) nil from ys
         (λ x i. next_other m x (at_before x i) (at_rel x i)) (λ x i. prev_other m x (at_after x i) (at_rel x i)) chain
 

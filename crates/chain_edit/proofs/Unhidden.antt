@@ -28,31 +28,48 @@ module _ (next prev next' prev' : ℕ → ℕ) (r : ℕ) (there : r ≢ nil)
   rest b (y ∷ ys) ro bo h =
       let some : next r ≢ nil = λ none. h.1 (sym h.0 ∙ none) in
       let once = head_once next' y ys h.1 (walk_of_chain next' prev' y (next' y) ys h.3) in
-      let stays : (z : ℕ) → In z (y ∷ ys) → next z ≡ next' z = λ z i. sym (n z (λ e. ro (subst (λ q. In q (y ∷ ys)) e i)) (λ e. bo (subst (λ q. In q (y ∷ ys)) e i))) in
+      let stays : (z : ℕ) → In z (y ∷ ys) → next z ≡ next' z = λ z i. sym (n z (λ e. ro (subst (λ q. In q (y ∷ ys)) e i))
+      (λ e. bo (subst (λ q. In q (y ∷ ys)) e i))) in
       let tail = chain_stays next' prev' next prev y (next' y) ys (λ z i. stays z (inr i))
       (λ z i. sym (p z (λ e. ro (inr (subst (λ q. In q ys) e i))) (λ e. once (subst (λ q. In q ys) (e ∙ h.0) i)))) h.3 in
       (h.0, h.1, ap prev (sym h.0) ∙ back some, subst (λ from. IsChain next prev y from ys) (sym (stays y (inl refl))) tail)
 
   -- where it was the first
   pub was_first : (xs : List ℕ) → prev r ≡ nil → (In r xs → ⊥) → IsChain next' prev' nil (next r) xs → IsChain next prev nil r (r ∷ xs)
-  was_first xs none ro h = (refl, there, none, rest nil xs ro (λ i. nil_out next' (next r) xs (walk_of_chain next' prev' nil (next r) xs h) (subst (λ q. In q xs) none i)) h)
+  was_first xs none ro h = (
+    refl,
+    there,
+    none,
+    rest nil xs ro (λ i. nil_out next' (next r) xs (walk_of_chain next' prev' nil (next r) xs h)
+        (subst (λ q. In q xs) none i)) h,
+  )
 
   -- where one is before it, which leads to it
   module _ (some : prev r ≢ nil) (leads : next (prev r) ≡ r) where
-    pub was_later : (b f : ℕ) (xs : List ℕ) → b ≢ prev r → (In r xs → ⊥) → IsChain next' prev' b f xs → (ys : List ℕ) × (IsChain next prev b f ys × (xs ≡ without r ys))
+    pub was_later : (b f : ℕ) (xs : List ℕ) → b ≢ prev r → (In r xs → ⊥) → IsChain next' prev' b f xs → (ys : List ℕ) × (IsChain next prev b f ys ×
+        (xs ≡ without r ys))
     was_later b f [] apart_b ro h = ([], (h, refl))
     was_later b f (x ∷ xs) apart_b ro h = ⊎_elim
         (λ (e : x ≡ prev r).
         let once = head_once next' x xs h.1 (walk_of_chain next' prev' x (next' x) xs h.3) in
         let follows : next' x ≡ next r = ap next' e ∙ np some in
-        let behind : IsChain next prev r (next r) xs = rest x xs (λ i. ro (inr i)) (λ i. once (subst (λ q. In q xs) (sym e) i)) (subst (λ from. IsChain next' prev' x from xs) follows h.3) in
+        let behind : IsChain next prev r (next r) xs = rest x xs (λ i. ro (inr i)) (λ i. once (subst (λ q. In q xs) (sym e) i))
+        (subst (λ from. IsChain next' prev' x from xs) follows h.3) in
         let to_r : next x ≡ r = ap next e ∙ leads in
-        let here : prev x ≡ b = sym (p x xr (λ q. ⊎_elim (λ (none : next r ≡ nil). h.1 (q ∙ none)) (λ (is : next r ≢ nil). apart is (sym q ∙ e)) (nat_cases (next r) nil))) ∙ h.2 in
+        let here : prev x ≡ b = sym (p x xr (λ q. ⊎_elim (λ (none : next r ≡ nil). h.1 (q ∙ none)) (λ (is : next r ≢ nil). apart is (sym q ∙ e))
+        (nat_cases (next r) nil))) ∙ h.2 in
         (x ∷ r ∷ xs, ((h.0, h.1, here, (to_r, there, sym e, behind)), sym (skip x (r ∷ xs) xr ∙ ap (λ zs. x ∷ zs) (without_first r xs)))))
         (λ (ne : x ≢ prev r).
-        let far : x ≢ next r = λ q. ⊎_elim (λ (none : next r ≡ nil). h.1 (q ∙ none)) (λ (is : next r ≢ nil). apart_b (sym h.2 ∙ ap prev' q ∙ pn is)) (nat_cases (next r) nil) in
-        let more = was_later x (next' x) xs ne (λ i. ro (inr i)) h.3 in
-        (x ∷ more.0, ((h.0, h.1, sym (p x xr far) ∙ h.2, subst (λ from. IsChain next prev x from more.0) (n x xr ne) more.1.0), ap (λ zs. x ∷ zs) more.1.1 ∙ sym (skip x more.0 xr))))
+        let far : x ≢ next r = λ q. ⊎_elim (λ (none : next r ≡ nil). h.1 (q ∙ none)) (λ (is : next r ≢ nil). apart_b (sym h.2 ∙ ap prev' q ∙ pn is))
+        (nat_cases (next r) nil) in
+        let more = was_later x (next' x) xs ne (λ i. ro (inr i)) h.3 in (
+          x ∷ more.0,
+          (
+            (h.0, h.1, sym (p x xr far) ∙ h.2, subst (λ from. IsChain next prev x from more.0) (n x xr ne) more.1.0),
+            ap (λ zs. x ∷ zs) more.1.1 ∙ sym
+                (skip x more.0 xr),
+          ),
+        ))
         (nat_cases x (prev r))
       where
         xr : x ≢ r
@@ -68,7 +85,8 @@ module _ (next prev next' prev' : ℕ → ℕ) (r : ℕ) (there : r ≢ nil)
         (λ (e : x ≡ prev r). cut xs e (subst (λ from. IsWalk next from xs) (ap next e ∙ leads) h.2) (head_once next x xs h.1 h.2))
         (λ (ne : x ≢ prev r).
         let member : In (prev r) xs = ⊎_elim (λ q. absurd (ne (sym q))) (λ k. k) i in
-        let r_in : In r xs = ⊎_elim (λ none. absurd (there (sym leads ∙ none))) (λ k. subst (λ q. In q xs) leads k) (after_in next (next x) xs (prev r) h.2 member) in
+        let r_in : In r xs = ⊎_elim (λ none. absurd (there (sym leads ∙ none))) (λ k. subst (λ q. In q xs) leads k) (after_in next (next x) xs (prev r)
+        h.2 member) in
         let xr : x ≢ r = λ e. head_once next x xs h.1 h.2 (subst (λ q. In q xs) (sym e) r_in) in
         on_test (λ zs. IsWalk next' f zs) r x xs (x ∷ without r xs) (λ e. absurd (xr (sym e)))
         (λ _. (h.0, h.1, subst (λ from. IsWalk next' from (without r xs)) (sym (n x xr ne)) (led_later (next x) xs h.2 member))))
@@ -100,7 +118,8 @@ module _ (next prev next' prev' : ℕ → ℕ) (r : ℕ) (there : r ≢ nil)
       let tail : IsWalk next (next r) xs = subst (λ q. IsWalk next (next q) xs) (sym h.0) h.2 in
       let r_out = head_once next r xs there tail in
       subst (λ ws. IsWalk next' (next r) ws) (sym (ap (λ q. without r (q ∷ xs)) (sym h.0) ∙ without_first r xs))
-      (walk_stays next next' (next r) xs (λ y k. n y (λ q. r_out (subst (λ v. In v xs) q k)) (λ q. nil_out next (next r) xs tail (subst (λ v. In v xs) (q ∙ none) k))) tail)
+      (walk_stays next next' (next r) xs (λ y k. n y (λ q. r_out (subst (λ v. In v xs) q k)) (λ q. nil_out next (next r) xs tail
+      (subst (λ v. In v xs) (q ∙ none) k))) tail)
 
 -- ---- of a space
 module _ (s : State) (head : Head) (node rel : ℕ) (place : IsPlace head) (some_rel : rel ≢ nil) (linked : IsLinkedIn s.records head node rel) where
@@ -145,11 +164,13 @@ module _ (s : State) (head : Head) (node rel : ℕ) (place : IsPlace head) (some
 
   led_none : prev rel ≡ nil → first_of s.records head ≡ rel
   unfolding prev
-  led_none none = on_test (λ v. v ≡ rel → first_of s.records head ≡ rel) (prev_of s.records node rel) nil (first_of s.records head) (next_of s.records node (prev_of s.records node rel)) (λ _ e. e) (λ some. absurd (some none)) linked.led
+  led_none none = on_test (λ v. v ≡ rel → first_of s.records head ≡ rel) (prev_of s.records node rel) nil (first_of s.records head) (next_of s.records node
+      (prev_of s.records node rel)) (λ _ e. e) (λ some. absurd (some none)) linked.led
 
   led_some : prev rel ≢ nil → next (prev rel) ≡ rel
   unfolding prev next
-  led_some some = on_test (λ v. v ≡ rel → next_of s.records node (prev_of s.records node rel) ≡ rel) (prev_of s.records node rel) nil (first_of s.records head) (next_of s.records node (prev_of s.records node rel)) (λ none. absurd (some none)) (λ _ e. e) linked.led
+  led_some some = on_test (λ v. v ≡ rel → next_of s.records node (prev_of s.records node rel) ≡ rel) (prev_of s.records node rel) nil (first_of s.records head)
+      (next_of s.records node (prev_of s.records node rel)) (λ none. absurd (some none)) (λ _ e. e) linked.led
 
   leads_on : prev rel ≡ nil → first_of (unlinked s head node rel).records head ≡ next rel
   unfolding prev next
@@ -163,9 +184,11 @@ module _ (s : State) (head : Head) (node rel : ℕ) (place : IsPlace head) (some
   unfolding prev next prev' next'
   hides_nothing xs chain ro = ⊎_elim
       (λ (none : prev rel ≡ nil).
-      let was = was_first next prev next' prev' rel some_rel np pn n p back apart xs none ro (subst (λ f. IsChain next' prev' nil f xs) (leads_on none) chain) in
+      let was = was_first next prev next' prev' rel some_rel np pn n p back apart xs none ro (subst (λ f. IsChain next' prev' nil f xs) (leads_on none)
+      chain) in
       (rel ∷ xs, (subst (λ f. IsChain next prev nil f (rel ∷ xs)) (sym (led_none none)) was, sym (without_first rel xs))))
-      (λ (some : prev rel ≢ nil). was_later next prev next' prev' rel some_rel np pn n p back apart some (led_some some) nil (first_of s.records head) xs (λ e. some (sym e)) ro
+      (λ (some : prev rel ≢ nil). was_later next prev next' prev' rel some_rel np pn n p back apart some (led_some some) nil (first_of s.records head) xs
+      (λ e. some (sym e)) ro
       (subst (λ f. IsChain next' prev' nil f xs) (stays some) chain))
       (nat_cases (prev rel) nil)
 
@@ -176,10 +199,12 @@ module _ (s : State) (head : Head) (node rel : ℕ) (place : IsPlace head) (some
         (λ (none : prev rel ≡ nil). subst (λ f. IsWalk next' f (without rel xs)) (sym (leads_on none))
         (led_first next prev next' prev' rel some_rel np pn n p back apart xs none (subst (λ f. IsWalk next f xs) (led_none none) walk)))
         (λ (some : prev rel ≢ nil). subst (λ f. IsWalk next' f (without rel xs)) (sym (stays some))
-        (led_later next prev next' prev' rel some_rel np pn n p back apart some (led_some some) (first_of s.records head) xs walk (⊎_elim (λ none. absurd (some none)) (λ k. k) i)))
+        (led_later next prev next' prev' rel some_rel np pn n p back apart some (led_some some) (first_of s.records head) xs walk
+        (⊎_elim (λ none. absurd (some none)) (λ k. k) i)))
         (nat_cases (prev rel) nil);
     beside = λ xs walk ro. ⊎_elim
-        (λ (none : prev rel ≡ nil). ⊎_elim (λ e. absurd (some_rel (sym (led_none none) ∙ e))) (λ k. absurd (ro (subst (λ q. In q xs) (led_none none) k))) (first_in next (first_of s.records head) xs walk))
+        (λ (none : prev rel ≡ nil). ⊎_elim (λ e. absurd (some_rel (sym (led_none none) ∙ e))) (λ k. absurd (ro (subst (λ q. In q xs) (led_none none) k)))
+        (first_in next (first_of s.records head) xs walk))
         (λ (some : prev rel ≢ nil). subst (λ f. IsWalk next' f xs) (sym (stays some))
         (out_later next prev next' prev' rel some_rel np pn n p back apart some (led_some some) (first_of s.records head) xs walk ro))
         (nat_cases (prev rel) nil);

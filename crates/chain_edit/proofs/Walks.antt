@@ -1,5 +1,6 @@
 -- A walk, step by step.
-use Rattle.std.proofs.Common.{◌<◌, ◌≤◌, ◌+◌, arith, inl, inr, ◌⊎◌, ◌≡◌, ◌≢◌, ℕ, zero, suc, List, [], ◌∷◌, ◌++◌, length, map, sym, ap, ◌∙◌, subst, refl, append_assoc, append-nil, ⊎_elim}
+use Rattle.std.proofs.Common.{◌<◌, ◌≤◌, ◌+◌, arith, inl, inr, ◌⊎◌, ◌≡◌, ◌≢◌, ℕ, zero, suc, List, [], ◌∷◌, ◌++◌, length, map, sym, ap, ◌∙◌, subst}
+use Rattle.std.proofs.Common.{refl, append_assoc, append-nil, ⊎_elim}
 use Rattle.std.proofs.Common.{false, true}
 use Rattle.std.proofs.Math.Dec.{eqb}
 use Rattle.std.specs.List.{AllByRecursion, IsDistinct, list_any}
@@ -33,7 +34,8 @@ use Rattle.chain_edit.specs.declared.links.Reach.{Reach}
 use Rattle.chain_edit.specs.Chains.{IsChainFrom, next_of, prev_of}
 use Rattle.chain_edit.specs.Links.{IsLinkDamage}
 use Rattle.chain_edit.specs.Links.IsLinkDamage.{LeadsNowhere, HighMark as HighLinkMark}
-use Rattle.chain_edit.specs.Walking.{HasWalked, IsSoundFrom, IsSoundWalk, IsStepDamage, IsStepFault, IsWalkDamage, IsWalkFault, ReadsAtMost, chain_damage, edge_at}
+use Rattle.chain_edit.specs.Walking.{HasWalked, IsSoundFrom, IsSoundWalk, IsStepDamage, IsStepFault, IsWalkDamage, IsWalkFault, ReadsAtMost}
+use Rattle.chain_edit.specs.Walking.{chain_damage, edge_at}
 use Rattle.chain_edit.specs.Walking.IsStepDamage.{NoStep, HighLink}
 use Rattle.chain_edit.specs.Walking.IsWalkDamage.{NoWalk, HighMark}
 
@@ -59,7 +61,8 @@ pub link_is : (s : State) (node at to : ℕ) (rec : Rec) → rec ≡ rec_at s.re
 link_is s node at to rec got is = ap (λ r. next_in r node) (sym got) ∙ sym is
 
 -- one more
-unfoldable pub met_more : (s : State) (first node before at to : ℕ) → at ≢ nil → at < rel_mark s → prev_of s.records node at ≡ before → next_of s.records node at ≡ to → HasMet s first node before at → HasMet s first node at to
+unfoldable pub met_more : (s : State) (first node before at to : ℕ) → at ≢ nil → at < rel_mark s → prev_of s.records node at ≡ before → next_of s.records node
+    at ≡ to → HasMet s first node before at → HasMet s first node at to
 met_more s first node before at to there low back link met =
     let next = next_of s.records node in
     let prev = prev_of s.records node in
@@ -71,7 +74,8 @@ met_more s first node before at to there low back link met =
     }
 
 -- the end
-pub met_all : (s : State) (first node budget before at : ℕ) → at ≡ nil → (met : HasMet s first node before at) → length met.members ≤ budget → IsSoundWalk s first node budget met.members
+pub met_all : (s : State) (first node budget before at : ℕ) → at ≡ nil → (met : HasMet s first node before at) → length met.members ≤ budget → IsSoundWalk s
+    first node budget met.members
 met_all s first node budget before at none met few = record {
   chain = subst (IsChain (next_of s.records node) (prev_of s.records node) nil first) (append-nil met.members) (met.chain [] none);
   few = few;
@@ -88,19 +92,23 @@ pub rows_none : (s : State) (first node : ℕ) → HaveRows s first node nil fir
 unfolding met_none
 rows_none s first node = record { met = met_none s first node; are = refl }
 
-pub rows_more : (s : State) (first node before at to : ℕ) (rows : List EdgeRow) (rec : Rec) → at ≢ nil → at < rel_mark s → prev_of s.records node at ≡ before → rec ≡ rec_at s.records 2 at → to ≡ next_in rec node
+pub rows_more : (s : State) (first node before at to : ℕ) (rows : List EdgeRow) (rec : Rec) → at ≢ nil → at < rel_mark s → prev_of s.records node at ≡ before
+    → rec ≡ rec_at s.records 2 at → to ≡ next_in rec node
     → HaveRows s first node before at rows → HaveRows s first node at to (rows ++ edge_of rec at ∷ [])
 unfolding met_more
 rows_more s first node before at to rows rec there low back got is so_far = record {
   met = met_more s first node before at to there low back (link_is s node at to rec got is) so_far.met;
-  are = ap (λ r. rows ++ edge_of r at ∷ []) got ∙ ap (λ r. r ++ edge_at s.records at ∷ []) so_far.are ∙ sym (map-append (edge_at s.records) so_far.met.members (at ∷ []));
+  are = ap (λ r. rows ++ edge_of r at ∷ []) got ∙ ap (λ r. r ++ edge_at s.records at ∷ []) so_far.are ∙ sym (map-append (edge_at s.records) so_far.met.members
+      (at ∷ []));
 }
 
-pub rows_all : (s : State) (first node budget before at : ℕ) (rows : List EdgeRow) → at ≡ nil → length rows ≤ budget → HaveRows s first node before at rows → HasWalked s first node budget rows
+pub rows_all : (s : State) (first node budget before at : ℕ) (rows : List EdgeRow) → at ≡ nil → length rows ≤ budget → HaveRows s first node before at rows
+    → HasWalked s first node budget rows
 rows_all s first node budget before at rows none few so_far = record {
   members = so_far.met.members;
   are = so_far.are;
-  sound = met_all s first node budget before at none so_far.met (let same = ap length so_far.are ∙ length-map so_far.met.members (edge_at s.records) in omega arith);
+  sound = met_all s first node budget before at none so_far.met (let same = ap length so_far.are ∙ length-map so_far.met.members (edge_at s.records) in omega
+      arith);
 }
 
 -- ---- what is left
@@ -109,7 +117,8 @@ rows_all s first node budget before at rows none few so_far = record {
 abbrev pub IsLeft : State → ℕ → ℕ → ℕ → ℕ → Type 0
 IsLeft s node before left at = (ys : List ℕ) × IsSoundFrom s node before at left ys
 
-pub left_more : (s : State) (node before left less at to : ℕ) → left ≡ suc less → at ≢ nil → next_of s.records node at ≡ to → IsLeft s node before left at → IsLeft s node at less to
+pub left_more : (s : State) (node before left less at to : ℕ) → left ≡ suc less → at ≢ nil → next_of s.records node at ≡ to → IsLeft s node before left at
+    → IsLeft s node at less to
 left_more s node before left less at to one there link (ys, h) = step ys h
   where
     step : (ys : List ℕ) → IsSoundFrom s node before at left ys → IsLeft s node at less to
@@ -123,7 +132,8 @@ left_more s node before left less at to one there link (ys, h) = step ys h
 -- the next one was given out, and leads back
 pub left_step : (s : State) (node before left at : ℕ) → at ≢ nil → IsLeft s node before left at → (at < rel_mark s) × (prev_of s.records node at ≡ before)
 left_step s node before left at there ([], h) = absurd (there h.chain)
-left_step s node before left at there (y ∷ ys, h) = subst (λ z. (z < rel_mark s) × (prev_of s.records node z ≡ before)) (sym h.chain.0) (h.low y (inl refl), h.chain.2)
+left_step s node before left at there (y ∷ ys, h) = subst (λ z. (z < rel_mark s) × (prev_of s.records node z ≡ before)) (sym h.chain.0)
+    (h.low y (inl refl), h.chain.2)
 
 pub left_none : (s : State) (node before left at : ℕ) → left ≡ 0 → IsLeft s node before left at → at ≡ nil
 left_none s node before left at none ([], h) = h.chain
@@ -182,17 +192,21 @@ reach_then s now n reach reads is = record { mark = is.mark ∙ sym (mark_then s
 
 -- a step of the space as it is after reads, by the space as it was
 pub step_then : (s now : State) (n node at before : ℕ) → now ≡ after_gets n s → prev_of now.records node at ≡ before → prev_of s.records node at ≡ before
-step_then s now n node at before reads back = sym (ap (λ (r : Records). prev_of r node at) (ap (λ (t : State). t.records) reads ∙ records-after_gets n s)) ∙ back
+step_then s now n node at before reads back = sym (ap (λ (r : Records). prev_of r node at) (ap (λ (t : State). t.records) reads ∙ records-after_gets n s))
+    ∙ back
 
 -- a step that fails where the rest of a walk has to go on
-pub no_step : (s now : State) (n node before left at : ℕ) → now ≡ after_gets n s → at ≢ nil → (at < rel_mark now → prev_of now.records node at ≢ before) → IsLeft s node before left at → ⊥
+pub no_step : (s now : State) (n node before left at : ℕ) → now ≡ after_gets n s → at ≢ nil → (at < rel_mark now → prev_of now.records node at ≢ before)
+    → IsLeft s node before left at → ⊥
 no_step s now n node before left at reads there fails rest =
     let step = left_step s node before left at there rest in
-    let same : prev_of now.records node at ≡ prev_of s.records node at = ap (λ (r : Records). prev_of r node at) (ap (λ (t : State). t.records) reads ∙ records-after_gets n s) in
+    let same : prev_of now.records node at ≡ prev_of s.records node at = ap (λ (r : Records). prev_of r node at) (ap (λ (t : State). t.records) reads
+    ∙ records-after_gets n s) in
     fails (let mark = mark_then s now n reads in let low = step.0 in omega arith) (same ∙ step.1)
 
 pub walk_damage : (s now : State) (n : ℕ) (owner : Key) (first node budget before left at : ℕ) (damage : Damage) → now ≡ after_gets n s → at ≢ nil
-    → ((xs : List ℕ) → IsSoundWalk s first node budget xs → IsLeft s node before left at) → IsStepDamage now owner node before at damage → IsWalkDamage s owner first node budget damage
+    → ((xs : List ℕ) → IsSoundWalk s first node budget xs → IsLeft s node before left at) → IsStepDamage now owner node before at damage → IsWalkDamage s owner
+    first node budget damage
 walk_damage s now n owner first node budget before left at damage reads there rest told = by damage told
   where
     by : (damage : Damage) → IsStepDamage now owner node before at damage → IsWalkDamage s owner first node budget damage
@@ -200,16 +214,20 @@ walk_damage s now n owner first node budget before left at damage reads there re
     by damage (HighLink above) = HighMark (let mark = mark_then s now n reads in let room = room_then s now n reads in omega arith)
 
 pub walk_fault : (s now : State) (n : ℕ) (owner : Key) (first node budget before left at : ℕ) (fault : Fault) → now ≡ after_gets n s → at ≢ nil
-    → ((xs : List ℕ) → IsSoundWalk s first node budget xs → IsLeft s node before left at) → IsStepFault now owner node before at fault → IsWalkFault s owner first node budget fault
+    → ((xs : List ℕ) → IsSoundWalk s first node budget xs → IsLeft s node before left at) → IsStepFault now owner node before at fault → IsWalkFault s owner
+    first node budget fault
 walk_fault s now n owner first node budget before left at Memory reads there rest told = tt
 walk_fault s now n owner first node budget before left at Disk reads there rest told = tt
-walk_fault s now n owner first node budget before left at (Damaged damage) reads there rest told = walk_damage s now n owner first node budget before left at damage reads there rest told
+walk_fault s now n owner first node budget before left at (Damaged damage) reads there rest told = walk_damage s now n owner first node budget before left at
+    damage reads there rest told
 
-pub none_damaged : (s : State) (owner : Key) (first node budget : ℕ) (xs : List ℕ) (damage : Damage) → rel_mark s ≤ rel_room s → IsSoundWalk s first node budget xs → IsWalkDamage s owner first node budget damage → ⊥
+pub none_damaged : (s : State) (owner : Key) (first node budget : ℕ) (xs : List ℕ) (damage : Damage) → rel_mark s ≤ rel_room s → IsSoundWalk s first node budget
+    xs → IsWalkDamage s owner first node budget damage → ⊥
 none_damaged s owner first node budget xs damage mark sound (NoWalk none) = none xs sound
 none_damaged s owner first node budget xs damage mark sound (HighMark above) = omega arith
 
-pub undamaged : (s : State) (owner : Key) (first node budget : ℕ) (xs : List ℕ) (fault : Fault) → rel_mark s ≤ rel_room s → IsSoundWalk s first node budget xs → IsWalkFault s owner first node budget fault → IfSome (damage_of fault) (λ _. ⊥)
+pub undamaged : (s : State) (owner : Key) (first node budget : ℕ) (xs : List ℕ) (fault : Fault) → rel_mark s ≤ rel_room s → IsSoundWalk s first node budget xs
+    → IsWalkFault s owner first node budget fault → IfSome (damage_of fault) (λ _. ⊥)
 undamaged s owner first node budget xs Memory mark sound told = tt
 undamaged s owner first node budget xs Disk mark sound told = tt
 undamaged s owner first node budget xs (Damaged damage) mark sound told = none_damaged s owner first node budget xs damage mark sound told
@@ -230,8 +248,10 @@ pub walk_in : (s : State) (first node budget : ℕ) (xs : List ℕ) → IsSoundW
 walk_in s first node budget xs sound = walk_of_chain (next_of s.records node) (prev_of s.records node) nil first xs sound.chain
 
 -- so the rows are those of a walk that is known
-pub rows_of : (s : State) (first node budget : ℕ) (rows : List EdgeRow) (xs : List ℕ) → HasWalked s first node budget rows → IsWalk (next_of s.records node) first xs → rows ≡ map (edge_at s.records) xs
-rows_of s first node budget rows xs walked walk = walked.are ∙ ap (map (edge_at s.records)) (walk_is (next_of s.records node) first walked.members xs (walk_in s first node budget walked.members walked.sound) walk)
+pub rows_of : (s : State) (first node budget : ℕ) (rows : List EdgeRow) (xs : List ℕ) → HasWalked s first node budget rows → IsWalk (next_of s.records node)
+    first xs → rows ≡ map (edge_at s.records) xs
+rows_of s first node budget rows xs walked walk = walked.are ∙ ap (map (edge_at s.records)) (walk_is (next_of s.records node) first walked.members xs
+    (walk_in s first node budget walked.members walked.sound) walk)
 
 others : (x : ℕ) (xs : List ℕ) → (In x xs → ⊥) → AllByRecursion (λ y. eqb x y ≡ false) xs
 others x [] out = tt
@@ -251,7 +271,8 @@ in_any q (y ∷ ys) h = ⊎_elim (λ (e : eqb q y ≡ true). inl (grind (arith, 
 pub short_below : (next : ℕ → ℕ) (f mark : ℕ) (xs : List ℕ) → IsWalk next f xs → ((x : ℕ) → In x xs → x < mark) → length xs ≤ mark
 short_below next f mark xs walk low = length-le_from_distinct_below xs mark (distinct next f xs walk) (λ q h. low q (in_any q xs h))
 
-pub sound_below : (s : State) (first node : ℕ) (xs : List ℕ) → IsChainFrom s.records node first xs → ((x : ℕ) → In x xs → x < rel_mark s) → IsSoundWalk s first node (rel_mark s) xs
+pub sound_below : (s : State) (first node : ℕ) (xs : List ℕ) → IsChainFrom s.records node first xs → ((x : ℕ) → In x xs → x < rel_mark s) → IsSoundWalk s first
+    node (rel_mark s) xs
 sound_below s first node xs chain low = record {
   chain = chain;
   few = short_below (next_of s.records node) first (rel_mark s) xs (walk_of_chain (next_of s.records node) (prev_of s.records node) nil first xs chain) low;
@@ -259,19 +280,23 @@ sound_below s first node xs chain low = record {
 }
 
 -- a link that leads nowhere is no step
-pub link_step : (s : State) (owner : Key) (node before at : ℕ) (named damage : Damage) → named ≡ chain_damage owner → IsLinkDamage s at named damage → IsStepDamage s owner node before at damage
-link_step s owner node before at named damage is (LeadsNowhere some above) = subst (IsStepDamage s owner node before at) (sym is) (NoStep (λ lt. absurd (omega arith)))
+pub link_step : (s : State) (owner : Key) (node before at : ℕ) (named damage : Damage) → named ≡ chain_damage owner → IsLinkDamage s at named damage
+    → IsStepDamage s owner node before at damage
+link_step s owner node before at named damage is (LeadsNowhere some above) = subst (IsStepDamage s owner node before at) (sym is)
+    (NoStep (λ lt. absurd (omega arith)))
 link_step s owner node before at named damage is (HighLinkMark above) = HighLink above
 
 -- ---- reads, by what a walk that ends meets
 
 -- What was met and what is left are the walk.
-met_and_left : (s : State) (first node budget before left at : ℕ) (rows : List EdgeRow) (xs : List ℕ) → HaveRows s first node before at rows → (rest : IsLeft s node before left at) → IsSoundWalk s first node budget xs → length xs ≡ length rows + length rest.0
+met_and_left : (s : State) (first node budget before left at : ℕ) (rows : List EdgeRow) (xs : List ℕ) → HaveRows s first node before at rows →
+    (rest : IsLeft s node before left at) → IsSoundWalk s first node budget xs → length xs ≡ length rows + length rest.0
 met_and_left s first node budget before left at rows xs so_far (ys, h) sound =
     let next = next_of s.records node in
     let prev = prev_of s.records node in
     let members = so_far.met.members in
-    let same = walk_is next first xs (members ++ ys) (walk_of_chain next prev nil first xs sound.chain) (walk_of_chain next prev nil first (members ++ ys) (so_far.met.chain ys h.chain)) in
+    let same = walk_is next first xs (members ++ ys) (walk_of_chain next prev nil first xs sound.chain) (walk_of_chain next prev nil first (members ++ ys)
+    (so_far.met.chain ys h.chain)) in
     let long : length rows ≡ length members = ap length so_far.are ∙ length-map members (edge_at s.records) in
     ap length same ∙ length-append members ys ∙ ap (λ n. n + length ys) (sym long)
 
@@ -280,14 +305,16 @@ some_left s node before left at there ([], h) = absurd (there h.chain)
 some_left s node before left at there (y ∷ ys, h) = omega arith
 
 -- so there were no more reads than it has relationships
-pub few_then : (s now : State) (first node budget before left at : ℕ) (rows : List EdgeRow) (xs : List ℕ) → HaveRows s first node before at rows → IsLeft s node before left at → IsSoundWalk s first node budget xs → now ≡ after_gets (length rows) s
+pub few_then : (s now : State) (first node budget before left at : ℕ) (rows : List EdgeRow) (xs : List ℕ) → HaveRows s first node before at rows → IsLeft s node
+    before left at → IsSoundWalk s first node budget xs → now ≡ after_gets (length rows) s
     → ReadsAtMost (length xs) s now
 few_then s now first node budget before left at rows xs so_far rest sound reads =
     let long = met_and_left s first node budget before left at rows xs so_far rest sound in
     record { count = length rows; within = omega arith; is = reads }
 
 -- with at most one more at a link that is to a relationship
-pub few_next : (s before_state now : State) (first node budget before left at : ℕ) (rows : List EdgeRow) (xs : List ℕ) → at ≢ nil → HaveRows s first node before at rows → IsLeft s node before left at → IsSoundWalk s first node budget xs
+pub few_next : (s before_state now : State) (first node budget before left at : ℕ) (rows : List EdgeRow) (xs : List ℕ) → at ≢ nil → HaveRows s first node before
+    at rows → IsLeft s node before left at → IsSoundWalk s first node budget xs
     → before_state ≡ after_gets (length rows) s → ReadsAtMost 1 before_state now → ReadsAtMost (length xs) s now
 few_next s before_state now first node budget before left at rows xs there so_far rest sound reads one =
     let long = met_and_left s first node budget before left at rows xs so_far rest sound in

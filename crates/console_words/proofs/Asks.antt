@@ -98,7 +98,8 @@ one_use name false joined text asked t a = record {
 -- two options
 two_uses : (name : Text) (which joined : Bool) (text : Text) (which2 joined2 : Bool) (text2 : Text) (asked : RunOptions) → IsOptionText which text
     → Fits which2 (rows_after_uses (record { which = which; text = text; is_joined = joined } ∷ []) []) text2
-    → RunAnswers (rows_after_uses (record { which = which; text = text; is_joined = joined } ∷ record { which = which2; text = text2; is_joined = joined2 } ∷ []) []) asked
+    → RunAnswers (rows_after_uses (record { which = which; text = text; is_joined = joined } ∷ record { which = which2; text = text2; is_joined = joined2 } ∷
+    []) []) asked
     → AsksForRun (name ∷ codes "run" ∷ (spelled joined which text ++ (spelled joined2 which2 text2 ++ []))) asked
 two_uses name true joined text true joined2 text2 asked t f a = let first = f.is_first in cc
 two_uses name false joined text false joined2 text2 asked t f a = let first = f.is_first in cc
@@ -122,7 +123,8 @@ two_uses name false joined text true joined2 text2 asked t f a = record {
 -- a third option is one of the first two again
 no_third : (which joined : Bool) (text : Text) (which2 joined2 : Bool) (text2 : Text) (which3 : Bool) (text3 : Text)
     → Fits which2 (rows_after_uses (record { which = which; text = text; is_joined = joined } ∷ []) []) text2
-    → Fits which3 (rows_after_uses (record { which = which; text = text; is_joined = joined } ∷ record { which = which2; text = text2; is_joined = joined2 } ∷ []) []) text3 → ⊥
+    → Fits which3 (rows_after_uses (record { which = which; text = text; is_joined = joined } ∷ record { which = which2; text = text2; is_joined = joined2 } ∷
+    []) []) text3 → ⊥
 no_third true joined text true joined2 text2 which3 text3 f g = let first = f.is_first in cc
 no_third false joined text false joined2 text2 which3 text3 f g = let first = f.is_first in cc
 no_third true joined text false joined2 text2 true text3 f g = let first = g.is_first in cc
@@ -236,13 +238,25 @@ passing which asked first second (used_once joined text t r e) (absent n f) = re
 passing which asked first second (used_once joined text t r e) (used_once joined2 text2 t2 r2 f) = record {
   uses = record { which = which; text = text; is_joined = joined } ∷ record { which = other which; text = text2; is_joined = joined2 } ∷ [];
   words_are = ap (λ l. l ++ second) e ∙ ap (λ l. spelled joined which text ++ l) (f ∙ sym (append-nil (spelled joined2 (other which) text2)));
-  pass = (use_from which [] text refl t, (use_from (other which) (rows_after_uses (record { which = which; text = text; is_joined = joined } ∷ []) []) text2 (second_first which joined text) t2, tt));
+  pass = (
+    use_from which [] text refl t,
+    (
+      use_from (other which) (rows_after_uses (record { which = which; text = text; is_joined = joined } ∷ []) []) text2
+          (second_first which joined text) t2,
+      tt,
+    ),
+  );
   answers = answers which r r2;
 }
   where
     answers : (which : Bool) → ReadsNumber (bits_of which) (Some (without_minus text)) (number_of which asked)
         → ReadsNumber (bits_of (other which)) (Some (without_minus text2)) (number_of (other which) asked)
-        → RunAnswers (rows_after_uses (record { which = which; text = text; is_joined = joined } ∷ record { which = other which; text = text2; is_joined = joined2 } ∷ []) []) asked
+        → RunAnswers (rows_after_uses (record { which = which; text = text; is_joined = joined } ∷ record {
+          which = other which;
+          text = text2;
+          is_joined =
+              joined2;
+        } ∷ []) []) asked
     answers true r r2 = record { threshold = r; limit = r2 }
     answers false r r2 = record { threshold = r2; limit = r }
 
@@ -265,5 +279,17 @@ asks_back words asked a = go a.are
 
     go : (words ≡ a.name ∷ codes "run" ∷ a.threshold_words ++ a.limit_words) ⊎ (words ≡ a.name ∷ codes "run" ∷ a.limit_words ++ a.threshold_words)
         → AsksBack asked words
-    go (inl are) = record { name = a.name; rest = a.threshold_words ++ a.limit_words; words_are = are; passes = passing true asked a.threshold_words a.limit_words threshold limit }
-    go (inr are) = record { name = a.name; rest = a.limit_words ++ a.threshold_words; words_are = are; passes = passing false asked a.limit_words a.threshold_words limit threshold }
+    go (inl are) = record {
+      name = a.name;
+      rest = a.threshold_words ++ a.limit_words;
+      words_are = are;
+      passes = passing true asked a.threshold_words
+          a.limit_words threshold limit;
+    }
+    go (inr are) = record {
+      name = a.name;
+      rest = a.limit_words ++ a.threshold_words;
+      words_are = are;
+      passes = passing false asked a.limit_words
+          a.threshold_words limit threshold;
+    }

@@ -91,7 +91,8 @@ with_value rows pending word next ws end b f =
     }
 
 pub reads : (words : List Text) → LacksEscape words
-    → ((rows : List Row) (pending : Option (Text × List Text)) → rest_fault (idle_at rows pending) words ≡ [] → Reads rows pending words (end_of (idle_at rows pending) words))
+    → ((rows : List Row) (pending : Option (Text × List Text)) → rest_fault (idle_at rows pending) words ≡ [] → Reads rows pending words
+    (end_of (idle_at rows pending) words))
     × ((rows : List Row) (which : Bool) → rest_fault (waiting_at rows which) words ≡ [] → Follows rows which words (end_of (waiting_at rows which) words))
 unfolding walk_fault
 reads [] lacks = (
@@ -113,7 +114,8 @@ reads (w ∷ ws) lacks = (idle_case (reads ws lacks.1), waiting_case (reads ws l
         let last = settle_fault options false (end_of (walked options [] s w) ws).held in
         or_else-both more last (or_else-second turn more (or_else-first (or_else turn more) last e)) (or_else-second (or_else turn more) last e)
 
-    waiting_case : ((rows : List Row) (pending : Option (Text × List Text)) → rest_fault (idle_at rows pending) ws ≡ [] → Reads rows pending ws (end_of (idle_at rows pending) ws))
+    waiting_case : ((rows : List Row) (pending : Option (Text × List Text)) → rest_fault (idle_at rows pending) ws ≡ [] → Reads rows pending ws
+        (end_of (idle_at rows pending) ws))
         → (rows : List Row) (which : Bool) → rest_fault (waiting_at rows which) (w ∷ ws) ≡ []
         → Follows rows which (w ∷ ws) (end_of (waiting_at rows which) (w ∷ ws))
     waiting_case more rows which e =
@@ -126,7 +128,8 @@ reads (w ∷ ws) lacks = (idle_case (reads ws lacks.1), waiting_case (reads ws l
           reads = subst (λ (s : Walk). Reads rows (Some (name_of which, w ∷ [])) ws (end_of s ws)) (sym next) (more rows (Some (name_of which, w ∷ [])) rest);
         }
 
-    idle_case : ((rows : List Row) (pending : Option (Text × List Text)) → rest_fault (idle_at rows pending) ws ≡ [] → Reads rows pending ws (end_of (idle_at rows pending) ws))
+    idle_case : ((rows : List Row) (pending : Option (Text × List Text)) → rest_fault (idle_at rows pending) ws ≡ [] → Reads rows pending ws
+        (end_of (idle_at rows pending) ws))
         × ((rows : List Row) (which : Bool) → rest_fault (waiting_at rows which) ws ≡ [] → Follows rows which ws (end_of (waiting_at rows which) ws))
         → (rows : List Row) (pending : Option (Text × List Text)) → rest_fault (idle_at rows pending) (w ∷ ws) ≡ []
         → Reads rows pending (w ∷ ws) (end_of (idle_at rows pending) (w ∷ ws))

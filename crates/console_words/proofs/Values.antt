@@ -117,7 +117,11 @@ use_fits which rows text e = go (has_row (name_of which) rows) (takes_text which
     go : (again fits : Bool) → has_row (name_of which) rows ≡ again → takes_text which text ≡ fits → fault_by which again fits ≡ [] → Fits which rows text
     go true fits f g h = cc
     go false false f g h = cc
-    go false true f g h = record { is_first = f; is_text = signed_from (least_of which) (most_of which) text (positive which) (accepts-Accepts false (parsers.Signed (pos (least_of which)) (pos (most_of which))) text g) }
+    go false true f g h = record {
+      is_first = f;
+      is_text = signed_from (least_of which) (most_of which) text (positive which) (accepts-Accepts false
+          (parsers.Signed (pos (least_of which)) (pos (most_of which))) text g);
+    }
 
 pub use_text : (which : Bool) (rows : List Row) (text : Text) → use_fault false (chosen which) (text ∷ []) rows ≡ [] → IsOptionText which text
 use_text which rows text e = (use_fits which rows text e).is_text

@@ -8,7 +8,12 @@ use Rattle.disk_model.specs.Contents.{Files, Holds, Same, SameOutside, bytes_fro
 pub SameOutside-within : (file at n wide_at wide_n : ℕ) (old new : Files) → wide_at ≤ at → at + n ≤ wide_at + wide_n → SameOutside file at n old new
     → SameOutside file wide_at wide_n old new
 SameOutside-within file at n wide_at wide_n old new first last same other place out =
-    same other place (λ within. out (record { in_file = within.in_file; at_or_behind = omega (arith, within.at_or_behind, first); before_end = omega (arith, within.before_end, last) }))
+    same other place (λ within. out (record {
+      in_file = within.in_file;
+      at_or_behind = omega (arith, within.at_or_behind, first);
+      before_end = omega
+          (arith, within.before_end, last);
+    }))
 
 -- two changes in the range
 pub SameOutside-then : (file at n : ℕ) (old middle new : Files) → SameOutside file at n old middle → SameOutside file at n middle new

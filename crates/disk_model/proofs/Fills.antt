@@ -24,7 +24,8 @@ range-cut at len size i start count begins counts =
     (λ within. ⊎_elim
     (λ known.
     and_from (leb start i) (ltb i (start + count)) (le-leb start i (omega arith)) (lt-ltb i (start + count) (omega arith))
-    ∙ sym (and_from (leb at i && ltb i (at + len)) (ltb i size) (and_from (leb at i) (ltb i (at + len)) (le-leb at i from) (lt-ltb i (at + len) within)) (lt-ltb i size known)))
+    ∙ sym (and_from (leb at i && ltb i (at + len)) (ltb i size) (and_from (leb at i) (ltb i (at + len)) (le-leb at i from) (lt-ltb i (at + len) within))
+    (lt-ltb i size known)))
     (λ past.
     and_right (leb start i) (ltb i (start + count)) (le-ltb i (start + count) (omega arith))
     ∙ sym (and_right (leb at i && ltb i (at + len)) (ltb i size) (le-ltb i size past)))
@@ -99,17 +100,20 @@ or_none false false = refl
 
 -- what is pending by the calls that count at a place, with a call more before them: n of the calls don't count there
 pub kept_pending-before : (call : KeptCall) (later : List KeptCall) (n number file place : ℕ)
-    → kept_pending (drop (n - number) (call ∷ later)) file place ≡ (kept_pending (drop (n - (number + 1)) later) file place || ((kept_covers call file place && not (kept_synced later file)) && leb n number))
+    → kept_pending (drop (n - number) (call ∷ later)) file place ≡ (kept_pending (drop (n - (number + 1)) later) file place ||
+    ((kept_covers call file place && not (kept_synced later file)) && leb n number))
 kept_pending-before call later n number file place =
     let here = kept_covers call file place && not (kept_synced later file) in
     ⊎_elim
     (λ uncounted.
     let more : n - number ≡ suc (n - (number + 1)) = omega arith in
     ap (λ k. kept_pending (drop k (call ∷ later)) file place) more
-    ∙ sym (ap (λ b. kept_pending (drop (n - (number + 1)) later) file place || (here && b)) (lt-leb n number uncounted) ∙ or_none (kept_pending (drop (n - (number + 1)) later) file place) here))
+    ∙ sym (ap (λ b. kept_pending (drop (n - (number + 1)) later) file place || (here && b)) (lt-leb n number uncounted) ∙ or_none
+    (kept_pending (drop (n - (number + 1)) later) file place) here))
     (λ counted.
     let none : n - number ≡ 0 = omega arith in
     let none_later : n - (number + 1) ≡ 0 = omega arith in
     ap (λ k. kept_pending (drop k (call ∷ later)) file place) none
-    ∙ sym (ap (λ k. kept_pending (drop k later) file place || (here && leb n number)) none_later ∙ ap (λ b. kept_pending later file place || (here && b)) (le-leb n number counted) ∙ ap (λ b. kept_pending later file place || b) (and_true here)))
+    ∙ sym (ap (λ k. kept_pending (drop k later) file place || (here && leb n number)) none_later ∙ ap (λ b. kept_pending later file place || (here && b))
+    (le-leb n number counted) ∙ ap (λ b. kept_pending later file place || b) (and_true here)))
     (cases_lt number n)

@@ -108,7 +108,12 @@ pub record Reaches (call : Call) (file at n : ℕ) : Type 0 where
   pub outside : (content : Files) (other place : ℕ) → in_range file at n other place ≡ false → laid call content other place ≡ content other place
 
 pub Reaches-wrote : (file at : ℕ) (bytes : List ℕ) → Reaches (Wrote file at bytes) file at (length bytes)
-Reaches-wrote file at bytes = record { range = λ other place. refl; no_sync = λ other. refl; outside = λ content other place out. cond-false (in_range file at (length bytes) other place) _ _ out }
+Reaches-wrote file at bytes = record {
+  range = λ other place. refl;
+  no_sync = λ other. refl;
+  outside = λ content other place out. cond-false
+      (in_range file at (length bytes) other place) _ _ out;
+}
 
 pub Reaches-tore : (file at n : ℕ) → Reaches (Tore file at n) file at n
 Reaches-tore file at n = record { range = λ other place. refl; no_sync = λ other. refl; outside = λ content other place out. refl }
@@ -153,7 +158,8 @@ TornIn-push base pokes calls call file at n reaches image allows =
           ∙ allows other place (settled-push pokes calls call file at n other place reaches out settled)
           ∙ content-outside base pokes calls call file at n other place reaches out)
           (cases_Bool (in_range file at n other place)),
-      λ other place out. sym (cond-false (in_range file at n other place) (content other place) (image other place) (in_range-outside file at n other place out)),
+      λ other place out. sym (cond-false (in_range file at n other place) (content other place) (image other place) (in_range-outside file at n other place
+          out)),
     )
 
 pub SameOutside-push : (base pokes : Files) (calls : List Call) (call : Call) (file at n : ℕ) → Reaches call file at n
@@ -189,7 +195,8 @@ pub content-synced : (base pokes : Files) (calls : List Call) (file other place 
     → content_since base pokes (calls ++ Synced file ∷ []) other place ≡ content_since base pokes calls other place
 content-synced base pokes calls file other place =
     ⊎_elim
-    (λ more. ap (λ cs. content_after base cs other place) more ∙ ap (λ (c : Files). c other place) (content_after-push base (calls_at pokes calls other place) (Synced file)))
+    (λ more. ap (λ cs. content_after base cs other place) more ∙ ap (λ (c : Files). c other place) (content_after-push base (calls_at pokes calls other place)
+    (Synced file)))
     (λ none. ap (λ cs. content_after base cs other place) (none.0 ∙ sym none.1))
     (push_cases (pokes other place) calls (Synced file))
 

@@ -54,7 +54,8 @@ lay-one test counts files file at part new other place passes known lays =
     let here = leb at place && ltb place (at + length part) in
     let byte = get_or part (place - at) 0 in
     let old = contents files file place in
-    subst (λ o. contents (set files file new) o place ≡ cond (test o && counts o place) (laid (Wrote file at part) (contents files) o place) (contents files o place)) (sym same)
+    subst (λ o. contents (set files file new) o place ≡ cond (test o && counts o place) (laid (Wrote file at part) (contents files) o place)
+    (contents files o place)) (sym same)
     (ap (λ f. get_or f place 0) (get_or-set_same files file new [] known)
     ∙ lays place
     ∙ nest here (counts file place) byte old
@@ -63,7 +64,8 @@ lay-one test counts files file at part new other place passes known lays =
     (λ differs.
     let apart : (file ≡ other → ⊥) = λ same. differs (sym same) in
     let laid_other : laid (Wrote file at part) (contents files) other place ≡ contents files other place =
-    cond-false (in_range file at (length part) other place) _ _ (and_left (eqb file other) (leb at place && ltb place (at + length part)) (ne_eqb file other apart)) in
+    cond-false (in_range file at (length part) other place) _ _ (and_left (eqb file other) (leb at place && ltb place (at + length part))
+    (ne_eqb file other apart)) in
     ap (λ f. get_or f place 0) (get_or-set_other files file other new [] differs)
     ∙ either (test other && counts other place) (contents files other place)
     ∙ sym (ap (λ x. cond (test other && counts other place) x (contents files other place)) laid_other))
@@ -91,7 +93,8 @@ synced_content-at : (calls : List Call) (a b : Files) (file place : ℕ) → a f
     → synced_content a calls file place ≡ synced_content b calls file place
 synced_content-at [] a b file place same = same
 synced_content-at (call ∷ calls) a b file place same =
-    synced_content-at calls _ _ file place (ap (λ x. cond (is_synced calls file) x (a file place)) (laid-at call a b file place same) ∙ ap (λ x. cond (is_synced calls file) (laid call b file place) x) same)
+    synced_content-at calls _ _ file place (ap (λ x. cond (is_synced calls file) x (a file place)) (laid-at call a b file place same) ∙ ap
+    (λ x. cond (is_synced calls file) (laid call b file place) x) same)
 
 -- one call is laid where it counts, and then those after it: n of the calls don't count at the place
 pub lay-step : (call : KeptCall) (later : List KeptCall) (bytes : List ℕ) (number n : ℕ) (old new : Files) (count : ℕ → ℕ) (file place : ℕ)
@@ -114,7 +117,8 @@ lay-step call later bytes number n old new count file place counts lays =
     let none_later : n - (number + 1) ≡ 0 = omega arith in
     let synced : ltb 0 (count file) ≡ is_synced calls file = ap (λ k. ltb 0 k) (counts file) ∙ sync_count-some later file ∙ kept_synced-is later bytes file in
     ap (λ k. synced_content new (drop k calls) file place) none_later
-    ∙ synced_content-at calls new _ file place (lays ∙ ap (λ b. cond (ltb 0 (count file) && b) here was) (le-leb n number counted) ∙ ap (λ b. cond b here was) (and_true (ltb 0 (count file))) ∙ ap (λ b. cond b here was) synced)
+    ∙ synced_content-at calls new _ file place (lays ∙ ap (λ b. cond (ltb 0 (count file) && b) here was) (le-leb n number counted) ∙ ap (λ b. cond b here was)
+    (and_true (ltb 0 (count file))) ∙ ap (λ b. cond b here was) synced)
     ∙ sym (ap (λ k. synced_content old (drop k (calls_of (call ∷ later) bytes)) file place) none))
     (cases_lt number n)
 
@@ -138,7 +142,8 @@ synced_content-settled (call ∷ calls) a b file place same settled =
     (λ not_synced.
     cond-false (is_synced calls file) (laid call a file place) (a file place) not_synced
     ∙ same
-    ∙ sym (laid-uncovered call b file place (⊎_elim (λ out. out) (λ was. absurd (both_ways (not (is_synced calls file)) was (not_from_false (is_synced calls file) not_synced))) (and_cases (covers call file place) (not (is_synced calls file)) parts.1))))
+    ∙ sym (laid-uncovered call b file place (⊎_elim (λ out. out) (λ was. absurd (both_ways (not (is_synced calls file)) was
+    (not_from_false (is_synced calls file) not_synced))) (and_cases (covers call file place) (not (is_synced calls file)) parts.1))))
     (cases_Bool (is_synced calls file)))
     parts.0
 

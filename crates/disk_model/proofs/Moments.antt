@@ -31,7 +31,8 @@ Elapses-push base pokes calls call =
       nothing_else = λ t image early since. ⊎_elim
           (λ last.
           let is_now : since.0 ≡ length (calls ++ call ∷ []) = omega (arith, more, since.2, last) in
-          inr (subst (λ cs. Allows base pokes cs image) (take-length (calls ++ call ∷ [])) (subst (λ k. Allows base pokes (take k (calls ++ call ∷ [])) image) is_now since.3)))
+          inr (subst (λ cs. Allows base pokes cs image) (take-length (calls ++ call ∷ [])) (subst (λ k. Allows base pokes (take k (calls ++ call ∷ [])) image)
+          is_now since.3)))
           (λ before. inl (since.0, since.1, before, subst (λ cs. Allows base pokes cs image) (take-append-le since.0 calls (call ∷ []) before) since.3))
           (cases_lt (length calls) since.0);
       keeps = λ t image early past.
@@ -67,7 +68,8 @@ pub elsewhere-write : {T E : Type 0} (result : Result T E) (old new : MemoryDisk
 elsewhere-write result old new file at bytes ok err =
     after_write (λ disk. SameOutside file at (length bytes) (content_of old) (content_of disk)) result old new file at bytes ok err
     (SameOutside-push (contents old.base) (contents old.pokes) old.calls (Wrote file at bytes) file at (length bytes) (Reaches-wrote file at bytes))
-    (SameOutside-push (contents old.base) (contents old.pokes) old.calls (Tore file at (length bytes)) file at (length bytes) (Reaches-tore file at (length bytes)))
+    (SameOutside-push (contents old.base) (contents old.pokes) old.calls (Tore file at (length bytes)) file at (length bytes)
+    (Reaches-tore file at (length bytes)))
     (λ other place out. refl)
 
 pub time-write : {T E : Type 0} (result : Result T E) (old new : MemoryDiskState) (file at : ℕ) (bytes : List ℕ)

@@ -14,16 +14,24 @@ use Rattle.disk_model.proofs.ReadFiles.{same_room, pending_since_within}
 -- files of zeros with a 1 at each pending place mark these and no others
 pub marked-pending : (base pokes blank marks : List (List ℕ)) (calls : List Call) → AllByRecursion (FitsFile base) calls → rooms_of blank ≡ rooms_of base
     → AllZeros blank
-    → ((file place : ℕ) → contents marks file place ≡ cond (pending_since (contents pokes) calls file place && ltb place (length (file_of blank file))) 1 (contents blank file place))
+    → ((file place : ℕ) → contents marks file place ≡ cond (pending_since (contents pokes) calls file place && ltb place (length (file_of blank file))) 1
+    (contents blank file place))
     → (file place : ℕ) → is_marked_in marks file place ≡ pending_since (contents pokes) calls file place
 marked-pending base pokes blank marks calls fits rooms zeros filled file place =
     ⊎_elim
     (λ pending.
-    let known : place < length (file_of blank file) = omega (arith, pending_since_within base (contents pokes) calls file place fits pending, same_room blank base file rooms) in
-    ap (λ mark. ltb 0 mark) (filled file place ∙ cond-true _ 1 (contents blank file place) (and_from (pending_since (contents pokes) calls file place) (ltb place (length (file_of blank file))) pending (lt-ltb place (length (file_of blank file)) known)))
+    let known : place < length (file_of blank file) = omega (
+      arith,
+      pending_since_within base (contents pokes) calls file place fits pending,
+      same_room blank
+          base file rooms,
+    ) in
+    ap (λ mark. ltb 0 mark) (filled file place ∙ cond-true _ 1 (contents blank file place) (and_from (pending_since (contents pokes) calls file place)
+    (ltb place (length (file_of blank file))) pending (lt-ltb place (length (file_of blank file)) known)))
     ∙ sym pending)
     (λ settled.
-    ap (λ mark. ltb 0 mark) (filled file place ∙ cond-false _ 1 (contents blank file place) (and_left (pending_since (contents pokes) calls file place) (ltb place (length (file_of blank file))) settled) ∙ zeros file place)
+    ap (λ mark. ltb 0 mark) (filled file place ∙ cond-false _ 1 (contents blank file place) (and_left (pending_since (contents pokes) calls file place)
+    (ltb place (length (file_of blank file))) settled) ∙ zeros file place)
     ∙ sym settled)
     (cases_Bool (pending_since (contents pokes) calls file place))
 
@@ -38,4 +46,5 @@ with_draws-pending base pokes files marks calls seed file place read rooms marke
     ap (λ b. cond b (drawn seed (count_before (is_marked_in marks) marks file place) % 256) (contents files file place)) (marked file place)
     ∙ ap (λ draw. cond (pending_since (contents pokes) calls file place) (drawn seed draw % 256) (contents files file place))
     (count_before-same (is_marked_in marks) (pending_since (contents pokes) calls) marks base file place rooms marked)
-    ∙ ap (λ byte. cond (pending_since (contents pokes) calls file place) (drawn seed (count_before (pending_since (contents pokes) calls) base file place) % 256) byte) (read.reads file place)
+    ∙ ap (λ byte. cond (pending_since (contents pokes) calls file place) (drawn seed (count_before (pending_since (contents pokes) calls) base file place)
+    % 256) byte) (read.reads file place)

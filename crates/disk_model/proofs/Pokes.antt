@@ -48,7 +48,8 @@ set_at : (xs : List ℕ) (at x place : ℕ) → at < length xs → get_or (set x
 set_at xs at x place within =
     ⊎_elim
     (λ same. get_or-set_at xs at place x 0 (sym same) within ∙ sym (cond-true (eqb at place) x (get_or xs place 0) (eq-eqb at place same)))
-    (λ differs. let apart : place ≢ at = λ same. differs (sym same) in get_or-set_other xs at place x 0 apart ∙ sym (cond-false (eqb at place) x (get_or xs place 0) (ne_eqb at place differs)))
+    (λ differs. let apart : place ≢ at = λ same. differs (sym same) in get_or-set_other xs at place x 0 apart ∙ sym (cond-false (eqb at place) x
+    (get_or xs place 0) (ne_eqb at place differs)))
     (cases_eq at place)
 
 poke_past : (here : Bool) (kept old new : ℕ) → old ≤ kept → new ≡ cond here kept old → new ≤ kept
@@ -235,7 +236,8 @@ PokedDisk-writes base pokes files calls file at byte kept old_base new_base old_
         reads = λ other place.
             contents-poked files file at byte new_files files_known files_within in_files other place
             ∙ ap (λ x. cond (is_place file at other place) byte x) (read.reads other place)
-            ∙ sym (content_since-poked file at byte (length calls) (contents base) (contents pokes) (contents (set base file new_base)) (contents (set pokes file new_pokes)) calls poke (omega arith) other place);
+            ∙ sym (content_since-poked file at byte (length calls) (contents base) (contents pokes) (contents (set base file new_base))
+            (contents (set pokes file new_pokes)) calls poke (omega arith) other place);
         fits = fits-all (set base file new_base) base calls base_rooms read.fits;
       };
       poke = poke;

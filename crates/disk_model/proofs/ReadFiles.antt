@@ -133,8 +133,14 @@ pub filled-pending : (base pokes files : List (List ℕ)) (calls : List Call) (b
 filled-pending base pokes files calls byte file place read =
     ⊎_elim
     (λ pending.
-    let known : place < length (file_of files file) = omega (arith, pending_since_within base (contents pokes) calls file place read.fits pending, same_room files base file read.same_rooms) in
-    cond-true _ byte (contents files file place) (and_from (pending_since (contents pokes) calls file place) (ltb place (length (file_of files file))) pending (lt-ltb place (length (file_of files file)) known))
+    let known : place < length (file_of files file) = omega (
+      arith,
+      pending_since_within base (contents pokes) calls file place read.fits pending,
+      same_room
+          files base file read.same_rooms,
+    ) in
+    cond-true _ byte (contents files file place) (and_from (pending_since (contents pokes) calls file place) (ltb place (length (file_of files file))) pending
+    (lt-ltb place (length (file_of files file)) known))
     ∙ sym (cond-true (pending_since (contents pokes) calls file place) byte (content_since (contents base) (contents pokes) calls file place) pending))
     (λ settled.
     cond-false _ byte (contents files file place) (and_left (pending_since (contents pokes) calls file place) (ltb place (length (file_of files file))) settled)

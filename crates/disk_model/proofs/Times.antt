@@ -6,7 +6,13 @@ use Rattle.disk_model.specs.Disk.{Elapses, LeavesOnly}
 
 -- no call
 pub leaves_at_once : (now : ℕ) (past : ℕ → Files → Type 0) (P : Files → Type 0) → ((image : Files) → past now image → P image) → LeavesOnly now now past past P
-leaves_at_once now past P has = record { later = le_refl now; each = has; nothing_else = λ t image early since. inl since; keeps = λ t image early before. before }
+leaves_at_once now past P has = record {
+  later = le_refl now;
+  each = has;
+  nothing_else = λ t image early since. inl since;
+  keeps = λ t image early before.
+      before;
+}
 
 -- one call more
 pub leaves_then : (first before now : ℕ) (at_first past since : ℕ → Files → Type 0) (images P : Files → Type 0)

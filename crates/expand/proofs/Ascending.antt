@@ -87,5 +87,7 @@ sorted_part wide test rows edges found part narrower moved sorted =
     one_ascending found (filter test edges)
     (ascends_sorted (filter test rows) found (AllPairs-filter Differs test rows part.distinct) moved sorted)
     (AllPairs-filter IsBefore test edges part.ascends)
-    (λ z is. let kept = contains_filter test rows z (Contains-permutation found (filter test rows) z (IsPermutation-sym (filter test rows) found moved) is) in filter_contains test edges z (part.only z kept.0) kept.1)
-    (λ z is. let kept = contains_filter test edges z is in Contains-permutation (filter test rows) found z moved (filter_contains test rows z (part.all z kept.0 (narrower z kept.1)) kept.1))
+    (λ z is. let kept = contains_filter test rows z (Contains-permutation found (filter test rows) z (IsPermutation-sym (filter test rows) found moved) is) in
+    filter_contains test edges z (part.only z kept.0) kept.1)
+    (λ z is. let kept = contains_filter test edges z is in Contains-permutation (filter test rows) found z moved (filter_contains test rows z
+    (part.all z kept.0 (narrower z kept.1)) kept.1))

@@ -100,13 +100,15 @@ link_is s node direction labels (g ∷ gs) link is = ⊎_elim
     (λ (later : Contains (first_links direction labels (map (group_row_at s) gs)) link).
     let k = link_is s node direction labels gs link later in
     record { member = inr k.member; label = k.label; first = k.first })
-    (Contains-append_cases (cond (is_wanted labels (type_of s g)) (links_of direction (group_row_at s g)) []) (first_links direction labels (map (group_row_at s) gs)) link is)
+    (Contains-append_cases (cond (is_wanted labels (type_of s g)) (links_of direction (group_row_at s g)) []) (first_links direction labels
+    (map (group_row_at s) gs)) link is)
   where
     of_side : (side : Side) → link ≡ link_on (group_row_at s g) side → IsLinkOf s node (g ∷ gs) link
     of_side side is = record {
       member = inl (ap (λ (l : FirstLink). l.group) is);
       label = ap (λ (l : FirstLink). l.label) is ∙ ap (type_of s) (sym (ap (λ (l : FirstLink). l.group) is));
-      first = ap (λ (l : FirstLink). l.first) is ∙ first_is s g side ∙ (λ i. first_of s (group_head (sym (ap (λ (l : FirstLink). l.group) is) i) (sym (ap (λ (l : FirstLink). l.side) is) i)));
+      first = ap (λ (l : FirstLink). l.first) is ∙ first_is s g side ∙ (λ i. first_of s (group_head (sym (ap (λ (l : FirstLink). l.group) is) i)
+          (sym (ap (λ (l : FirstLink). l.side) is) i)));
     }
 
     of_one : (wanted : Bool) → Contains (cond wanted (links_of direction (group_row_at s g)) []) link → IsLinkOf s node (g ∷ gs) link
@@ -170,7 +172,15 @@ twins_of links twins =
     let outer = any_contains (λ (l : FirstLink). list_any (are_twins l) links) links twins in
     let inner = any_contains (are_twins outer.0) links outer.2 in
     let both = and_parts (nat_eq inner.0.label outer.0.label) (not (nat_eq inner.0.group outer.0.group)) inner.2 in
-    record { link = outer.0; other = inner.0; has = outer.1; has_other = inner.1; same = eqb-true inner.0.label outer.0.label both.0; differ = λ e. true≢false (sym both.1 ∙ ap not (eq_true inner.0.group outer.0.group e)) }
+    record {
+      link = outer.0;
+      other = inner.0;
+      has = outer.1;
+      has_other = inner.1;
+      same = eqb-true inner.0.label outer.0.label both.0;
+      differ = λ e. true≢false
+          (sym both.1 ∙ ap not (eq_true inner.0.group outer.0.group e));
+    }
 
 -- ---- a dense node and links of its groups
 
@@ -215,7 +225,8 @@ module _ (s : State) (node : ℕ) (links : List FirstLink) (of : AreOfGroups s n
           let other = link_of two.other two.has_other in
           let all : chain.0 ≡ gs = walk_is (next_group s.records) (first_link s.records node) chain.0 gs
           (walk_of_chain _ _ format.nil (first_link s.records node) chain.0 chain.1.chain) of.listed.list.walk in
-          two.differ (chain.1.once two.other.group two.link.group (subst (In two.other.group) (sym all) other.member) (subst (In two.link.group) (sym all) one.member)
+          two.differ (chain.1.once two.other.group two.link.group (subst (In two.other.group) (sym all) other.member) (subst (In two.link.group) (sym all)
+          one.member)
           (sym other.label ∙ two.same ∙ one.label))
 
   module _ (link : FirstLink) (is : Contains links link) where
@@ -253,15 +264,27 @@ module _ (s : State) (node : ℕ) (links : List FirstLink) (of : AreOfGroups s n
             → ((place_of side ≡ format.group_first_out) × (row.from ≡ group.owner) × (row.to ≢ group.owner))
             ⊎ (((place_of side ≡ format.group_first_in) × (row.from ≢ group.owner) × (row.to ≡ group.owner))
             ⊎ ((place_of side ≡ format.group_first_loop) × (row.from ≡ group.owner) × (row.to ≡ group.owner))) → is_on side node (edge_at s.records x) ≡ true
-        placed Out row group is owner (inl k) = rw (eq_true (edge_at s.records x).from node (ap (λ (r : RelRow). r.from) is ∙ k.1 ∙ owner), eq_false (edge_at s.records x).to node (λ e. k.2 (sym (ap (λ (r : RelRow). r.to) is) ∙ e ∙ sym owner))) refl
+        placed Out row group is owner (inl k) = rw (
+          eq_true (edge_at s.records x).from node (ap (λ (r : RelRow). r.from) is ∙ k.1 ∙ owner),
+          eq_false
+              (edge_at s.records x).to node (λ e. k.2 (sym (ap (λ (r : RelRow). r.to) is) ∙ e ∙ sym owner)),
+        ) refl
         placed Out row group is owner (inr (inl k)) = absurd (let e = k.0 in omega arith)
         placed Out row group is owner (inr (inr k)) = absurd (let e = k.0 in omega arith)
         placed Into row group is owner (inl k) = absurd (let e = k.0 in omega arith)
-        placed Into row group is owner (inr (inl k)) = rw (eq_false (edge_at s.records x).from node (λ e. k.1 (sym (ap (λ (r : RelRow). r.from) is) ∙ e ∙ sym owner)), eq_true (edge_at s.records x).to node (ap (λ (r : RelRow). r.to) is ∙ k.2 ∙ owner)) refl
+        placed Into row group is owner (inr (inl k)) = rw (
+          eq_false (edge_at s.records x).from node (λ e. k.1 (sym (ap (λ (r : RelRow). r.from) is) ∙ e
+              ∙ sym owner)),
+          eq_true (edge_at s.records x).to node (ap (λ (r : RelRow). r.to) is ∙ k.2 ∙ owner),
+        ) refl
         placed Into row group is owner (inr (inr k)) = absurd (let e = k.0 in omega arith)
         placed Loop row group is owner (inl k) = absurd (let e = k.0 in omega arith)
         placed Loop row group is owner (inr (inl k)) = absurd (let e = k.0 in omega arith)
-        placed Loop row group is owner (inr (inr k)) = rw (eq_true (edge_at s.records x).from node (ap (λ (r : RelRow). r.from) is ∙ k.1 ∙ owner), eq_true (edge_at s.records x).to node (ap (λ (r : RelRow). r.to) is ∙ k.2 ∙ owner)) refl
+        placed Loop row group is owner (inr (inr k)) = rw (
+          eq_true (edge_at s.records x).from node (ap (λ (r : RelRow). r.from) is ∙ k.1 ∙ owner),
+          eq_true
+              (edge_at s.records x).to node (ap (λ (r : RelRow). r.to) is ∙ k.2 ∙ owner),
+        ) refl
 
     -- a chain that is right: it begins at the link, and has what belongs there
     pub record IsRightChain : Type 0 where
@@ -277,7 +300,8 @@ module _ (s : State) (node : ℕ) (links : List FirstLink) (of : AreOfGroups s n
           members = chain.0;
           chain = subst (λ f. IsChainFrom s.records node f chain.0) (sym (link_of link is).first) chain.1.chain;
           low = λ x i. kind_below (rel_mark s) (rec_at s.records format.relationships_file x) x
-              (some_row (kind_at s.records format.relationships_file x) (rel_in (rec_at s.records format.relationships_file x) x) (chain.1.only x i).row (chain.1.only x i).live).0;
+              (some_row (kind_at s.records format.relationships_file x) (rel_in (rec_at s.records format.relationships_file x) x) (chain.1.only x i).row
+              (chain.1.only x i).live).0;
           belong = λ x i. stands_belongs x (chain.1.only x i);
         }
 
@@ -329,7 +353,8 @@ module _ (s now : State) (n node at budget : ℕ) (links : List FirstLink) (d : 
 
   module _ (chain : List EdgeRow) (walked : HasWalked now here.first node budget chain) where
     walk_then : IsWalk (next_of s.records node) here.first walked.members
-    walk_then = chain_walk s.records node here.first walked.members (subst (λ (r : Records). IsChainFrom r node here.first walked.members) (records_then s now n reads) walked.sound.chain)
+    walk_then = chain_walk s.records node here.first walked.members (subst (λ (r : Records). IsChainFrom r node here.first walked.members)
+        (records_then s now n reads) walked.sound.chain)
 
     rows_then : chain ≡ map (edge_at s.records) walked.members
     rows_then = walked.are ∙ ap (λ (r : Records). map (edge_at r) walked.members) (records_then s now n reads)
@@ -359,7 +384,8 @@ module _ (s now : State) (n node at budget : ℕ) (links : List FirstLink) (d : 
     stray_breaks of stray = chains_break s node links of here (Contains-get_or links at d low) (λ right.
         let same = walk_is (next_of s.records node) here.first right.members walked.members (chain_walk s.records node here.first right.members right.chain)
         walk_then in
-        true≢false (sym (pass_all (belongs here node) (edge_at s.records) right.members right.belong) ∙ ap (λ xs. list_all (belongs here node) (map (edge_at s.records) xs)) same
+        true≢false (sym (pass_all (belongs here node) (edge_at s.records) right.members right.belong) ∙ ap (λ xs. list_all (belongs here node)
+        (map (edge_at s.records) xs)) same
         ∙ ap (list_all (belongs here node)) (sym rows_then) ∙ stray))
 
   -- ---- a chain that leads nowhere

@@ -43,7 +43,8 @@ rows_part s test xs once live all = record {
   all = λ row is passes.
       let found = contains_collect (edge_row_at s) (high s format.relationships_file) row is in
       let has = some_row (kind_at s format.relationships_file found.0) (edge_at s found.0) row found.2 in
-      subst (Contains (map (edge_at s) xs)) has.1 (map_contains (edge_at s) xs found.0 (all found.0 has.0 (subst (λ (r : EdgeRow). test r ≡ true) (sym has.1) passes)));
+      subst (Contains (map (edge_at s) xs)) has.1 (map_contains (edge_at s) xs found.0 (all found.0 has.0 (subst (λ (r : EdgeRow). test r ≡ true) (sym has.1)
+      passes)));
 }
 
 module _ (s : Records) (shape : Shape) (store : IsWellFormed s shape) (n : ℕ) (sparse : kind_at s format.nodes_file n ≡ format.sparse) where
@@ -108,7 +109,8 @@ same_id_laws = record {
 pub length-part : (wide test : EdgeRow → Bool) (rows edges : List EdgeRow) → IsPart wide rows edges → ((row : EdgeRow) → Contains rows row → test row ≡ true)
     → length rows ≤ length (filter test edges)
 length-part wide test rows edges part passes =
-    length-le_from_is_member same_id_laws rows (filter test edges) (IsDistinct-from_apart same_id rows (λ i j d lt low. eq_false _ _ (part.distinct i j d lt low))) (λ q is.
+    length-le_from_is_member same_id_laws rows (filter test edges) (IsDistinct-from_apart same_id rows (λ i j d lt low. eq_false _ _
+    (part.distinct i j d lt low))) (λ q is.
     let found = Any-from_list_any (same_id q) rows is in
     let member : Contains rows found.1 = (found.0, found.2, found.3) in
     let kept = filter_contains test edges found.1 (part.only found.1 member) (passes found.1 member) in
@@ -118,7 +120,8 @@ length-part wide test rows edges part passes =
 pub length-members : (rows others : List EdgeRow) → AllPairs (λ a b. id_of a < id_of b) rows → ((row : EdgeRow) → Contains rows row → Contains others row)
     → length rows ≤ length others
 length-members rows others up within =
-    length-le_from_is_member same_id_laws rows others (IsDistinct-from_apart same_id rows (λ i j d lt low. eq_false _ _ (let l = up i j d lt low in λ e. omega (arith, l, e)))) (λ q is.
+    length-le_from_is_member same_id_laws rows others (IsDistinct-from_apart same_id rows (λ i j d lt low. eq_false _ _ (let l = up i j d lt low in λ e. omega
+    (arith, l, e)))) (λ q is.
     let found = Any-from_list_any (same_id q) rows is in
     let kept = within found.1 (found.0, found.2, found.3) in
     list_any-from_Any (same_id q) others (kept.0, found.1, kept.1, kept.2, found.4))

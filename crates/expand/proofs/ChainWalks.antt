@@ -35,7 +35,8 @@ chain_walk records node first xs chain = walk_of_chain (next_of records node) (p
 pub walks_are : (records : Records) (node : ℕ) (firsts xs ys : List ℕ) → AreWalks records node firsts xs → AreWalks records node firsts ys → xs ≡ ys
 walks_are records node [] xs ys a b = a ∙ sym b
 walks_are records node (first ∷ firsts) xs ys (met, later, one, rest, is) (seen, others, other, more, are) =
-    is ∙ ap (λ zs. zs ++ later) (walk_is (next_of records node) first met seen (chain_walk records node first met one) (chain_walk records node first seen other))
+    is ∙ ap (λ zs. zs ++ later) (walk_is (next_of records node) first met seen (chain_walk records node first met one) (chain_walk records node first seen
+    other))
     ∙ ap (λ zs. seen ++ zs) (walks_are records node firsts later others rest more) ∙ sym are
 
 -- ---- what was met
@@ -133,7 +134,12 @@ reads_more s now new rows more both is so_far then =
 pub mark_bounds : (s now new : State) (n mark budget : ℕ) → budget ≡ mark - n → now ≡ after_gets n s → ReadsAtMost mark s now → ReadsAtMost budget now new
     → ReadsAtMost mark s new
 mark_bounds s now new n mark budget left so_far before more = ⊎_elim
-    (λ (lt : n < mark). record { count = more.count + n; within = let few = more.within in omega arith; is = more.is ∙ ap (after_gets more.count) so_far ∙ gets_add more.count n s })
+    (λ (lt : n < mark). record {
+      count = more.count + n;
+      within = let few = more.within in omega arith;
+      is = more.is ∙ ap (after_gets more.count) so_far
+          ∙ gets_add more.count n s;
+    })
     (λ (le : mark ≤ n).
     let none : more.count ≡ 0 = let few = more.within in omega arith in
     let same : new ≡ now = more.is ∙ ap (λ k. after_gets k now) none ∙ after_gets-zero now in
@@ -171,4 +177,9 @@ pub few_more : (s now new : State) (node most : ℕ) (firsts left : List ℕ) (r
     → now ≡ after_gets (length rows) s → (more : ℕ) → more ≤ length rest.0 → ReadsAtMost more now new → ReadsAtMost (length xs) s new
 few_more s now new node most firsts left rows xs met rest walks reads more le then =
     let long = met_and_left s node most firsts left rows xs met rest walks in
-    record { count = then.count + length rows; within = let few = then.within in omega arith; is = then.is ∙ ap (after_gets then.count) reads ∙ gets_add then.count (length rows) s }
+    record {
+      count = then.count + length rows;
+      within = let few = then.within in omega arith;
+      is = then.is ∙ ap (after_gets then.count) reads
+          ∙ gets_add then.count (length rows) s;
+    }

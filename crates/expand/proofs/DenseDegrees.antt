@@ -65,9 +65,11 @@ module _ (s : State) (store : IsStore s) (row : NodeRow) (dense : kind_at s.reco
   pub degree_is : (t : State) (count : ℕ) → IsDenseDegree s t row direction labels count → count ≡ rows_count direction labels n (rows_of s.records)
   degree_is t count (inl sum) =
       let are = listed_are sum.groups sum.listed in
-      sum.is ∙ ap as_number (ap (counted_sum direction labels) are ∙ sum_rows s.records s.shape store n dense labels direction (ap (lacks_counts labels) (sym are) ∙ sum.counted)) ∙ number_is s store direction labels n
+      sum.is ∙ ap as_number (ap (counted_sum direction labels) are ∙ sum_rows s.records s.shape store n dense labels direction (ap (lacks_counts labels)
+      (sym are) ∙ sum.counted)) ∙ number_is s store direction labels n
   degree_is t count (inr walked) =
-      walked.is ∙ ap as_number (part_count direction labels n walked.rows (rows_of s.records) (dense_rows.dense_part s store row dense first direction labels t walked.rows walked.has)) ∙ number_is s store direction labels n
+      walked.is ∙ ap as_number (part_count direction labels n walked.rows (rows_of s.records) (dense_rows.dense_part s store row dense first direction labels t
+      walked.rows walked.has)) ∙ number_is s store direction labels n
 
   module _ (all : HasCountedGroups s.records n) where
     counted : (g : ℕ) → In g members → is_counted (rec_at s.records format.groups_file g) ≡ true
@@ -120,7 +122,8 @@ module _ (s : State) (n : ℕ) (row : NodeRow) (found : Some row ≡ row_at s.re
 
   -- where all groups are counted, they alone are read
   pub loaded_counted : HasCountedGroups s.records n
-      → (lacks_counts labels (map (group_row_at mid.records) (dense_rows.members mid mid_store row mid_dense mid_first direction labels)) ≡ false → ReadsAtMost (length (dense_rows.members mid mid_store row mid_dense mid_first direction labels)) mid new)
+      → (lacks_counts labels (map (group_row_at mid.records) (dense_rows.members mid mid_store row mid_dense mid_first direction labels)) ≡ false → ReadsAtMost
+      (length (dense_rows.members mid mid_store row mid_dense mid_first direction labels)) mid new)
       → ReadsAtMost (1 + type_count (graph_in s) n) s new
   loaded_counted all reads =
       let counted = all_counted mid mid_store row mid_dense mid_first direction labels
@@ -128,7 +131,8 @@ module _ (s : State) (n : ℕ) (row : NodeRow) (found : Some row ≡ row_at s.re
       let more = reads counted in
       let types = dense_rows.types_are mid mid_store row mid_dense mid_first direction labels in
       one_read (type_count (graph_in s) n) s new (reads_then s mid new n (type_count (graph_in s) n) loaded
-      (subst (λ (r : Records). ReadsAtMost (type_count (graph_of r) n) mid new) records_are (subst (λ x. ReadsAtMost (type_count (graph_of mid.records) x) mid new) id_is (subst (λ k. ReadsAtMost k mid new) types more))))
+      (subst (λ (r : Records). ReadsAtMost (type_count (graph_of r) n) mid new) records_are (subst (λ x. ReadsAtMost (type_count (graph_of mid.records) x)
+      mid new) id_is (subst (λ k. ReadsAtMost k mid new) types more))))
 
 -- ---- answers
 

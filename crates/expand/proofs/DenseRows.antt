@@ -100,11 +100,13 @@ module _ (s : State) (store : IsStore s) (row : NodeRow) (dense : kind_at s.reco
   module _ (new : State) (rows : List EdgeRow) (has : HasDenseRows s new row direction labels rows) where
     -- the rows of the groups are those of all
     groups_are : has.groups ≡ map (group_row_at s.records) members
-    groups_are = has.listed.are ∙ ap (map (group_row_at s.records)) (walk_is (next_group s.records) row.first has.listed.members members has.listed.list.walk group_walk)
+    groups_are = has.listed.are ∙ ap (map (group_row_at s.records)) (walk_is (next_group s.records) row.first has.listed.members members has.listed.list.walk
+        group_walk)
 
     -- and the rows of relationships those of all that stand at their heads
     rows_are : rows ≡ map (edge_at s.records) chains.members
-    rows_are = has.walked.are ∙ ap (map (edge_at s.records)) (walks_are s.records n (first_numbers direction labels has.groups) has.walked.members chains.members has.walked.walks
+    rows_are = has.walked.are ∙ ap (map (edge_at s.records)) (walks_are s.records n (first_numbers direction labels has.groups) has.walked.members
+        chains.members has.walked.walks
         (subst (λ rows. AreWalks s.records n (first_numbers direction labels rows) chains.members) (sym groups_are) walks))
 
     -- so they are a part of all rows

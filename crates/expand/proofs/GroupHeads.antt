@@ -66,7 +66,8 @@ side_in directions.Both Loop is = contains_later Out (Into ∷ Loop ∷ []) Loop
 in_two : (P : Side → Type 0) (a b z : Side) → P a → P b → Contains (a ∷ b ∷ []) z → P z
 in_two P a b z one other is = ⊎_elim
     (λ (e : z ≡ a). subst P (sym e) one)
-    (λ (later : Contains (b ∷ []) z). ⊎_elim (λ (e : z ≡ b). subst P (sym e) other) (λ (none : Contains [] z). absurd (let lt = none.1 in omega arith)) (contains_cases b [] z later))
+    (λ (later : Contains (b ∷ []) z). ⊎_elim (λ (e : z ≡ b). subst P (sym e) other) (λ (none : Contains [] z). absurd (let lt = none.1 in omega arith))
+    (contains_cases b [] z later))
     (contains_cases a (b ∷ []) z is)
 
 in_side : (direction : Direction) (side : Side) → Contains (sides_of direction) side → IsSideOf direction side
@@ -163,7 +164,8 @@ firsts_are s direction labels [] = refl
 firsts_are s direction labels (g ∷ gs) =
     map-append (first_of s) (cond (is_wanted labels (type_of s g)) (map (group_head g) (sides_of direction)) []) (heads_in s direction labels gs)
     ∙ (λ i. one (is_wanted labels (type_of s g)) i ++ firsts_are s direction labels gs i)
-    ∙ sym (map-append (λ (link : FirstLink). link.first) (cond (is_wanted labels (type_of s g)) (links_of direction (group_row_at s g)) []) (first_links direction labels (map (group_row_at s) gs)))
+    ∙ sym (map-append (λ (link : FirstLink). link.first) (cond (is_wanted labels (type_of s g)) (links_of direction (group_row_at s g)) [])
+    (first_links direction labels (map (group_row_at s) gs)))
   where
     of_side : (side : Side) → first_of s (group_head g side) ≡ first_on (group_row_at s g) side
     of_side Out = refl
@@ -192,7 +194,8 @@ head_in : (s : Records) (direction : Direction) (labels gs : List ℕ) (h : Head
     → IsGroupHead s direction labels gs h
 head_in s direction labels [] h (k, lt, is) = absurd (omega arith)
 head_in s direction labels (g ∷ gs) h is = ⊎_elim
-    (λ (own : Contains (cond (is_wanted labels (type_of s g)) (map (group_head g) (sides_of direction)) []) h). of_one (is_wanted labels (type_of s g)) refl own)
+    (λ (own : Contains (cond (is_wanted labels (type_of s g)) (map (group_head g) (sides_of direction)) []) h). of_one (is_wanted labels (type_of s g))
+    refl own)
     (λ (later : Contains (heads_in s direction labels gs) h).
     let k = head_in s direction labels gs h later in
     record { group = k.group; side = k.side; member = inr k.member; wanted = k.wanted; aside = k.aside; is = k.is })
@@ -211,8 +214,10 @@ in_heads s direction labels [] g side i wanted aside = elim i [ ]
 in_heads s direction labels (k ∷ gs) g side (inl same) wanted aside =
     Contains-append_left (cond (is_wanted labels (type_of s k)) (map (group_head k) (sides_of direction)) []) (heads_in s direction labels gs)
     (group_head g side)
-    (subst (λ b. Contains (cond b (map (group_head k) (sides_of direction)) []) (group_head g side)) (sym (ap (λ z. is_wanted labels (type_of s z)) (sym same) ∙ wanted))
-    (subst (λ z. Contains (map (group_head z) (sides_of direction)) (group_head g side)) same (image_contains (group_head g) (sides_of direction) side (side_in direction side aside))))
+    (subst (λ b. Contains (cond b (map (group_head k) (sides_of direction)) []) (group_head g side)) (sym (ap (λ z. is_wanted labels (type_of s z)) (sym same)
+    ∙ wanted))
+    (subst (λ z. Contains (map (group_head z) (sides_of direction)) (group_head g side)) same (image_contains (group_head g) (sides_of direction) side
+    (side_in direction side aside))))
 in_heads s direction labels (k ∷ gs) g side (inr later) wanted aside =
     Contains-append_right (cond (is_wanted labels (type_of s k)) (map (group_head k) (sides_of direction)) []) (heads_in s direction labels gs)
     (group_head g side)
@@ -249,7 +254,8 @@ heads_apart s direction labels (g ∷ gs) once =
     of_sides directions.Incoming = of_two Into Loop (λ e. let f = ap (λ (h : Head). h.field) e in omega arith)
     of_sides directions.Both = AllPairs-cons Differ (group_head g Out) (group_head g Into ∷ group_head g Loop ∷ [])
         (all_cons (Differ (group_head g Out)) (group_head g Into) (group_head g Loop ∷ []) (λ e. let f = ap (λ (h : Head). h.field) e in omega arith)
-        (all_cons (Differ (group_head g Out)) (group_head g Loop) [] (λ e. let f = ap (λ (h : Head). h.field) e in omega arith) (all_none (Differ (group_head g Out)))))
+        (all_cons (Differ (group_head g Out)) (group_head g Loop) [] (λ e. let f = ap (λ (h : Head). h.field) e in omega arith)
+        (all_none (Differ (group_head g Out)))))
         (of_two Into Loop (λ e. let f = ap (λ (h : Head). h.field) e in omega arith))
 
     of_one : (wanted : Bool) → AllPairs Differ (cond wanted (map (group_head g) (sides_of direction)) [])

@@ -145,17 +145,20 @@ module _ (s : Records) (shape : Shape) (store : IsWellFormed s shape) (n : ℕ) 
       unfolding group
       of_end ends.Source wanted =
           count_split (met_by ends.Source g) (is_out_of group) (is_loop_of group) rels mark (λ x row live.
-          subst (λ o. one_if (met_by ends.Source g row) ≡ one_if (nat_eq row.label (type_of s g) && (nat_eq row.from o && not (nat_eq row.to o))) + one_if (nat_eq row.label (type_of s g) && (nat_eq row.from o && nat_eq row.to o))) (sym is_group.owner)
+          subst (λ o. one_if (met_by ends.Source g row) ≡ one_if (nat_eq row.label (type_of s g) && (nat_eq row.from o && not (nat_eq row.to o))) + one_if
+          (nat_eq row.label (type_of s g) && (nat_eq row.from o && nat_eq row.to o))) (sym is_group.owner)
           (split_out (nat_eq row.from n) (nat_eq row.to n) (is_wanted labels row.label) (nat_eq row.label (type_of s g)) (λ l. typed_as row l ∙ wanted)))
           ∙ (λ i. (sym counts.out ∙ sym (number format.group_out_count)) i + (sym counts.loops ∙ sym (number format.group_loop_count)) i)
       of_end ends.Target wanted =
           count_split (met_by ends.Target g) (is_into group) (is_loop_of group) rels mark (λ x row live.
-          subst (λ o. one_if (met_by ends.Target g row) ≡ one_if (nat_eq row.label (type_of s g) && (not (nat_eq row.from o) && nat_eq row.to o)) + one_if (nat_eq row.label (type_of s g) && (nat_eq row.from o && nat_eq row.to o))) (sym is_group.owner)
+          subst (λ o. one_if (met_by ends.Target g row) ≡ one_if (nat_eq row.label (type_of s g) && (not (nat_eq row.from o) && nat_eq row.to o)) + one_if
+          (nat_eq row.label (type_of s g) && (nat_eq row.from o && nat_eq row.to o))) (sym is_group.owner)
           (split_in (nat_eq row.from n) (nat_eq row.to n) (is_wanted labels row.label) (nat_eq row.label (type_of s g)) (λ l. typed_as row l ∙ wanted)))
           ∙ (λ i. (sym counts.into ∙ sym (number format.group_in_count)) i + (sym counts.loops ∙ sym (number format.group_loop_count)) i)
 
     not_end : (end : End) → is_wanted labels (type_of s g) ≡ false → count_of (met_by end g) rels mark ≡ 0
-    not_end end unwanted = count_none (met_by end g) rels mark (λ row. none_wanted (nat_eq (end_in end row) n) (is_wanted labels row.label) (nat_eq row.label (type_of s g)) (λ l. typed_as row l ∙ unwanted))
+    not_end end unwanted = count_none (met_by end g) rels mark (λ row. none_wanted (nat_eq (end_in end row) n) (is_wanted labels row.label)
+        (nat_eq row.label (type_of s g)) (λ l. typed_as row l ∙ unwanted))
 
     -- its part of the sum
     of_group : (end : End) → (is_wanted labels (type_of s g) && not (is_counted (rec_at s format.groups_file g))) ≡ false
@@ -224,7 +227,8 @@ module _ (s : Records) (shape : Shape) (store : IsWellFormed s shape) (n : ℕ) 
   end_sum : (end : End) → lacks_counts labels (map (group_row_at s) groups) ≡ false
       → counted_sum (way end) labels (map (group_row_at s) groups) ≡ count_of (meets end labels n) rels mark
   end_sum end has = sum_is end groups (heads.groups_once s shape store n dense) (λ k i. i) has
-      ∙ count_same (met_of end groups) (meets end labels n) rels mark (λ x row live. same_and (nat_eq (end_in end row) n) (is_wanted labels row.label) (is_typed groups row.label) (all_typed end x row live))
+      ∙ count_same (met_of end groups) (meets end labels n) rels mark (λ x row live. same_and (nat_eq (end_in end row) n) (is_wanted labels row.label)
+      (is_typed groups row.label) (all_typed end x row live))
 
   both_sum : (gs : List GroupRow) → counted_sum directions.Both labels gs ≡ counted_sum directions.Outgoing labels gs + counted_sum directions.Incoming labels
       gs

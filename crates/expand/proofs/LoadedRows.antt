@@ -91,7 +91,12 @@ module _ (s : State) (n : ℕ) (row : NodeRow) (found : Some row ≡ row_at s.re
       let kind = field 1 r format.kind in
       ⊎_elim (λ (is : kind ≡ format.sparse). kind_is ∙ is) (λ (ne : kind ≢ format.sparse).
       absurd (known.kind (kind_below (high s.records format.nodes_file) r n used)
-      (rw (eq_false kind format.free_kind (λ e. used (kind_is ∙ e)), eq_false kind format.sparse ne, (sym (ap (λ k. nat_eq k format.dense) kind_is) ∙ sym dense_test ∙ thin)) refl)))
+      (rw (
+        eq_false kind format.free_kind (λ e. used (kind_is ∙ e)),
+        eq_false kind format.sparse ne,
+        (sym (ap (λ k. nat_eq k format.dense) kind_is)
+            ∙ sym dense_test ∙ thin),
+      ) refl)))
       (nat_cases kind format.sparse)
 
   is_sparse : IsStore s → row.dense ≡ false → kind_at s.records format.nodes_file n ≡ format.sparse
@@ -127,7 +132,8 @@ module _ (s : State) (n : ℕ) (row : NodeRow) (found : Some row ≡ row_at s.re
           let head = keeps.chain is in (
             head.0,
             subst (λ m. IsSoundWalk mid row.first n m head.0) (mark_stays ∙ sym marked) (sound_below mid row.first n head.0
-                (subst (λ (r : Records). IsChainFrom r n row.first head.0) (sym records_stay) (subst (λ first. IsChainFrom s.records n first head.0) (sym first_is) head.1.chain))
+                (subst (λ (r : Records). IsChainFrom r n row.first head.0) (sym records_stay) (subst (λ first. IsChainFrom s.records n first head.0)
+                (sym first_is) head.1.chain))
                 (λ x i.
                 let stands = head.1.only x i in
                 let low = kind_below (rel_mark s) (rec_at s.records format.relationships_file x) x
@@ -147,7 +153,8 @@ module _ (s : State) (n : ℕ) (row : NodeRow) (found : Some row ≡ row_at s.re
           by : (damage : Damage) → IsWalkDamage mid (node_key n) row.first n mark damage → Breaks s.records s.shape damage
           by damage (NoWalk none) = NodeChain n below (λ keeps. let walk = ends keeps (known_sparse known thin) in none walk.0 walk.1)
           by damage (HighMark above) = WrongMeta format.relationships_file (omega arith)
-              (λ meta. let right = meta.high in let mark = mark_stays in let room = ap (λ (shape : Shape). room_of shape format.relationships_file) shape_stays in omega arith)
+              (λ meta. let right = meta.high in let mark = mark_stays in let room = ap (λ (shape : Shape). room_of shape format.relationships_file)
+              shape_stays in omega arith)
 
       module _ (store : IsStore s) where
         pub sparse : kind_at s.records format.nodes_file n ≡ format.sparse
@@ -168,7 +175,8 @@ module _ (s : State) (n : ℕ) (row : NodeRow) (found : Some row ≡ row_at s.re
         -- the chain ends within the mark
         pub sound : IsSoundWalk mid row.first n mark members
         sound = subst (λ m. IsSoundWalk mid row.first n m members) (mark_stays ∙ sym marked)
-            (sound_below mid row.first n members chained (λ x i. let low = chain_rows.low s.records s.shape store n sparse x i in let same = mark_stays in omega arith))
+            (sound_below mid row.first n members chained (λ x i. let low = chain_rows.low s.records s.shape store n sparse x i in let same = mark_stays in omega
+            arith))
 
         -- each of them is at the node
         at_node : (r : EdgeRow) → Contains (map (edge_at s.records) members) r → is_at n r ≡ true
@@ -244,10 +252,12 @@ module _ (s : State) (n : ℕ) (row : NodeRow) (found : Some row ≡ row_at s.re
           -- the rows are a part of all rows
           pub dense_part : (rows : List EdgeRow) → HasDenseRows mid new row direction labels rows → IsPart (is_met direction labels n) rows (rows_of s.records)
           dense_part rows has = subst (λ (r : Records). IsPart (is_met direction labels n) rows (rows_of r)) records_stay
-              (subst (λ x. IsPart (is_met direction labels x) rows (rows_of mid.records)) id_is (dense_rows.dense_part mid (store_stays store) row mid_dense mid_first direction labels new rows has))
+              (subst (λ x. IsPart (is_met direction labels x) rows (rows_of mid.records)) id_is (dense_rows.dense_part mid (store_stays store) row mid_dense
+              mid_first direction labels new rows has))
 
           -- as many reads as types and as relationships that are met, and one for the node
-          pub dense_most : ReadsAtMost (length (dense_rows.members mid (store_stays store) row mid_dense mid_first direction labels) + length (dense_rows.chains mid (store_stays store) row mid_dense mid_first direction labels).members) mid new
+          pub dense_most : ReadsAtMost (length (dense_rows.members mid (store_stays store) row mid_dense mid_first direction labels) + length
+              (dense_rows.chains mid (store_stays store) row mid_dense mid_first direction labels).members) mid new
               → ReadsAtMost (most_reads s direction labels n) s new
           dense_most reads =
               let more = dense_rows.dense_few mid (store_stays store) row mid_dense mid_first direction labels new reads in

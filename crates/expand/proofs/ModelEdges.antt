@@ -71,7 +71,8 @@ module _ (s : Records) (shape : Shape) {most : ℕ} {empty : List ℕ} (keeps : 
   -- the rows of the store are those of the graph's edges
   pub rows_are : AreRowsOf s (rows_of s) (graph_of s).edges
   rows_are = zip_collect (IsRowOf s) (edge_row_at s) (edge_of s) (high s format.relationships_file)
-      (λ x lt. one x (nat_eq (kind_at s format.relationships_file x) 0) refl (λ some. keeps.named.rels_named x _ (row_some _ (rel_in (rec_at s format.relationships_file x) x) (eqb-false _ _ some))))
+      (λ x lt. one x (nat_eq (kind_at s format.relationships_file x) 0) refl (λ some. keeps.named.rels_named x _
+      (row_some _ (rel_in (rec_at s format.relationships_file x) x) (eqb-false _ _ some))))
     where
       one : (x : ℕ) (free : Bool) → nat_eq (kind_at s format.relationships_file x) 0 ≡ free
           → ((nat_eq (kind_at s format.relationships_file x) 0 ≡ false) → (edge_at s x).label < high s format.names_file)
@@ -84,7 +85,8 @@ module _ (s : Records) (shape : Shape) {most : ℕ} {empty : List ℕ} (keeps : 
   pub length-at_node : (n : ℕ) → length (filter (is_at n) (rows_of s)) ≡ degree_in (graph_of s) n
   length-at_node n =
       sym (AllZip-long (IsRowOf s) (filter (is_at n) (rows_of s)) (filter (plain.is_at n) (graph_of s).edges)
-      (zip_filter (IsRowOf s) (is_at n) (plain.is_at n) (λ row edge is. λ i. nat_eq (is.from i) n || nat_eq (is.to i) n) (rows_of s) (graph_of s).edges rows_are))
+      (zip_filter (IsRowOf s) (is_at n) (plain.is_at n) (λ row edge is. λ i. nat_eq (is.from i) n || nat_eq (is.to i) n) (rows_of s) (graph_of s).edges
+      rows_are))
 
   -- ---- numbers of types and their texts
 
@@ -92,7 +94,8 @@ module _ (s : Records) (shape : Shape) {most : ℕ} {empty : List ℕ} (keeps : 
   nat_eq-name_of : (a b : ℕ) → a < high s format.names_file → b < high s format.names_file → nat_eq a b ≡ is_text (name_of s b) (name_of s a)
   nat_eq-name_of a b a_low b_low =
       same_from_decides _ _ (Decides-eqb a b)
-      (Decides-like (bytes_eq (name_of s b) (name_of s a)) (λ same. sym (keeps.names.distinct b a b_low a_low same)) (λ same. ap (name_of s) (sym same)) (bytes_eq-Decides (name_of s b) (name_of s a)))
+      (Decides-like (bytes_eq (name_of s b) (name_of s a)) (λ same. sym (keeps.names.distinct b a b_low a_low same)) (λ same. ap (name_of s) (sym same))
+      (bytes_eq-Decides (name_of s b) (name_of s a)))
       ∙ sym (is_eq-slice_cmp (name_of s b) (name_of s a))
 
   -- numbers of names stand for their texts

@@ -27,7 +27,12 @@ pub reads_then : (s mid new : State) (id most : ℕ) → mid ≡ after_load s id
 reads_then s mid new id most loaded more = by (nat_lt id (node_mark s) && nat_lt id (node_room s)) loaded
   where
     by : (there : Bool) → mid ≡ cond there (after_get s) s → ReadsAtMost (most + 1) s new
-    by true is = record { count = more.count + 1; within = let le = more.within in omega arith; is = more.is ∙ ap (after_gets more.count) is ∙ after_gets-after_get more.count s }
+    by true is = record {
+      count = more.count + 1;
+      within = let le = more.within in omega arith;
+      is = more.is ∙ ap (after_gets more.count) is
+          ∙ after_gets-after_get more.count s;
+    }
     by false is = record { count = more.count; within = let le = more.within in omega arith; is = more.is ∙ ap (after_gets more.count) is }
 
 -- a load changes no record

@@ -126,7 +126,8 @@ module _ (s : Records) (shape : Shape) (store : IsWellFormed s shape) where
   types_at : (n : ℕ) → type_count (graph_of s) n ≡ distinct_count is_text (row_types n)
   unfolding row_types
   types_at n = ap (distinct_count is_text) (types_are s (filter (is_at n) (rows_of s)) (filter (plain.is_at n) (graph_of s).edges)
-      (zip_filter (IsRowOf s) (is_at n) (plain.is_at n) (λ row edge is. λ i. nat_eq (is.from i) n || nat_eq (is.to i) n) (rows_of s) (graph_of s).edges (rows_are s shape store)))
+      (zip_filter (IsRowOf s) (is_at n) (plain.is_at n) (λ row edge is. λ i. nat_eq (is.from i) n || nat_eq (is.to i) n) (rows_of s) (graph_of s).edges
+      (rows_are s shape store)))
 
   module _ (n : ℕ) (dense : kind_at s format.nodes_file n ≡ format.dense) where
     abbrev groups : List ℕ
@@ -146,7 +147,8 @@ module _ (s : Records) (shape : Shape) (store : IsWellFormed s shape) where
     named g i =
         let one = filled g i in
         let row = rel_in (rec_at s format.relationships_file one.0) one.0 in
-        subst (λ label. label < high s format.names_file) one.3 (store.named.rels_named one.0 row (row_some (kind_at s format.relationships_file one.0) row one.1))
+        subst (λ label. label < high s format.names_file) one.3 (store.named.rels_named one.0 row (row_some (kind_at s format.relationships_file one.0)
+        row one.1))
 
     group_types : List (List ℕ)
     group_types = map text_in groups
@@ -184,7 +186,8 @@ module _ (s : Records) (shape : Shape) (store : IsWellFormed s shape) where
     groups_count =
         sym (length-map groups text_in)
         ∙ length-from_keys texts_equal group_types (row_types n)
-        (IsDistinct-from_AllPairs text_decides group_types (pairs_map (λ a b. a ≢ b) text_in groups (pairs_once (λ g k. text_in g ≢ text_in k) groups (heads.groups_once s shape store n dense) types_apart)))
+        (IsDistinct-from_AllPairs text_decides group_types (pairs_map (λ a b. a ≢ b) text_in groups (pairs_once (λ g k. text_in g ≢ text_in k) groups
+        (heads.groups_once s shape store n dense) types_apart)))
         (λ q. same_from_decides (is_member is_text group_types q) (is_member is_text (row_types n) q) (is_member-Decides text_decides group_types q)
         (Decides-like (is_member is_text (row_types n) q) (back q) (onto q) (is_member-Decides text_decides (row_types n) q)))
         ∙ sym (types_at n)

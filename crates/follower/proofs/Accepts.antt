@@ -36,7 +36,8 @@ module _ {D : Type 0} (g : Ghosts D) where
   module _ (bytes : List ℕ) (s t : Store D g) (have : ℕ) (live : Bool) (is_live : live ≡ true) (same : SameStore s.base t.base)
       (next : IsNextFor (viewed s have live) bytes) where
     crash_next : AtEachMoment g s.base.disk.now t.base.disk.now (λ left. Redoes left (committed s) ⊎ Redoes left (taken (committed s) bytes))
-        → AtEachMoment g s.base.disk.now t.base.disk.now (λ left. Redoes left (committed s) ⊎ (IsNextFor (viewed s have live) bytes × Redoes left (taken (committed s) bytes)))
+        → AtEachMoment g s.base.disk.now t.base.disk.now (λ left. Redoes left (committed s) ⊎ (IsNextFor (viewed s have live) bytes × Redoes left
+        (taken (committed s) bytes)))
     crash_next leaves = at_each_moment_weaker g s.base.disk.now t.base.disk.now _ _ leaves (λ left. ⊎_elim (λ before. inl before) (λ after. inr (next, after)))
 
     pub accepts_applied : (number : ℕ) → number ≡ number_of bytes → Applies g bytes s t (Ok tt)
@@ -50,7 +51,15 @@ module _ {D : Type 0} (g : Ghosts D) where
 
     pub accepts_memory : Applies g bytes s t (Err faults.Memory) → Accepts g bytes (viewed s have live) (viewed t have true) Memory
     accepts_memory applies = record {
-      answers = (next, record { disk = applies.comes_to.disk; records = λ told. committed-only s.base t.base applies.comes_to; have = refl; live = sym is_live });
+      answers = (
+        next,
+        record {
+          disk = applies.comes_to.disk;
+          records = λ told. committed-only s.base t.base applies.comes_to;
+          have = refl;
+          live = sym is_live;
+        },
+      );
       crash = λ told images. crash_next (applies.crash told images);
       shape = same.shape;
       later = applies.later;

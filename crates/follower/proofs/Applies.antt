@@ -62,7 +62,8 @@ module _ {D : Type 0} (g : Ghosts D) where
 
   module _ (bytes : List ℕ) (old mid new : Store D g) (live : IsTrue old.base.live) (reads : OnlyReadsBeneath g old.base mid.base)
       (has : working mid ≡ taken (committed old) bytes)
-      (crash : g.tells_reads → g.tells_images → AtEachMoment g mid.base.disk.now new.base.disk.now (λ left. Redoes left (committed mid) ⊎ Redoes left (working mid)))
+      (crash : g.tells_reads → g.tells_images → AtEachMoment g mid.base.disk.now new.base.disk.now (λ left. Redoes left (committed mid) ⊎ Redoes left
+      (working mid)))
       (later : g.faults mid.base.disk.now ≤ g.faults new.base.disk.now) where
     either : (left : Files) → Redoes left (committed mid) ⊎ Redoes left (working mid) → HasEither g bytes old left
     either left = ⊎_elim (λ before. inl (subst (Redoes left) (committed-only old.base mid.base reads) before)) (λ after. inr (subst (Redoes left) has after))

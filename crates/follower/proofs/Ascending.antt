@@ -8,7 +8,11 @@ use Rattle.follower.specs.Shipment.{Ascend}
 
 ascends-behind : (shape : Shape) (last : Key) (pairs : Pairs) → IsBelow last pairs → IsOrdered pairs → AllShip shape pairs → Ascend shape (Some last) pairs
 ascends-behind shape last [] below rising all = tt
-ascends-behind shape last (pair ∷ later) below rising all = (record { shipped = all.0; above = below.0 }, ascends-behind shape pair.0 later rising.0 rising.1 all.1)
+ascends-behind shape last (pair ∷ later) below rising all = (
+  record { shipped = all.0; above = below.0 },
+  ascends-behind shape pair.0 later rising.0 rising.1
+      all.1,
+)
 
 pub ascends : (shape : Shape) (pairs : Pairs) → IsOrdered pairs → AllShip shape pairs → Ascend shape None pairs
 ascends shape [] rising all = tt

@@ -91,7 +91,8 @@ head_begins shape bytes n allowed small few within =
     low : get_or (take n bytes ++ zero_bytes (10 - n)) 8 0 < 256
     low =
         ⊎_elim
-        (λ (in_bytes : 8 < n). let part = length-take-le n bytes within in let byte = get_or-append (take n bytes) (zero_bytes (10 - n)) 0 8 (omega (arith, part)) ∙ get_or-take n bytes 8 0 in_bytes in let is = small 8 in omega (arith, byte, is))
+        (λ (in_bytes : 8 < n). let part = length-take-le n bytes within in let byte = get_or-append (take n bytes) (zero_bytes (10 - n)) 0 8
+        (omega (arith, part)) ∙ get_or-take n bytes 8 0 in_bytes in let is = small 8 in omega (arith, byte, is))
         (λ (behind : n ≤ 8). let byte = zero_from 8 behind (omega arith) in omega (arith, byte))
         (cases_lt 8 n)
 
@@ -125,7 +126,8 @@ pub end_bad : (shape : Shape) (bytes : List ℕ) (last : Option Key) (index : �
     → 10 + 69 * index < length bytes → HasRecords shape bytes last index → IsNoShipment shape bytes (10 + 69 * index)
 end_bad shape bytes last index allowed few all long has =
     is_bad shape bytes (10 + 69 * index) (omega arith) (place_begins shape bytes last index allowed few (omega arith) has)
-    (λ lt longer shares is. let whole = is.whole in let count = count-shares bytes longer (suc (10 + 69 * index)) (omega arith) shares in let more = shares.long in absurd (omega (arith, whole, count, more, all)))
+    (λ lt longer shares is. let whole = is.whole in let count = count-shares bytes longer (suc (10 + 69 * index)) (omega arith) shares in let more =
+    shares.long in absurd (omega (arith, whole, count, more, all)))
     (λ e. absurd (omega arith))
 
 -- ---- within a record
@@ -165,8 +167,11 @@ module _ (shape : Shape) (bytes : List ℕ) (last : Option Key) (index more : �
       → BeginsKey (record { shape = shape; last = last; more = more }) bytes (10 + 69 * index) (suc m) → BeginsShipment shape (take at bytes)
   key_begins m at le from all within short (high, stands) =
       begins_by shape bytes (pad_with m high (10 + 69 * index + 69 - (at + (4 - m)))) at (Some (key_with bytes (10 + 69 * index) m high)) (index + 1) more
-      allowed within (omega (arith, pad_long)) (are_bytes-append (little_bytes (4 - m) high) (zero_bytes (10 + 69 * index + 69 - (at + (4 - m)))) (are_bytes-little (4 - m) high) (are_bytes-zero_bytes (10 + 69 * index + 69 - (at + (4 - m)))))
-      (count-shares bytes (take at bytes ++ pad_with m high (10 + 69 * index + 69 - (at + (4 - m)))) at (omega arith) (shares_take bytes (pad_with m high (10 + 69 * index + 69 - (at + (4 - m)))) at within) ∙ omega (arith, counts)) (omega (arith, few, counts)) stands.left
+      allowed within (omega (arith, pad_long)) (are_bytes-append (little_bytes (4 - m) high) (zero_bytes (10 + 69 * index + 69 - (at + (4 - m))))
+      (are_bytes-little (4 - m) high) (are_bytes-zero_bytes (10 + 69 * index + 69 - (at + (4 - m)))))
+      (count-shares bytes (take at bytes ++ pad_with m high (10 + 69 * index + 69 - (at + (4 - m)))) at (omega arith)
+      (shares_take bytes (pad_with m high (10 + 69 * index + 69 - (at + (4 - m)))) at within) ∙ omega (arith, counts)) (omega (arith, few, counts))
+      stands.left
       (λ rest.
       let longer = take at bytes ++ (pad_with m high (10 + 69 * index + 69 - (at + (4 - m))) ++ rest) in
       let shares = shares_take bytes (pad_with m high (10 + 69 * index + 69 - (at + (4 - m))) ++ rest) at within in
@@ -177,7 +182,8 @@ module _ (shape : Shape) (bytes : List ℕ) (last : Option Key) (index more : �
     where
       high_fits : high < 256 ^ (4 - m)
       high_fits = high_small m (little_from (10 + 69 * index + 1) m bytes) high le
-          (stands_small (record { shape = shape; last = last; more = more }) (get_or bytes (10 + 69 * index) 0) (little_from (10 + 69 * index + 1) m bytes + 256 ^ m * high) allowed stands)
+          (stands_small (record { shape = shape; last = last; more = more }) (get_or bytes (10 + 69 * index) 0) (little_from (10 + 69 * index + 1) m bytes + 256
+          ^ m * high) allowed stands)
 
       pad_long : length (pad_with m high (10 + 69 * index + 69 - (at + (4 - m)))) ≡ 10 + 69 * index + 69 - at
       pad_long =
@@ -233,12 +239,14 @@ module _ (shape : Shape) (bytes : List ℕ) (last : Option Key) (index more : �
           subst (λ (n : ℕ). BeginsShipment shape (take n bytes)) (sym here) (place_begins shape bytes last index allowed few (omega (arith, counts)) has)
       begins (suc m) le from all key =
           let short = stops.short in
-          key_begins m at (omega arith) (omega arith) (⊎_elim (λ (e : at ≡ 10 + 69 * index + suc m). inl (omega arith)) (λ (e : suc m ≡ 5). inr (omega arith)) all) stops.within (omega arith) key
+          key_begins m at (omega arith) (omega arith) (⊎_elim (λ (e : at ≡ 10 + 69 * index + suc m). inl (omega arith)) (λ (e : suc m ≡ 5). inr (omega arith))
+          all) stops.within (omega arith) key
 
       no_longer : NoLonger shape bytes at
       no_longer lt longer shares is =
           ⊎_elim (λ (e : at ≡ length bytes). absurd (omega arith))
-          (λ wrong. let here = wrong.1 in wrong.3 (shipment_begins longer stops.known wrong.0 (subst (λ (n : ℕ). SharesPrefix bytes longer (suc n)) here shares) is))
+          (λ wrong. let here = wrong.1 in wrong.3 (shipment_begins longer stops.known wrong.0 (subst (λ (n : ℕ). SharesPrefix bytes longer (suc n)) here shares)
+          is))
           stops.stops
 
       at_end : at ≡ length bytes → ¬ IsShipment shape bytes

@@ -104,8 +104,10 @@ next_key shape (Some last) n le =
     let names = keys_in-same shape 6 last same in
     let index = keys_in-below shape 8 last (omega arith) in
     ⊎_elim
-    (λ (lt : last.id + 1 < 4096). a_name shape (Some last) (last.id + 1) n lt (omega (arith, le, names, index)) (precedes_less last (record { file = 6; id = last.id + 1 }) (inr (same, omega arith))))
-    (λ (ge : 4096 ≤ last.id + 1). an_index shape (Some last) 0 n (omega (arith, le, names, index)) (precedes_less last (record { file = 8; id = 0 }) (inl (omega arith))))
+    (λ (lt : last.id + 1 < 4096). a_name shape (Some last) (last.id + 1) n lt (omega (arith, le, names, index))
+    (precedes_less last (record { file = 6; id = last.id + 1 }) (inr (same, omega arith))))
+    (λ (ge : 4096 ≤ last.id + 1). an_index shape (Some last) 0 n (omega (arith, le, names, index)) (precedes_less last (record { file = 8; id = 0 })
+    (inl (omega arith))))
     (cases_lt (last.id + 1) 4096))
     (λ (gt : 6 < last.file).
     let names = keys_in-above shape 6 last gt in
@@ -183,7 +185,8 @@ keys_fall shape key next allowed from precedes within =
     (λ (same : (key.file ≡ next.file) × (key.id < next.id)).
     let key_index = keys_in-same shape 8 key (same.0 ∙ last) in omega (arith, names, index, key_index, same.1, room))
     precedes)
-    (last_files shape next.file next.id allowed (⊎_elim (λ (lt : key.file < next.file). omega arith) (λ (same : (key.file ≡ next.file) × (key.id < next.id)). omega (arith, same.0)) precedes) within)
+    (last_files shape next.file next.id allowed (⊎_elim (λ (lt : key.file < next.file). omega arith) (λ (same : (key.file ≡ next.file) × (key.id < next.id)).
+    omega (arith, same.0)) precedes) within)
 
 ascend_fits : (shape : Shape) (key : Key) (writes : Pairs) → is_allowed shape ≡ true → 6 ≤ key.file → Ascend shape (Some key) writes
     → length writes ≤ keys_after shape key
@@ -238,5 +241,6 @@ begins_by shape bytes pad n last index more allowed within long are_bytes counts
       pad ++ rest,
       are_bytes-append pad rest are_bytes found.1.bytes,
       subst (IsShipment shape) joined
-          (shipment_of shape (take n bytes ++ pad) found.0 last index more (omega (arith, both, part, long)) counts few found.1 (subst (λ (all : List ℕ). Decides shape all last index) (sym joined) (decides rest))),
+          (shipment_of shape (take n bytes ++ pad) found.0 last index more (omega (arith, both, part, long)) counts few found.1
+          (subst (λ (all : List ℕ). Decides shape all last index) (sym joined) (decides rest))),
     )

@@ -105,12 +105,25 @@ module _ {D : Type 0} (g : Ghosts D) where
       by : HoldsSent (shape_of config) sent read.number (g.reads old) → AtEachMoment g old new (FollowsSent (shape_of config) sent told)
       by (inl redoes) =
           weaker (IsOldOrRaised (shape_of config) (follower_records (shape_of config) sent read.number))
-          (leaves.made reads images (follower_records (shape_of config) sent read.number) (shape_of config) redoes (follower_made (shape_of config) sent read.number is read.was_sent))
-          (λ left has. record { number = read.number; was_sent = read.was_sent; holds = inl (left_redoes (shape_of config) sent read.number is read.was_sent left has); fits = read.fits })
+          (leaves.made reads images (follower_records (shape_of config) sent read.number) (shape_of config) redoes (follower_made (shape_of config)
+          sent read.number is read.was_sent))
+          (λ left has. record {
+            number = read.number;
+            was_sent = read.was_sent;
+            holds = inl (left_redoes (shape_of config) sent read.number is read.was_sent
+                left has);
+            fits = read.fits;
+          })
       by (inr blank) =
           weaker (λ left. IsOldOrNew (g.reads old) (shape_of config) left)
           (leaves.unmade reads images blank.1.unmade)
-          (λ left new. record { number = 0; was_sent = omega arith; holds = old_or_new_taken (shape_of config) sent (g.reads old) left blank.1 new; fits = subst (FitsTold told) blank.0 read.fits })
+          (λ left new. record {
+            number = 0;
+            was_sent = omega arith;
+            holds = old_or_new_taken (shape_of config) sent (g.reads old) left blank.1 new;
+            fits = subst
+                (FitsTold told) blank.0 read.fits;
+          })
 
   -- what it finds is served
   serves_found : (shape : Shape) (sent : List (List ℕ)) (told : Told) (j : ℕ) (follower : View D) → IsSent shape sent → g.tells_reads → g.tells_images
@@ -268,7 +281,8 @@ module _ {D : Type 0} (g : Ghosts D) where
   opened_again shape sent told old now (Ok done) is counts reads images shape_is before read of =
       let records = of.answers.records reads (follower_records shape sent read.number) read.redoes in
       over_found shape sent (found now.have told) now (of.shape ∙ shape_is)
-      (serves_found shape sent told read.number now is reads images read.was_sent read.fits records (of.answers.have reads) (of.answers.stored.images reads images))
+      (serves_found shape sent told read.number now is reads images read.was_sent read.fits records (of.answers.have reads)
+      (of.answers.stored.images reads images))
   opened_again shape sent told old now (Err why) is counts reads images shape_is before read of = record {
     same = refl;
     shape_is = of.shape ∙ shape_is;
@@ -311,7 +325,8 @@ module _ {D : Type 0} (g : Ghosts D) where
         λ image left. follows_made shape sent told image (⊎_elim
             (standing.images image)
             (λ redoes. record { number = read.number; was_sent = read.was_sent; redoes = redoes; fits = read.fits })
-            ((of.crash reads images (follower_records shape sent read.number) read.redoes).each image (subst (λ (d : D). g.left_since now.disk (g.moment d) image) (sym standing.same) left))),
+            ((of.crash reads images (follower_records shape sent read.number) read.redoes).each image (subst (λ (d : D). g.left_since now.disk (g.moment d)
+            image) (sym standing.same) left))),
       )
 
   keeps_after : (config : Config) (sent : List (List ℕ)) (event : Event D) (w : World D) → IsSent (shape_of config) sent → Laws → g.tells_reads → g.tells_images
@@ -321,7 +336,8 @@ module _ {D : Type 0} (g : Ghosts D) where
       let read = read_follows (shape_of config) sent w laws.read_is_image reads images keeps in
       record {
         standing = opened config sent w.told w.disk now is reads images read of;
-        meanwhile = (opening_leaves config sent w.told w.disk now.disk is reads images (standing_now (shape_of config) sent w.told w.disk w.follower keeps.standing) read of.leaves).each;
+        meanwhile = (opening_leaves config sent w.told w.disk now.disk is reads images (standing_now (shape_of config) sent w.told w.disk w.follower
+            keeps.standing) read of.leaves).each;
       }
   keeps_after config sent (Fails why now) w is laws reads images keeps of =
       let read = read_follows (shape_of config) sent w laws.read_is_image reads images keeps in
@@ -393,7 +409,8 @@ module _ {D : Type 0} (g : Ghosts D) where
       → FollowsSent (shape_of config) sent told (g.reads old) → IsUnopened g config old now why
       → IsBlamedRightly g old now why
   fails_rightly config sent told old now why is reads read of = ⊎_elim
-      (λ redoes. only_differs config old now why of.cause (of.sound reads (follower_records (shape_of config) sent read.number) (shape_of config) redoes (follower_made (shape_of config) sent read.number is read.was_sent)))
+      (λ redoes. only_differs config old now why of.cause (of.sound reads (follower_records (shape_of config) sent read.number) (shape_of config) redoes
+      (follower_made (shape_of config) sent read.number is read.was_sent)))
       (λ blank. only_want config old now why of.cause (of.unmade reads blank.1.unmade))
       read.holds
 
@@ -428,4 +445,5 @@ module _ {D : Type 0} (g : Ghosts D) where
       → ((image : Files) → g.may_leave disk image → IsZeros image) → Run g config sent events (start_of g disk) end → May g config sent event end
       → IsSound g event end
   sound_always config sent disk events end event laws reads images is zeros run may =
-      sound_event config sent event end is laws reads images (keeps_run config sent events (start_of g disk) end is laws reads images (keeps_start (shape_of config) sent disk laws images zeros) run) may
+      sound_event config sent event end is laws reads images (keeps_run config sent events (start_of g disk) end is laws reads images
+      (keeps_start (shape_of config) sent disk laws images zeros) run) may

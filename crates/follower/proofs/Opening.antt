@@ -40,7 +40,8 @@ leaves-read g config old mid new counts leaves reads more =
 pub number-read : {D : Type 0} {g : Ghosts D} (s t : Store D g) (rec : Rec) (have : ℕ) → OnlyReadsBase s.base t.base → s.base.own.pairs ≡ []
     → s.draft.pairs ≡ [] → rec ≡ drafted s taken_key → have ≡ field 8 rec 0 → have ≡ number_in (committed t)
 number-read s t rec have reads own draft got is =
-    is ∙ ap (λ (r : Rec). field 8 r 0) (got ∙ ap (λ (records : Key → Rec). records taken_key) (drafted-committed s own draft ∙ sym (committed-read s.base t.base reads)))
+    is ∙ ap (λ (r : Rec). field 8 r 0) (got ∙ ap (λ (records : Key → Rec). records taken_key) (drafted-committed s own draft ∙ sym
+    (committed-read s.base t.base reads)))
 
 pub opened_is : {D : Type 0} (g : Ghosts D) (config : Config) (old : D) (s t : Store D g) (have : ℕ) → CountsNow g
     → LeavesByOpening g config old s.base.disk.now → (g.tells_reads → Opens (g.reads old) config s.base.shape (committed s))

@@ -92,7 +92,8 @@ slice_get-writes_in bytes place (suc n) (suc i) lt =
 pub write_key : (shape : Shape) (bytes : List ℕ) (i : ℕ) → is_allowed shape ≡ true → IsShipment shape bytes → i < count_of bytes
     → IsKey (write_in bytes (10 + 69 * i)).0
 write_key shape bytes i allowed is lt =
-    shipped_key shape (write_in bytes (10 + 69 * i)).0 allowed (ascend_shipped shape None (writes_of bytes) i (write_in bytes (10 + 69 * i)) is.ascend (slice_get-writes_in bytes 10 (count_of bytes) i lt))
+    shipped_key shape (write_in bytes (10 + 69 * i)).0 allowed (ascend_shipped shape None (writes_of bytes) i (write_in bytes (10 + 69 * i)) is.ascend
+    (slice_get-writes_in bytes 10 (count_of bytes) i lt))
 
 -- one record more
 pub put_all-more : (records now next : Key → Rec) (bytes : List ℕ) (i : ℕ) (key : Key) (rec : Rec) → i < count_of bytes
@@ -104,7 +105,8 @@ put_all-more records now next bytes i key rec lt before is put_is =
     let within = slice_get_within (writes_of bytes) i write got in
     put_is ∙ ap (λ (records : Key → Rec). put records key rec) before
     ∙ ap (λ (w : Key × Rec). put (put_all records (take i (writes_of bytes))) w.0 w.1) is
-    ∙ sym (ap (put_all records) (take_more (writes_of bytes) i write within) ∙ ap (λ (last : Key × Rec). put_all records (take i (writes_of bytes) ++ last ∷ [])) (get_or_from_slice_get (writes_of bytes) i write write got)
+    ∙ sym (ap (put_all records) (take_more (writes_of bytes) i write within) ∙ ap (λ (last : Key × Rec). put_all records (take i (writes_of bytes)
+    ++ last ∷ [])) (get_or_from_slice_get (writes_of bytes) i write write got)
     ∙ put_all-append records (take i (writes_of bytes)) write)
 
 -- all of them, and the number
@@ -114,5 +116,6 @@ pub put_all-taken : (shape : Shape) (records now next : Key → Rec) (bytes : Li
 put_all-taken shape records now next bytes i rec is all before number put_is =
     let long : length (writes_of bytes) ≡ count_of bytes = length-writes_in bytes 10 (count_of bytes) in
     let whole : take i (writes_of bytes) ≡ writes_of bytes = ap (λ (n : ℕ). take n (writes_of bytes)) (all ∙ sym long) ∙ take-length (writes_of bytes) in
-    put_is ∙ ap (λ (records : Key → Rec). put records taken_key rec) (before ∙ ap (put_all records) whole ∙ put_all-laid_over records (writes_of bytes) (ascend_ordered shape (writes_of bytes) is.ascend))
+    put_is ∙ ap (λ (records : Key → Rec). put records taken_key rec) (before ∙ ap (put_all records) whole ∙ put_all-laid_over records (writes_of bytes)
+    (ascend_ordered shape (writes_of bytes) is.ascend))
     ∙ ap (put (laid_over records (writes_of bytes)) taken_key) number

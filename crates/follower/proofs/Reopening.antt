@@ -32,7 +32,8 @@ own-again s t same none = ap (λ (held : Held). held.pairs) same ∙ nil_from_le
 
 module _ {D : Type 0} (g : Ghosts D) (counts : CountsNow g) (s t u : Store D g) (old_have : ℕ) (old_live : Bool) (same : SameStore s.base t.base)
     (reads : OnlyReadsBase t.base u.base)
-    (crash : g.tells_reads → g.tells_images → (space : Key → Rec) → Redoes (content s) space → AtEachMoment g s.base.disk.now t.base.disk.now (λ left. g.may_leave s.base.disk.now left ⊎ Redoes left space))
+    (crash : g.tells_reads → g.tells_images → (space : Key → Rec) → Redoes (content s) space → AtEachMoment g s.base.disk.now t.base.disk.now
+    (λ left. g.may_leave s.base.disk.now left ⊎ Redoes left space))
     (read : g.tells_reads → (space : Key → Rec) → Redoes (content s) space → Redoes (content t) space)
     (clean : g.tells_reads → content s log_file 0 ≢ open_byte → OnlyReads g s.base.disk.now t.base.disk.now)
     (careful : IsCareful g s.base.disk.now t.base.disk.now) (later : g.faults s.base.disk.now ≤ g.faults t.base.disk.now)
@@ -58,7 +59,8 @@ module _ {D : Type 0} (g : Ghosts D) (counts : CountsNow g) (s t u : Store D g) 
       newest = λ told old. recovered.newest told (subst IsOld (committed-read t.base u.base reads) old);
       have = number;
       stored = stored-read g t.base.disk.now u.base.disk.now (λ left. Redoes left (committed u)) reads.disk
-          (subst (λ (records : Key → Rec). IsOnDisk g t.base.disk.now (λ left. Redoes left records)) (sym (committed-read t.base u.base reads)) recovered.stored);
+          (subst (λ (records : Key → Rec). IsOnDisk g t.base.disk.now (λ left. Redoes left records)) (sym (committed-read t.base u.base reads))
+          recovered.stored);
       no_entry = λ told. HasEntries-read [] 0 (content t) (content u) (recovered.no_entry told) (reads.disk.keeps log_file);
       settled = λ told images. settled_read g t.base.disk.now u.base.disk.now reads.disk images (recovered.settled told images);
       live = refl;

@@ -110,7 +110,8 @@ module _ (shape : Shape) (number : ℕ) (writes : Pairs) (allowed : is_allowed s
   writes-back =
       let all = length-append (little_bytes 8 number) (little_bytes 2 (length writes)) in
       ap (writes_in (shipment_bytes number writes) 10) count-back
-      ∙ ap (λ (bytes : List ℕ). writes_in bytes 10 (length writes)) (sym (append_assoc (little_bytes 8 number) (little_bytes 2 (length writes)) (flat_map write_bytes writes)))
+      ∙ ap (λ (bytes : List ℕ). writes_in bytes 10 (length writes)) (sym (append_assoc (little_bytes 8 number) (little_bytes 2 (length writes))
+      (flat_map write_bytes writes)))
       ∙ writes_back (little_bytes 8 number ++ little_bytes 2 (length writes)) writes 10 (omega (arith, all, long, tall)) are.whole
       (small_ids shape None writes allowed are.ascend)
 

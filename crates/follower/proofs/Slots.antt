@@ -140,7 +140,8 @@ least_above-above : (last : Option Key) (file id : ℕ) → IsAbove last (record
 least_above-above None file id above = omega arith
 least_above-above (Some last) file id above =
     ⊎_elim
-    (λ (lt : last.file < file). let other : nat_eq last.file file ≡ false = grind (arith, nat_tests) in subst (λ (b : Bool). cond b (last.id + 1) 0 ≤ id) (sym other) (omega arith))
+    (λ (lt : last.file < file). let other : nat_eq last.file file ≡ false = grind (arith, nat_tests) in subst (λ (b : Bool). cond b (last.id + 1) 0 ≤ id)
+    (sym other) (omega arith))
     (λ (same : (last.file ≡ file) × (last.id < id)). by (nat_eq last.file file) (omega (arith, same.1)))
     (less_precedes last (record { file = file; id = id }) above)
   where

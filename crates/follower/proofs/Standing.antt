@@ -68,12 +68,18 @@ pub opens_as : (config : Config) (sent : List (List ℕ)) (content : Files) (j :
     → HoldsSent (shape_of config) sent j content → Opens content config found records → (records ≡ follower_records (shape_of config) sent j)
     × (found ≡ shape_of config)
 opens_as config sent content j found records is below (inl redoes) (inl new) =
-    absurd (none_made content (shape_of config) new.0 (record { space = follower_records (shape_of config) sent j; redoes = redoes; made = follower_made (shape_of config) sent j is below }))
+    absurd (none_made content (shape_of config) new.0 (record {
+      space = follower_records (shape_of config) sent j;
+      redoes = redoes;
+      made = follower_made
+          (shape_of config) sent j is below;
+    }))
 opens_as config sent content j found records is below (inl redoes) (inr (before, was, store, suits, brought)) =
     let shape = shape_of config in
     let has = follower_records shape sent j in
     let same : before ≡ has = redoes_unique content before has was redoes in
-    let shape_is : found ≡ shape = some_same found shape (sym store.own ∙ ap (λ (r : Key → Rec). shape_of_record (r own_key)) same ∙ (follower_made shape sent j is below).own) in
+    let shape_is : found ≡ shape = some_same found shape (sym store.own ∙ ap (λ (r : Key → Rec). shape_of_record (r own_key)) same ∙
+    (follower_made shape sent j is below).own) in
     (brought ∙ ap (raised found) same ∙ ap (λ (s : Shape). raised s has) shape_is ∙ follower_raised shape sent j is below, shape_is)
 opens_as config sent content j found records is below (inr blank) (inl new) = (
   new.2 ∙ ap (made_over content) new.1 ∙ made_over-blank content (shape_of config) sent blank.1 ∙ ap (follower_records (shape_of config) sent) (sym blank.0),

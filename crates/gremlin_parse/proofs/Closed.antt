@@ -34,5 +34,14 @@ leaves_closed double name bytes at_quote (stops.Syntax left) takes leaves =
     let two = named name bytes at_quote takes in
     let one = one_byte (quote_byte double) leaves.read leaves.next leaves.more leaves.word_is in
     let same : at_quote ≡ leaves.unread = leaves.bytes_are ∙ ap (λ r. r ++ leaves.unread) one.0 in
-    inr (name, at_quote, two.0, two.1, takes.ends, λ first. leaves.differs (sym (ap first_byte same) ∙ first ∙ ap (λ b. Some b) (sym one.1)), leaves.left_is ∙ ap length (sym same))
+    inr (
+      name,
+      at_quote,
+      two.0,
+      two.1,
+      takes.ends,
+      λ first. leaves.differs (sym (ap first_byte same) ∙ first ∙ ap (λ b. Some b) (sym one.1)),
+      leaves.left_is
+          ∙ ap length (sym same),
+    )
 leaves_closed double name bytes at_quote (stops.Bad kind left) takes leaves = absurd leaves.1

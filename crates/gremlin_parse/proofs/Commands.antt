@@ -61,7 +61,8 @@ pub record Spelled (command : Command) (head : Head) (bytes : List ℕ) : Type 0
 pub spelled_of_contents : (command : Command) (head : Head) (bytes : List ℕ) → Spelled command head bytes → SpellsAfter command head bytes
 spelled_of_contents command head bytes spelled =
     follows_of_parts (production head) spelled.contents (IsLastOf command head) spelled.allowed bytes
-    (then_parts_map (LastOf head spelled.last) (IsLastOf command head spelled.contents) (λ rest made. (spelled.last, spelled.is, made)) (parts_with (production head) spelled.contents) bytes spelled.made)
+    (then_parts_map (LastOf head spelled.last) (IsLastOf command head spelled.contents) (λ rest made. (spelled.last, spelled.is, made))
+    (parts_with (production head) spelled.contents) bytes spelled.made)
 
 pub contents_of_spelled : (command : Command) (head : Head) (bytes : List ℕ) → SpellsAfter command head bytes → Spelled command head bytes
 contents_of_spelled command head bytes spells =
@@ -70,7 +71,8 @@ contents_of_spelled command head bytes spells =
     let Made : One → List ℕ → Type 0 = λ one rest. LastOf head one.0 rest in
     let Both : List ℕ → Type 0 = λ rest. (one : One) × Made one rest in
     let chosen = then_parts_choice One Made (parts_with (production head) found.contents) bytes
-    (then_parts_map (IsLastOf command head found.contents) Both (λ rest (last, is, made). ((last, is), made)) (parts_with (production head) found.contents) bytes found.is) in
+    (then_parts_map (IsLastOf command head found.contents) Both (λ rest (last, is, made). ((last, is), made)) (parts_with (production head) found.contents)
+    bytes found.is) in
     record { contents = found.contents; allowed = found.allowed; last = chosen.0.0; is = chosen.0.1; made = chosen.1 }
 
 -- after the word, some command is one
@@ -86,7 +88,8 @@ pub spelled_is_some : (command : Command) (head : Head) (bytes : List ℕ) → S
 spelled_is_some command head bytes spells =
     let spelled = contents_of_spelled command head bytes spells in
     follows_of_parts (production head) spelled.contents (λ _. IsLast head) spelled.allowed bytes
-    (then_parts_map (LastOf head spelled.last) (IsLast head) (λ rest made. (spelled.last, made)) (parts_with (production head) spelled.contents) bytes spelled.made)
+    (then_parts_map (LastOf head spelled.last) (IsLast head) (λ rest made. (spelled.last, made)) (parts_with (production head) spelled.contents)
+    bytes spelled.made)
 
 -- the command of the word that stands there
 pub tail_of_word : (command : Command) (head : Head) (bytes rest : List ℕ) → TakesWord head_words bytes head rest → SpellsAfter command head rest
@@ -117,13 +120,16 @@ commands_agree command other bytes (inr one) (inr two) =
     same_command command other word.kind found.contents found.rest found.one found.two
 
 -- Where a word of a command that asks for memory stands, no other command does.
-lacks_memory : (head : Head) (bytes rest : List ℕ) → ((contents : Contents (production head)) (last : LastContent head) → ThenParts (parts_with (production head) contents) (LastOf head last) rest → ¬ NeedsNoMemory (command_of head contents last)) → bytes ≢ [] → TakesWord head_words bytes head rest → LacksMemory bytes
+lacks_memory : (head : Head) (bytes rest : List ℕ) → ((contents : Contents (production head)) (last : LastContent head) → ThenParts
+    (parts_with (production head) contents) (LastOf head last) rest → ¬ NeedsNoMemory (command_of head contents last)) → bytes ≢ [] → TakesWord head_words bytes
+    head rest → LacksMemory bytes
 lacks_memory head bytes rest asks some takes = λ command none tail. refuse command none tail
   where
     refuse : (command : Command) → NeedsNoMemory command → ¬ IsTail command bytes
     refuse command none (inl (blank, end)) = some end
     refuse command none (inr word) =
-        let spelled = contents_of_spelled command head rest (ThenWord-after head_words head_table (SpellsAfter command) (spells_halts command) bytes rest head takes word) in
+        let spelled = contents_of_spelled command head rest (ThenWord-after head_words head_table (SpellsAfter command) (spells_halts command) bytes rest head
+        takes word) in
         asks spelled.contents spelled.last spelled.made (subst NeedsNoMemory spelled.is none)
 
 asked_memory : (command : Command) → IsAsked command → ¬ NeedsNoMemory command
@@ -266,7 +272,15 @@ sentence_of commands.Reopen is = inr (one_word words.Reopen)
 sentence_of commands.Snapshot is = inr (one_word words.Snapshot)
 sentence_of commands.Release is = inr (one_word words.Release)
 sentence_of commands.Quit is = inr (one_word words.Quit)
-sentence_of (commands.Node label pairs) is = inr (record { head = heads.Node; plain = refl; contents = (tt, (label, tt)); allowed = (tt, (tt, tt)); last = pairs; is = refl })
+sentence_of (commands.Node label pairs) is = inr (record {
+  head = heads.Node;
+  plain = refl;
+  contents = (tt, (label, tt));
+  allowed = (tt, (tt, tt));
+  last =
+      pairs;
+  is = refl;
+})
 sentence_of (commands.Edge from label to pairs) is = inr (record {
   head = heads.Edge;
   plain = refl;
@@ -299,7 +313,15 @@ sentence_of (commands.Delete target) is = inr (record {
   last = tt;
   is = ap (λ (t : Target). commands.Delete t) (sym (element_is target));
 })
-sentence_of (commands.Index label key) is = inr (record { head = heads.Index; plain = refl; contents = (tt, (label, (tt, (key, tt)))); allowed = (tt, (tt, (tt, (tt, tt)))); last = tt; is = refl })
+sentence_of (commands.Index label key) is = inr (record {
+  head = heads.Index;
+  plain = refl;
+  contents = (tt, (label, (tt, (key, tt))));
+  allowed =
+      (tt, (tt, (tt, (tt, tt))));
+  last = tt;
+  is = refl;
+})
 sentence_of (commands.Find label key value) is = inr (record {
   head = heads.Find;
   plain = refl;

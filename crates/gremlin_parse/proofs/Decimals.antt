@@ -42,11 +42,14 @@ one_number n m bytes rest more one two =
     let whole : one.prefix ++ rest ≡ two.prefix ++ more = sym one.bytes_are ∙ two.bytes_are in
     let same : (one.prefix ≡ two.prefix) × (rest ≡ more) =
     ⊎_elim
-    (λ (zero : one.prefix ≡ 48 ∷ []). let alone = zero_alone two.prefix rest more two.is.0 (ap (λ f. f ++ rest) (sym zero) ∙ whole) in let pair : (one.prefix ≡ two.prefix) × (rest ≡ more) = (zero ∙ alone.0, alone.1) in pair)
+    (λ (zero : one.prefix ≡ 48 ∷ []). let alone = zero_alone two.prefix rest more two.is.0 (ap (λ f. f ++ rest) (sym zero) ∙ whole) in let pair :
+    (one.prefix ≡ two.prefix) × (rest ≡ more) = (zero ∙ alone.0, alone.1) in pair)
     (λ (stops_here : EndsRun is_digit rest).
     ⊎_elim
-    (λ (zero : two.prefix ≡ 48 ∷ []). let alone = zero_alone one.prefix more rest one.is.0 (ap (λ f. f ++ more) (sym zero) ∙ sym whole) in let pair : (one.prefix ≡ two.prefix) × (rest ≡ more) = (sym (zero ∙ alone.0), sym alone.1) in pair)
-    (λ (stops_there : EndsRun is_digit more). run_is_unique is_digit one.prefix two.prefix rest more (number_passes one.prefix one.is.0) (number_passes two.prefix two.is.0) stops_here stops_there whole)
+    (λ (zero : two.prefix ≡ 48 ∷ []). let alone = zero_alone one.prefix more rest one.is.0 (ap (λ f. f ++ more) (sym zero) ∙ sym whole) in let pair :
+    (one.prefix ≡ two.prefix) × (rest ≡ more) = (sym (zero ∙ alone.0), sym alone.1) in pair)
+    (λ (stops_there : EndsRun is_digit more). run_is_unique is_digit one.prefix two.prefix rest more (number_passes one.prefix one.is.0)
+    (number_passes two.prefix two.is.0) stops_here stops_there whole)
     two.ends)
     one.ends in
     (one.is.1 ∙ ap (value_after 0) same.0 ∙ sym two.is.1, same.1)
@@ -104,11 +107,21 @@ number_of [] len counts some = absurd (some counts)
 number_of (b ∷ bytes) len counts some =
     ⊎_elim
     (λ ((zero_is, one) : (b ≡ 48) × (len ≡ 1)). subst (NumberOf (b ∷ bytes)) (sym one) (zero_cut zero_is))
-    (λ ((other, count) : (b ≢ 48) × (len ≡ prefix_len is_digit (b ∷ bytes))). subst (NumberOf (b ∷ bytes)) (sym count) (run_cut other (λ none. some (count ∙ none))))
+    (λ ((other, count) : (b ≢ 48) × (len ≡ prefix_len is_digit (b ∷ bytes))). subst (NumberOf (b ∷ bytes)) (sym count)
+    (run_cut other (λ none. some (count ∙ none))))
     counts
   where
     zero_cut : b ≡ 48 → NumberOf (b ∷ bytes) 1
-    zero_cut is = record { prefix = b ∷ take 0 bytes; bytes_are = λ i. b ∷ (nil_prefix bytes i); is = (ap (λ c. is_number (c ∷ take 0 bytes)) is ∙ zero_number bytes, refl); ends = inl ((λ i. is i ∷ take 0 bytes) ∙ zero_list bytes) }
+    zero_cut is = record {
+      prefix = b ∷ take 0 bytes;
+      bytes_are = λ i. b ∷ (nil_prefix bytes i);
+      is = (
+        ap (λ c. is_number (c ∷ take 0 bytes)) is ∙ zero_number
+            bytes,
+        refl,
+      );
+      ends = inl ((λ i. is i ∷ take 0 bytes) ∙ zero_list bytes);
+    }
       where
         nil_prefix : (list : List ℕ) → list ≡ take 0 list ++ drop 0 list
         nil_prefix [] = refl
@@ -126,7 +139,16 @@ number_of (b ∷ bytes) len counts some =
     run_cut other some_len =
         let cut = cut_run is_digit (b ∷ bytes) in
         let n : ℕ = prefix_len is_digit (b ∷ bytes) in
-        record { prefix = take n (b ∷ bytes); bytes_are = cut.bytes_are; is = (run_number (take n (b ∷ bytes)) (drop n (b ∷ bytes)) cut.bytes_are cut.passes (taken n some_len), refl); ends = inr cut.ends }
+        record {
+          prefix = take n (b ∷ bytes);
+          bytes_are = cut.bytes_are;
+          is = (
+            run_number (take n (b ∷ bytes)) (drop n (b ∷ bytes)) cut.bytes_are cut.passes
+                (taken n some_len),
+            refl,
+          );
+          ends = inr cut.ends;
+        }
       where
         taken : (k : ℕ) → k ≢ 0 → take k (b ∷ bytes) ≢ []
         taken zero some_k = λ none. some_k refl
@@ -150,4 +172,5 @@ pub takes_number : (bytes digits rest : List ℕ) (n len : ℕ) → CountsNumber
 takes_number bytes digits rest n len counts some digits_are_these rest_is value =
     let takes = number_of bytes len counts some in
     let value_is : n ≡ value_after 0 (take len bytes) = value ∙ ap (value_after 0) digits_are_these in
-    subst (λ k. Takes (AnyNumber most_id) k bytes rest) (sym value_is) (subst (Takes (AnyNumber most_id) (value_after 0 (take len bytes)) bytes) (sym rest_is) takes)
+    subst (λ k. Takes (AnyNumber most_id) k bytes rest) (sym value_is) (subst (Takes (AnyNumber most_id) (value_after 0 (take len bytes)) bytes) (sym rest_is)
+    takes)

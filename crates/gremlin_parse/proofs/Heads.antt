@@ -127,7 +127,8 @@ tail_at_word Lack bytes stop some at = stop_of_some Lack bytes stop some
 pub tail_after_word : (Lack LackLeft : Type 0) (bytes rest : List ℕ) (head : Head) (stop : Stop) → bytes ≢ [] → (LackLeft → Lack)
     → TakesWord head_words bytes head rest → StopsAfter head LackLeft rest stop → IsStop IsSomeTail BadTail Lack bytes stop
 tail_after_word Lack LackLeft bytes rest head stop some lack takes at =
-    stop_of_some Lack bytes stop some (stop_after (ThenWord head_words IsAfter) BadTail Lack (IsAfter head) (BadAfter head) LackLeft bytes takes.0 rest stop takes.1.bytes_are lack (goes_word _ _ head_table IsAfter BadAfter after_halts bad_after_halts head bytes rest takes) at)
+    stop_of_some Lack bytes stop some (stop_after (ThenWord head_words IsAfter) BadTail Lack (IsAfter head) (BadAfter head) LackLeft bytes takes.0 rest stop
+    takes.1.bytes_are lack (goes_word _ _ head_table IsAfter BadAfter after_halts bad_after_halts head bytes rest takes) at)
 
 -- No word of the table stands in nothing.
 pub no_word_in_nothing : (After : Head → List ℕ → Type 0) (bytes : List ℕ) → bytes ≡ [] → ¬ ThenWord head_words After bytes

@@ -15,7 +15,12 @@ use Rattle.gremlin_parse.proofs.Decimals.{number_starts, one_number}
 
 -- digits without a minus
 pub plain_integer : (size : ℕ) (bytes rest : List ℕ) → Takes (AnyNumber most_id) size bytes rest → Takes AnyValue (values.Int (pos size)) bytes rest
-plain_integer size bytes rest takes = record { prefix = takes.prefix; bytes_are = takes.bytes_are; is = inl (size, refl, takes.is); ends = plain_ends takes.ends }
+plain_integer size bytes rest takes = record {
+  prefix = takes.prefix;
+  bytes_are = takes.bytes_are;
+  is = inl (size, refl, takes.is);
+  ends = plain_ends takes.ends;
+}
   where
     plain_ends : (takes.prefix ≡ codes "0") ⊎ EndsRun is_digit rest → (takes.prefix ≡ codes "0") ⊎ (takes.prefix ≡ codes "-0") ⊎ EndsRun is_digit rest
     plain_ends (inl zero_is) = inl zero_is
@@ -24,7 +29,13 @@ plain_integer size bytes rest takes = record { prefix = takes.prefix; bytes_are 
 -- a minus and digits
 pub negative_integer : (size : ℕ) (digits rest : List ℕ) → Takes (AnyNumber most_id) size digits rest
     → Takes AnyValue (values.Int (neg_ℤ (pos size))) (45 ∷ digits) rest
-negative_integer size digits rest takes = record { prefix = 45 ∷ takes.prefix; bytes_are = ap (λ d. 45 ∷ d) takes.bytes_are; is = inr (size, takes.prefix, refl, refl, takes.is); ends = negative_ends takes.ends }
+negative_integer size digits rest takes = record {
+  prefix = 45 ∷ takes.prefix;
+  bytes_are = ap (λ d. 45 ∷ d) takes.bytes_are;
+  is = inr
+      (size, takes.prefix, refl, refl, takes.is);
+  ends = negative_ends takes.ends;
+}
   where
     negative_ends : (takes.prefix ≡ codes "0") ⊎ EndsRun is_digit rest → (45 ∷ takes.prefix ≡ codes "0") ⊎ (45 ∷ takes.prefix ≡ codes "-0")
         ⊎ EndsRun is_digit rest
@@ -45,14 +56,47 @@ integer_view number bytes rest takes = view takes.is takes.ends
     view : IsInteger number takes.prefix → (takes.prefix ≡ codes "0") ⊎ (takes.prefix ≡ codes "-0") ⊎ EndsRun is_digit rest → IntegerView number bytes rest
     view (inl (size, is, digits)) (inl zero_is) = inl (size, is, record { prefix = takes.prefix; bytes_are = takes.bytes_are; is = digits; ends = inl zero_is })
     view (inl (size, is, digits)) (inr (inl minus)) = let clash : true ≡ false = sym digits.0 ∙ ap is_number minus in cc
-    view (inl (size, is, digits)) (inr (inr stops)) = inl (size, is, record { prefix = takes.prefix; bytes_are = takes.bytes_are; is = digits; ends = inr stops })
+    view (inl (size, is, digits)) (inr (inr stops)) = inl (
+      size,
+      is,
+      record {
+        prefix = takes.prefix;
+        bytes_are = takes.bytes_are;
+        is = digits;
+        ends = inr stops;
+      },
+    )
     view (inr (size, digits, is, prefix_is, number_is)) (inl zero_is) = let clash : false ≡ true =
         ap (λ bytes. is_digit (get_or bytes 0 0)) (sym prefix_is ∙ zero_is) in cc
     view (inr (size, digits, is, prefix_is, number_is)) (inr (inl minus)) =
         let same : 45 ∷ digits ≡ codes "-0" = sym prefix_is ∙ minus in
-        inr (size, digits ++ rest, is, takes.bytes_are ∙ ap (λ p. p ++ rest) prefix_is, record { prefix = digits; bytes_are = refl; is = number_is; ends = inl cc })
+        inr (
+          size,
+          digits ++ rest,
+          is,
+          takes.bytes_are ∙ ap (λ p. p ++ rest) prefix_is,
+          record {
+            prefix = digits;
+            bytes_are = refl;
+            is = number_is;
+            ends = inl
+                cc;
+          },
+        )
     view (inr (size, digits, is, prefix_is, number_is)) (inr (inr stops)) =
-        inr (size, digits ++ rest, is, takes.bytes_are ∙ ap (λ p. p ++ rest) prefix_is, record { prefix = digits; bytes_are = refl; is = number_is; ends = inr stops })
+        inr (
+          size,
+          digits ++ rest,
+          is,
+          takes.bytes_are ∙ ap (λ p. p ++ rest) prefix_is,
+          record {
+            prefix = digits;
+            bytes_are = refl;
+            is = number_is;
+            ends = inr
+                stops;
+          },
+        )
 
 -- No digits begin with a minus.
 pub minus_no_digit : (size : ℕ) (bytes digits rest : List ℕ) → Takes (AnyNumber most_id) size bytes rest → bytes ≡ 45 ∷ digits → ⊥
@@ -120,9 +164,27 @@ bad_plain size left bytes rest takes above left_is = (values.Int (pos size), wid
 
 pub bad_negative : (size left : ℕ) (digits rest : List ℕ) → Takes (AnyNumber most_id) size digits rest → 9223372036854775808 < size
     → left ≡ length (45 ∷ digits) → IsBad AnyValue WideNumber left (45 ∷ digits)
-bad_negative size left digits rest takes above left_is = (values.Int (neg_ℤ (pos size)), wide_negative size above, rest, negative_integer size digits rest takes, left_is)
+bad_negative size left digits rest takes above left_is = (
+  values.Int (neg_ℤ (pos size)),
+  wide_negative size above,
+  rest,
+  negative_integer size digits rest
+      takes,
+  left_is,
+)
 
 -- a number above the greatest one
 pub bad_number : (most size left : ℕ) (bytes rest : List ℕ) → Takes (AnyNumber most_id) size bytes rest → most < size → left ≡ length bytes
     → IsBad (AnyNumber most) WideNumber left bytes
-bad_number most size left bytes rest takes above left_is = (size, above, rest, record { prefix = takes.prefix; bytes_are = takes.bytes_are; is = takes.is; ends = takes.ends }, left_is)
+bad_number most size left bytes rest takes above left_is = (
+  size,
+  above,
+  rest,
+  record {
+    prefix = takes.prefix;
+    bytes_are = takes.bytes_are;
+    is = takes.is;
+    ends = takes.ends;
+  },
+  left_is,
+)

@@ -55,8 +55,10 @@ module _ {Word Place End : Type 0} (turn : Place → Turn Word Place End) (is_lo
       → EndFact end = λ next rest kept after. unblank (EndFact end) (is_loose next) (Leads turn is_loose Bound end n next)
       (λ these leads. leads_keep each ends end n next these kept leads) rest after in
       ⊎_elim
-      (λ ((b, next, is, (prefix, rest, whole, same, after)) : ThenSign (turn place).signs After bytes). step next rest (at_sign Fact (turn place).signs b next (each place fact).0 is) after)
-      (λ (other : ThenOther Bound (turn place).other After bytes). from_other Bound Fact (EndFact end) (turn place).other (each place fact).1 After step bytes other)
+      (λ ((b, next, is, (prefix, rest, whole, same, after)) : ThenSign (turn place).signs After bytes). step next rest (at_sign Fact (turn place).signs b next
+      (each place fact).0 is) after)
+      (λ (other : ThenOther Bound (turn place).other After bytes). from_other Bound Fact (EndFact end) (turn place).other (each place fact).1 After step bytes
+      other)
       at
 
 -- where nothing has to be kept

@@ -110,15 +110,28 @@ bads_apart kind left rest end = λ bad. refuse bad
     refuse : BadFollows name_end NoBad kind left rest → ⊥
     refuse (inl here) = here.1
     refuse (inr (content, allows, (gap, more, whole, gap_is, inl (name, bad, after, takes, place)))) =
-        no_name gap more (subst AreBlanks whole (end_blanks rest end)) (subst StartsName (sym takes.bytes_are) (name_starts takes.prefix after (subst IsName (sym takes.is.0) takes.is.1)))
+        no_name gap more (subst AreBlanks whole (end_blanks rest end)) (subst StartsName (sym takes.bytes_are) (name_starts takes.prefix after
+        (subst IsName (sym takes.is.0) takes.is.1)))
     refuse (inr (content, allows, (gap, more, whole, gap_is, inr (name, allows_name, then)))) =
         no_name gap more (subst AreBlanks whole (end_blanks rest end)) (Then-name-starts _ name more then)
 
 -- After blanks a name may come.
 name_goes_on : (read : List ℕ) (b : ℕ) (more : List ℕ) → AtEnd (read ++ b ∷ more) → (line : List ℕ) × OneName (read ++ b ∷ line)
 name_goes_on read b more end =
-    let blanks = first_blanks read b more (end_blanks (read ++ b ∷ more) end) in
-    (codes "a", (tt, tt, (read ++ b ∷ [], codes "a", sym (append_assoc read (b ∷ []) (codes "a")), (blanks, some_byte read b), (codes "a", tt, (codes "a", [], refl, (refl, (refl, tt)), (tt, tt, ([], [], refl, tt, refl)))))))
+    let blanks = first_blanks read b more (end_blanks (read ++ b ∷ more) end) in (
+      codes "a",
+      (
+        tt,
+        tt,
+        (
+          read ++ b ∷ [],
+          codes "a",
+          sym (append_assoc read (b ∷ []) (codes "a")),
+          (blanks, some_byte read b),
+          (codes "a", tt, (codes "a", [], refl, (refl, (refl, tt)), (tt, tt, ([], [], refl, tt, refl)))),
+        ),
+      ),
+    )
 
 stop_of_name : (Lack : Type 0) (rest : List ℕ) (stop : Stop) → ¬ AtEnd rest → IsStop OneName (BadFollows name_end NoBad) Lack rest stop
     → IsStop MaybeName BadMaybe Lack rest stop
@@ -136,7 +149,8 @@ stop_in_name Lack bytes blanks stop takes some leaves =
 pub stop_after_name : (Lack : Type 0) (bytes blanks : List ℕ) (name rest : List ℕ) (stop : Stop) → Takes AnyBlanks tt bytes blanks → blanks ≢ []
     → ReadsAll name_end (tt, (name, (tt, tt))) bytes rest → StopsWith (line_end.AtEnd rest) stop → IsStop MaybeName BadMaybe Lack bytes stop
 stop_after_name Lack bytes blanks name rest stop takes some reads at =
-    stop_of_name Lack bytes stop (not_at_end bytes blanks takes some) (stop_after_all every name_end refl IsEnd NoBad line_closes Lack (tt, (name, (tt, tt))) bytes rest stop reads (stop_at_end Lack rest stop at))
+    stop_of_name Lack bytes stop (not_at_end bytes blanks takes some) (stop_after_all every name_end refl IsEnd NoBad line_closes Lack (tt, (name, (tt, tt)))
+    bytes rest stop reads (stop_at_end Lack rest stop at))
 
 maybe_agrees : (one two : Option (List ℕ)) (rest : List ℕ) → IsMadeOf (name_to_end one) rest → IsMadeOf (name_to_end two) rest → two ≡ one
 maybe_agrees None None rest made other = refl

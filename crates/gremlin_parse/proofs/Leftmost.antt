@@ -124,7 +124,8 @@ stop_within Lack line (stops.Bad kind left) at =
 no_bad_of : (line rest bytes : List ℕ) (command : Command) → rest ≡ after_tag line → Takes AnyBlanks tt rest bytes → IsTail command bytes
     → KeepsTail command bytes → (kind : BadToken) (place : ℕ) → ¬ HasBad kind line place
 no_bad_of line rest bytes command rest_is takes tail keeps kind place = λ has.
-    no_bad_tail command bytes tail keeps kind (length line - place) (bad_tail_after kind (length line - place) line rest bytes rest_is takes (bad_line_at kind line place has))
+    no_bad_tail command bytes tail keeps kind (length line - place) (bad_tail_after kind (length line - place) line rest bytes rest_is takes
+    (bad_line_at kind line place has))
 
 pub no_fault_of : (line rest bytes : List ℕ) (command : Command) → rest ≡ after_tag line → Takes AnyBlanks tt rest bytes → IsTail command bytes
     → KeepsTail command bytes → (fault : LineFault) → ¬ HasFault line fault
@@ -156,7 +157,12 @@ only_command line rest bytes command rest_is takes tail other spelled =
 
 -- the blanks at the head
 takes_blanks : (rest : List ℕ) → Takes AnyBlanks tt rest (drop (prefix_len is_blank rest) rest)
-takes_blanks rest = let cut = cut_run is_blank rest in record { prefix = take (prefix_len is_blank rest) rest; bytes_are = cut.bytes_are; is = cut.passes; ends = cut.ends }
+takes_blanks rest = let cut = cut_run is_blank rest in record {
+  prefix = take (prefix_len is_blank rest) rest;
+  bytes_are = cut.bytes_are;
+  is = cut.passes;
+  ends = cut.ends;
+}
 
 no_command_at_bad : (kind : BadToken) (line : List ℕ) (left : ℕ) → BadLine kind left line → (command : Command) → ¬ Spells line command
 no_command_at_bad kind line left bad command = λ spelled.

@@ -62,16 +62,47 @@ tail_plain command is bytes made =
     let (word, after, whole, word_is, tail) = these in
     let last = then_parts_map (IsMadeOf (last_parts (last_part head) sentence.last)) (LastOf head sentence.last)
     (made_last (last_part head) sentence.plain sentence.last) parts after (then_of_made parts (last_parts (last_part head) sentence.last) after tail) in
-    let spelled : Spelled command head after = record { contents = sentence.contents; allowed = sentence.allowed; last = sentence.last; is = sentence.is; made = last } in
-    let found : IsTail command bytes = inr ((word_of head, head), lookup_in head_words (word_of head) head (named head), (word, after, whole, word_is, spelled_of_contents command head after spelled)) in
+    let spelled : Spelled command head after = record {
+      contents = sentence.contents;
+      allowed = sentence.allowed;
+      last = sentence.last;
+      is = sentence.is;
+      made =
+          last;
+    } in
+    let found : IsTail command bytes = inr (
+      (word_of head, head),
+      lookup_in head_words (word_of head) head (named head),
+      (word, after, whole, word_is, spelled_of_contents command head after spelled),
+    ) in
     found)
     (sentence_of command is)
 
 loose_tail : (command : Command) (bytes : List ℕ) → IsLooseTail command bytes → IsTail command bytes
 loose_tail (commands.Query query) bytes (word, rest, whole, word_is, to) =
-    inr ((codes "g", heads.Query), lookup_in head_words (codes "g") heads.Query (named heads.Query), (word, rest, whole, word_is, (commands.Query query, refl, to)))
+    inr (
+      (codes "g", heads.Query),
+      lookup_in head_words (codes "g") heads.Query (named heads.Query),
+      (
+        word,
+        rest,
+        whole,
+        word_is,
+        (commands.Query query, refl, to),
+      ),
+    )
 loose_tail (commands.Mutate reading mutation) bytes (word, rest, whole, word_is, to) =
-    inr ((codes "g", heads.Query), lookup_in head_words (codes "g") heads.Query (named heads.Query), (word, rest, whole, word_is, (commands.Mutate reading mutation, refl, to)))
+    inr (
+      (codes "g", heads.Query),
+      lookup_in head_words (codes "g") heads.Query (named heads.Query),
+      (
+        word,
+        rest,
+        whole,
+        word_is,
+        (commands.Mutate reading mutation, refl, to),
+      ),
+    )
 loose_tail command bytes made = tail_plain command tt bytes made
 
 loosely : (command : Command) → IsCommand command → (bytes : List ℕ) → IsMadeOf (parts_of command) bytes → IsLooseTail command bytes
@@ -96,19 +127,28 @@ tail_loose command bytes (inl (blank, end)) = subst (λ c. IsLooseTail c bytes) 
 tail_loose command bytes (inr (entry, within, (word, after, whole, word_is, spells))) = ⊎_elim
     (λ (query : entry.1 ≡ heads.Query).
     let (asked, is, to) = subst (λ (h : Head). SpellsAfter command h after) query spells in
-    subst (λ c. IsLooseTail c bytes) (sym is) (asked_loosely asked (query_is_asked asked after to) bytes (word, after, whole, word_is ∙ entry_word entry within ∙ ap word_of query, to)))
+    subst (λ c. IsLooseTail c bytes) (sym is) (asked_loosely asked (query_is_asked asked after to) bytes (
+      word,
+      after,
+      whole,
+      word_is ∙ entry_word entry within
+          ∙ ap word_of query,
+      to,
+    )))
     (λ (plain : IsPlain entry.1).
     let head = entry.1 in
     let spelled = contents_of_spelled command head after spells in
     let parts = parts_with (production head) spelled.contents in
     let tail : IsMadeOf (tail_parts head spelled.contents spelled.last) after =
     made_of_then parts (last_parts (last_part head) spelled.last) after
-    (then_parts_map (LastOf head spelled.last) (IsMadeOf (last_parts (last_part head) spelled.last)) (last_made (last_part head) plain spelled.last) parts after spelled.made) in
+    (then_parts_map (LastOf head spelled.last) (IsMadeOf (last_parts (last_part head) spelled.last)) (last_made (last_part head) plain spelled.last)
+    parts after spelled.made) in
     let these : IsMadeOf (Exactly (word_of head) ∷ tail_parts head spelled.contents spelled.last) bytes =
     (word, after, whole, word_is ∙ entry_word entry within, tail) in
     let made : IsMadeOf (parts_of (command_of head spelled.contents spelled.last)) bytes =
     subst (λ parts. IsMadeOf parts bytes) (sym (command_parts head spelled.contents spelled.last plain spelled.allowed)) these in
-    subst (λ c. IsLooseTail c bytes) (sym spelled.is) (loosely (command_of head spelled.contents spelled.last) (is_command head spelled.contents spelled.last plain) bytes made))
+    subst (λ c. IsLooseTail c bytes) (sym spelled.is) (loosely (command_of head spelled.contents spelled.last) (is_command head spelled.contents spelled.last
+    plain) bytes made))
     (query_or_plain entry.1)
 
 front_map : (From To : List ℕ → Type 0) → ((bytes : List ℕ) → From bytes → To bytes) → (line : List ℕ) → AfterFront From line → AfterFront To line
@@ -123,7 +163,8 @@ tail_halts command = λ bytes tail. ends bytes tail
 
 -- the tail after the blanks
 pub tail_after : (command : Command) (rest bytes : List ℕ) → Takes AnyBlanks tt rest bytes → AfterFront (IsLooseTail command) rest → IsTail command bytes
-tail_after command rest bytes takes spelled = (after_symbol AnyBlanks refl (IsTail command) (tail_halts command) tt tt tt rest bytes takes (front_map (IsLooseTail command) (IsTail command) (loose_tail command) rest spelled)).1
+tail_after command rest bytes takes spelled = (after_symbol AnyBlanks refl (IsTail command) (tail_halts command) tt tt tt rest bytes takes
+    (front_map (IsLooseTail command) (IsTail command) (loose_tail command) rest spelled)).1
 
 pub spelled_after : (command : Command) (rest bytes : List ℕ) → Takes AnyBlanks tt rest bytes → IsTail command bytes → AfterFront (IsLooseTail command) rest
 spelled_after command rest bytes takes tail = (takes.prefix, bytes, takes.bytes_are, takes.is, tail_loose command bytes tail)
@@ -143,7 +184,14 @@ tail_some bytes (inr (entry, within, (word, after, whole, word_is, is))) =
 
 faulty_of_bad : (kind : BadToken) (left : ℕ) (bytes : List ℕ) → BadTail kind left bytes → IsFaultyTail kind left bytes
 faulty_of_bad kind left bytes (entry, within, (word, after, whole, word_is, bad)) = ⊎_elim
-    (λ (query : entry.1 ≡ heads.Query). inr (word, after, whole, word_is ∙ entry_word entry within ∙ ap word_of query, subst (λ (h : Head). BadAfter h kind left after) query bad))
+    (λ (query : entry.1 ≡ heads.Query). inr (
+      word,
+      after,
+      whole,
+      word_is ∙ entry_word entry within ∙ ap word_of query,
+      subst (λ (h : Head). BadAfter h kind left
+          after) query bad,
+    ))
     (λ (plain : IsPlain entry.1).
     let head = entry.1 in
     let found = then_of_bad_follows no_blanks (production head) (production_is head) (BadLast head) kind left after bad in
@@ -152,7 +200,12 @@ faulty_of_bad kind left bytes (entry, within, (word, after, whole, word_is, bad)
     (bad_then_map (BadLast head) (BadInOne (last_parts (last_part head))) kind left (bad_last (last_part head) plain kind left) parts after found.bad) in
     let these : BadParts (Exactly (word_of head) ∷ tail_parts head found.contents last) kind left bytes =
     inr (word, after, whole, word_is ∙ entry_word entry within, tail) in
-    inl (command_of head found.contents last, is_command head found.contents last plain, subst (λ parts. BadParts parts kind left bytes) (sym (command_parts head found.contents last plain found.allowed)) these))
+    inl (
+      command_of head found.contents last,
+      is_command head found.contents last plain,
+      subst (λ parts. BadParts parts kind left bytes)
+          (sym (command_parts head found.contents last plain found.allowed)) these,
+    ))
     (query_or_plain entry.1)
 
 faulty_within : (kind : BadToken) (left : ℕ) (bytes : List ℕ) → IsFaultyTail kind left bytes → left ≤ length bytes
@@ -186,8 +239,18 @@ tail_of_sentence command kind left bytes sentence bad = word_first (subst (λ pa
         let parts = parts_with (production head) sentence.contents in
         let then = bad_then_map (BadParts (last_parts (last_part head) sentence.last)) (BadLast head) kind left
         (λ rest these. last_bad (last_part head) sentence.plain kind left rest (sentence.last, these)) parts after
-        (bad_then_of_parts parts (last_parts (last_part head) sentence.last) kind left after later) in
-        ((word_of head, head), lookup_in head_words (word_of head) head (named head), (word, after, whole, word_is, bad_follows_of_then (production head) sentence.contents sentence.allowed (BadLast head) kind left after then))
+        (bad_then_of_parts parts (last_parts (last_part head) sentence.last) kind left after later) in (
+          (word_of head, head),
+          lookup_in head_words (word_of head) head (named head),
+          (
+            word,
+            after,
+            whole,
+            word_is,
+            bad_follows_of_then (production head)
+                sentence.contents sentence.allowed (BadLast head) kind left after then,
+          ),
+        )
 
 bad_of_faulty : (kind : BadToken) (left : ℕ) (bytes : List ℕ) → IsFaultyTail kind left bytes → BadTail kind left bytes
 bad_of_faulty kind left bytes (inl (command, is, bad)) =
@@ -236,7 +299,8 @@ goes_line front rest bytes takes behind = record {
         let spelled : AfterFront (IsLooseTail found.0) (takes.prefix ++ more) = (takes.prefix, more, refl, takes.is, tail_loose found.0 more found.1) in
         (found.0, subst (AfterFront (IsLooseTail found.0)) (sym (rest_of more (inl some))) spelled);
     back = λ more same (command, spelled).
-        some_tail command more (tail_after command (takes.prefix ++ more) more (takes_again AnyBlanks tt rest bytes more takes same) (subst (AfterFront (IsLooseTail command)) (rest_of more (inr same)) spelled));
+        some_tail command more (tail_after command (takes.prefix ++ more) more (takes_again AnyBlanks tt rest bytes more takes same)
+        (subst (AfterFront (IsLooseTail command)) (rest_of more (inr same)) spelled));
   };
   onto = λ kind left bad. subst (BadLine kind left) (sym (append_assoc front takes.prefix bytes))
       (bad_onto kind left front takes.prefix bytes takes.is (behind bytes (inr refl)) bad);
@@ -275,7 +339,8 @@ takes_at blanks bytes are = record { prefix = blanks; bytes_are = refl; is = are
 -- No line has the sign and no whole name of a session after it.
 no_line_at : (blanks bytes : List ℕ) → AreBlanks blanks → session_first bytes ≡ None → ¬ IsLine (blanks ++ 64 ∷ bytes)
 no_line_at blanks bytes are none = λ (command, spelled).
-    no_tail_at bytes (some_tail command (64 ∷ bytes) (tail_after command (blanks ++ 64 ∷ bytes) (64 ∷ bytes) (takes_at blanks bytes are) (subst (AfterFront (IsLooseTail command)) (after_unfinished blanks bytes are none) spelled)))
+    no_tail_at bytes (some_tail command (64 ∷ bytes) (tail_after command (blanks ++ 64 ∷ bytes) (64 ∷ bytes) (takes_at blanks bytes are)
+    (subst (AfterFront (IsLooseTail command)) (after_unfinished blanks bytes are none) spelled)))
 
 no_bad_at : (blanks bytes : List ℕ) → AreBlanks blanks → session_first bytes ≡ None → (kind : BadToken) (left : ℕ) → ¬ BadLine kind left (blanks ++ 64 ∷ bytes)
 no_bad_at blanks bytes are none kind left = λ bad.
@@ -313,7 +378,11 @@ stop_in_tag Lack line (stops.Syntax left) leaves =
         unread = here.unread;
         bytes_are = all ∙ ap (λ (b : List ℕ). blanks ++ 64 ∷ b) here.bytes_are ∙ sym (onto here.unread);
         left_is = here.left_is;
-        viable = (here.more, named_blank (read ++ here.more) (ap after_tag (sym (append-nil (read ++ here.more))) ∙ after_tagged (read ++ here.more) (here.digit - 48) tag []));
+        viable = (
+          here.more,
+          named_blank (read ++ here.more) (ap after_tag (sym (append-nil (read ++ here.more))) ∙ after_tagged (read ++ here.more)
+              (here.digit - 48) tag []),
+        );
         none = λ other same is. no_line_at blanks (here.read ++ other) leaves.are_blanks (here.none other same) (subst IsLine (onto other) is);
       },
       λ kind place bad. no_bad_at blanks leaves.bytes leaves.are_blanks nothing kind place (subst (BadLine kind place) all bad),
@@ -331,7 +400,8 @@ lacks_line line rest bytes rest_is takes lacks = λ command none spells.
 pub stop_of_line : (line : List ℕ) (session : Option ℕ) (rest bytes : List ℕ) (stop : Stop) → ReadsTag line session rest → Takes AnyBlanks tt rest bytes
     → IsStop IsSomeTail BadTail (LacksMemory bytes) bytes stop → IsStop IsLine BadLine (NeedsMemory line) line stop
 stop_of_line line None rest bytes stop (plain, same) takes at = subst (λ (l : List ℕ). IsStop IsLine BadLine (NeedsMemory line) l stop) same
-    (stop_behind (NeedsMemory line) (LacksMemory bytes) [] rest bytes stop takes behind (lacks_line line rest bytes (rest_is line None rest (plain, same)) takes) at)
+    (stop_behind (NeedsMemory line) (LacksMemory bytes) [] rest bytes stop takes behind (lacks_line line rest bytes (rest_is line None rest (plain, same))
+    takes) at)
   where
     starts : EndsRun is_at bytes
     starts = starts_after plain.blanks plain.bytes plain.are_blanks plain.starts plain.plain (same ∙ plain.line_is)
@@ -346,7 +416,8 @@ stop_of_line line None rest bytes stop (plain, same) takes at = subst (λ (l : L
         (EndsRun-first_byte is_at bytes more alike starts)
 stop_of_line line (Some session) rest bytes stop (front, whole, tag) takes at =
     subst (λ (l : List ℕ). IsStop IsLine BadLine (NeedsMemory line) l stop) (sym whole)
-    (stop_behind (NeedsMemory line) (LacksMemory bytes) front rest bytes stop takes (λ more either. after_tagged front session tag (takes.prefix ++ more)) (lacks_line line rest bytes (rest_is line (Some session) rest (front, whole, tag)) takes) at)
+    (stop_behind (NeedsMemory line) (LacksMemory bytes) front rest bytes stop takes (λ more either. after_tagged front session tag (takes.prefix ++ more))
+    (lacks_line line rest bytes (rest_is line (Some session) rest (front, whole, tag)) takes) at)
 
 plain_no_bad : (command : Command) → IsCommand command → (bytes : List ℕ) → IsTail command bytes → KeepsBounds command → (kind : BadToken) (left : ℕ)
     → ¬ BadTail kind left bytes
@@ -356,7 +427,8 @@ plain_no_bad command is bytes (inr word) keeps kind left = λ bad.
     bytes word bad in
     let head = both.kind in
     ⊎_elim
-    (λ (query : head ≡ heads.Query). let (asked, same, to) = subst (λ (h : Head). SpellsAfter command h both.rest) query both.one in absurd (asked_is_none asked (query_is_asked asked both.rest to) (subst IsCommand same is)))
+    (λ (query : head ≡ heads.Query). let (asked, same, to) = subst (λ (h : Head). SpellsAfter command h both.rest) query both.one in absurd
+    (asked_is_none asked (query_is_asked asked both.rest to) (subst IsCommand same is)))
     (λ (plain : IsPlain head).
     let spelled = contents_of_spelled command head both.rest both.one in
     let parts = parts_with (production head) spelled.contents in
@@ -386,7 +458,11 @@ kept_no_bad_after command head rest kind left none = absurd none
 
 no_bad_query : (command : Command) (bytes : List ℕ) → AfterG (IsKeptQuery command) bytes → (kind : BadToken) (left : ℕ) → ¬ BadTail kind left bytes
 no_bad_query command bytes (word, rest, bytes_are, word_is, kept) kind left = λ bad.
-    let here : ThenWord head_words (KeptAfter command) bytes = ((codes "g", heads.Query), lookup_in head_words (codes "g") heads.Query (named heads.Query), (word, rest, bytes_are, word_is, kept)) in
+    let here : ThenWord head_words (KeptAfter command) bytes = (
+      (codes "g", heads.Query),
+      lookup_in head_words (codes "g") heads.Query (named heads.Query),
+      (word, rest, bytes_are, word_is, kept),
+    ) in
     let both = words_agree head_words head_table (KeptAfter command) (λ head. BadAfter head kind left) (kept_halts command) (bad_after_halts kind left) bytes
     here bad in
     kept_no_bad_after command both.kind both.rest kind left both.one both.two
@@ -405,7 +481,8 @@ g_halts After = λ bytes (prefix, rest, bytes_are, same, after). subst (EndsRun 
 
 keeps_after : (command : Command) (rest bytes : List ℕ) → Takes AnyBlanks tt rest bytes → AfterFront (AfterG (IsKeptQuery command)) rest
     → AfterG (IsKeptQuery command) bytes
-keeps_after command rest bytes takes spells = (after_symbol AnyBlanks refl (Then (Exactly (codes "g")) (IsKeptQuery command)) (g_halts (IsKeptQuery command)) tt tt tt rest bytes takes spells).1
+keeps_after command rest bytes takes spells = (after_symbol AnyBlanks refl (Then (Exactly (codes "g")) (IsKeptQuery command)) (g_halts (IsKeptQuery command))
+    tt tt tt rest bytes takes spells).1
 
 pub spelled_keeps : (rest bytes : List ℕ) (command : Command) → Takes AnyBlanks tt rest bytes → AfterFront (IsKeptTail command) rest → KeepsTail command bytes
 spelled_keeps rest bytes (commands.Query query) takes spells = keeps_after (commands.Query query) rest bytes takes spells

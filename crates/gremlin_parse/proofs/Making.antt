@@ -73,7 +73,8 @@ integer_text (negsuc n) fits = inr (suc n, decimal (suc n), refl, refl, decimal_
 -- ---- texts
 
 -- a byte as it is shown, where it isn't the quote
-other_piece : (b : ℕ) → b ≢ 39 → IsPiece 39 b (if nat_eq b 92 then codes "\\\\" else if nat_eq b 10 then codes "\\n" else if nat_eq b 13 then codes "\\r" else if nat_eq b 9 then codes "\\t" else b ∷ [])
+other_piece : (b : ℕ) → b ≢ 39 → IsPiece 39 b (if nat_eq b 92 then codes "\\\\" else if nat_eq b 10 then codes "\\n" else if nat_eq b 13 then codes "\\r" else
+    if nat_eq b 9 then codes "\\t" else b ∷ [])
 other_piece b unquoted = backslash (nat_eq b 92) refl
   where
     tab : b ≢ 92 → (t : Bool) → nat_eq b 9 ≡ t → IsPiece 39 b (if t then codes "\\t" else b ∷ [])
@@ -84,14 +85,16 @@ other_piece b unquoted = backslash (nat_eq b 92) refl
     carriage plain true is = inr (114, refl, ap (λ (n : ℕ). Some n) (sym (eqb-true b 13 is)))
     carriage plain false is = tab plain (nat_eq b 9) refl
 
-    line : b ≢ 92 → (t : Bool) → nat_eq b 10 ≡ t → IsPiece 39 b (if t then codes "\\n" else if nat_eq b 13 then codes "\\r" else if nat_eq b 9 then codes "\\t" else b ∷ [])
+    line : b ≢ 92 → (t : Bool) → nat_eq b 10 ≡ t → IsPiece 39 b (if t then codes "\\n" else if nat_eq b 13 then codes "\\r" else if nat_eq b 9 then codes
+        "\\t" else b ∷ [])
     line plain true is = inr (110, refl, ap (λ (n : ℕ). Some n) (sym (eqb-true b 10 is)))
     line plain false is = carriage plain (nat_eq b 13) refl
 
     unlike : nat_eq b 92 ≡ false → b ≢ 92
     unlike is same = let clash : false ≡ true = sym is ∙ ap (λ (n : ℕ). nat_eq n 92) same in cc
 
-    backslash : (t : Bool) → nat_eq b 92 ≡ t → IsPiece 39 b (if t then codes "\\\\" else if nat_eq b 10 then codes "\\n" else if nat_eq b 13 then codes "\\r" else if nat_eq b 9 then codes "\\t" else b ∷ [])
+    backslash : (t : Bool) → nat_eq b 92 ≡ t → IsPiece 39 b (if t then codes "\\\\" else if nat_eq b 10 then codes "\\n" else if nat_eq b 13 then codes
+        "\\r" else if nat_eq b 9 then codes "\\t" else b ∷ [])
     backslash true is = inr (92, refl, ap (λ (n : ℕ). Some n) (sym (eqb-true b 92 is)))
     backslash false is = line (unlike is) (nat_eq b 10) refl
 
@@ -101,7 +104,8 @@ piece b = quote (nat_eq b 39) refl
     unlike : nat_eq b 39 ≡ false → b ≢ 39
     unlike is same = let clash : false ≡ true = sym is ∙ ap (λ (n : ℕ). nat_eq n 39) same in cc
 
-    quote : (t : Bool) → nat_eq b 39 ≡ t → IsPiece 39 b (if t then codes "\\'" else if nat_eq b 92 then codes "\\\\" else if nat_eq b 10 then codes "\\n" else if nat_eq b 13 then codes "\\r" else if nat_eq b 9 then codes "\\t" else b ∷ [])
+    quote : (t : Bool) → nat_eq b 39 ≡ t → IsPiece 39 b (if t then codes "\\'" else if nat_eq b 92 then codes "\\\\" else if nat_eq b 10 then codes "\\n" else
+        if nat_eq b 13 then codes "\\r" else if nat_eq b 9 then codes "\\t" else b ∷ [])
     quote true is = inr (39, refl, ap (λ (n : ℕ). Some n) (sym (eqb-true b 39 is)))
     quote false is = other_piece b (unlike is)
 
@@ -151,7 +155,13 @@ pub node_making_spells : (id : ℕ) (label : List ℕ) (pairs : List Pair) → I
     → Spells (making_text (items.Vertex id) (record { label = Some label; pairs = pairs })) (commands.Node label pairs)
 node_making_spells id label pairs short are =
     let line = making_text (items.Vertex id) (record { label = Some label; pairs = pairs }) in
-    let made : IsMadeOf (parts_of (commands.Node label pairs)) line = (codes "node", codes " " ++ (label ++ assigned pairs), simp append_assoc, refl, (codes " ", label ++ assigned pairs, refl, ((refl, tt), λ none. cc), (label, assigned pairs, refl, (refl, short.0), pairs_made pairs are))) in
+    let made : IsMadeOf (parts_of (commands.Node label pairs)) line = (
+      codes "node",
+      codes " " ++ (label ++ assigned pairs),
+      simp append_assoc,
+      refl,
+      (codes " ", label ++ assigned pairs, refl, ((refl, tt), λ none. cc), (label, assigned pairs, refl, (refl, short.0), pairs_made pairs are)),
+    ) in
     let keeps : KeepsBounds (commands.Node label pairs) = (tt, (tt, (short.1, pairs_keep pairs are))) in
     ([], line, refl, tt, (made, keeps))
 

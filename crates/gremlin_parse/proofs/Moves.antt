@@ -75,7 +75,8 @@ module _ {Word Place : Type 0} where
     prefix = took.prefix;
     bytes_are = refl;
     how = ⊎_elim (λ (sign : (b : ℕ) × (sign_at this.signs b ≡ Some next) × (took.prefix ≡ b ∷ [])). inl sign)
-        (λ (other : HowOther Bound this.other took.prefix next rest). inr (how_again Bound Looser loosen this.other took.prefix next rest more carry same other)) took.how;
+        (λ (other : HowOther Bound this.other took.prefix next rest). inr (how_again Bound Looser loosen this.other took.prefix next rest more carry same
+        other)) took.how;
   }
 
   join_other : (Bound Looser : Part → Type 0) → ((this : Part) → Bound this → Looser this)
@@ -97,7 +98,8 @@ module _ {Word Place : Type 0} where
       → (took : Took Bound this bytes next rest) → After next more → AtTurn Looser this After (took.prefix ++ more)
   took_join Bound Looser loosen After this bytes next rest more carry took after = ⊎_elim
       (λ ((b, is, same) : (b : ℕ) × (sign_at this.signs b ≡ Some next) × (took.prefix ≡ b ∷ [])). inl (b, next, is, (took.prefix, more, refl, same, after)))
-      (λ (other : HowOther Bound this.other took.prefix next rest). inr (join_other Bound Looser loosen After this.other took.prefix next rest more carry other after))
+      (λ (other : HowOther Bound this.other took.prefix next rest). inr (join_other Bound Looser loosen After this.other took.prefix next rest more carry other
+      after))
       took.how
 
   bad_join_other : (Bound : Part → Type 0) (kind : BadToken) (left : ℕ) (After : Place → Language) (other : Other Word Place) (prefix : List ℕ) (next : Place)
@@ -117,7 +119,8 @@ module _ {Word Place : Type 0} where
       → BadTurn this kind left After (took.prefix ++ more)
   took_bad_join Bound kind left After this bytes next rest more took after = ⊎_elim
       (λ ((b, is, same) : (b : ℕ) × (sign_at this.signs b ≡ Some next) × (took.prefix ≡ b ∷ [])). inl (b, next, is, (took.prefix, more, refl, same, after)))
-      (λ (other : HowOther Bound this.other took.prefix next rest). inr (bad_join_other Bound kind left After this.other took.prefix next rest more other after))
+      (λ (other : HowOther Bound this.other took.prefix next rest). inr (bad_join_other Bound kind left After this.other took.prefix next rest more other
+      after))
       took.how
 
 -- ---- one way
@@ -137,11 +140,13 @@ module _ {Word Place End : Type 0} (turn : Place → Turn Word Place End) (is_lo
   after_other Bound Looser (Words (first ∷ table) fault to) ended After ending prefix next bytes rest bytes_are (word, next_is, bound, is, are, ends)
       (entry, within, bounds, then) =
       let takes : TakesWord (first ∷ table) bytes word rest = (prefix, record { bytes_are = bytes_are; passes = are; ends = ends }, is) in
-      subst (λ p. After p rest) (sym next_is) (ThenWord-after (first ∷ table) ended.0 (λ w. After (to w)) (λ w. ending NameByte (to w) (ended.1 w)) bytes rest word takes (entry, within, then))
+      subst (λ p. After p rest) (sym next_is) (ThenWord-after (first ∷ table) ended.0 (λ w. After (to w)) (λ w. ending NameByte (to w) (ended.1 w))
+      bytes rest word takes (entry, within, then))
   after_other Bound Looser (Token symbol to) ended After ending prefix next bytes rest bytes_are (content, next_is, allows, bound, part_is, ends)
       (other, others, bounds, then) =
       let takes : Takes symbol content bytes rest = record { prefix = prefix; bytes_are = bytes_are; is = part_is; ends = ends } in
-      subst (λ p. After p rest) (sym next_is) (after_content symbol ended.0 (λ c. After (to c)) (λ c. ending (class_of symbol) (to c) (ended.1 c)) content bytes rest takes (other, others, then))
+      subst (λ p. After p rest) (sym next_is) (after_content symbol ended.0 (λ c. After (to c)) (λ c. ending (class_of symbol) (to c) (ended.1 c)) content bytes
+      rest takes (other, others, then))
   after_other Bound Looser (Either one two) ended After ending prefix next bytes rest bytes_are (inl how) (inl then) =
       after_other Bound Looser one ended.0 After ending prefix next bytes rest bytes_are how then
   after_other Bound Looser (Either one two) ended After ending prefix next bytes rest bytes_are (inl how) (inr then) =
@@ -166,7 +171,8 @@ module _ {Word Place End : Type 0} (turn : Place → Turn Word Place End) (is_lo
   after_bad_other (Words (first ∷ table) fault to) ended kind left After ending prefix next bytes rest bytes_are (word, next_is, bound, is, are, ends)
       (inr then) =
       let takes : TakesWord (first ∷ table) bytes word rest = (prefix, record { bytes_are = bytes_are; passes = are; ends = ends }, is) in
-      subst (λ p. After p rest) (sym next_is) (ThenWord-after (first ∷ table) ended.0 (λ w. After (to w)) (λ w. ending NameByte (to w) (ended.1 w)) bytes rest word takes then)
+      subst (λ p. After p rest) (sym next_is) (ThenWord-after (first ∷ table) ended.0 (λ w. After (to w)) (λ w. ending NameByte (to w) (ended.1 w))
+      bytes rest word takes then)
   after_bad_other (Token symbol to) ended kind left After ending prefix next bytes rest bytes_are (content, next_is, allows, bound, part_is, ends)
       (inl (other, bad, more, there, at)) =
       let takes : Takes symbol content bytes rest = record { prefix = prefix; bytes_are = bytes_are; is = part_is; ends = ends } in
@@ -174,7 +180,8 @@ module _ {Word Place End : Type 0} (turn : Place → Turn Word Place End) (is_lo
       absurd (not_bad kind (part symbol content) bound (subst (λ v. IsOutOfBounds (part symbol v) kind) (sym same.0) bad))
   after_bad_other (Token symbol to) ended kind left After ending prefix next bytes rest bytes_are (content, next_is, allows, bound, part_is, ends) (inr then) =
       let takes : Takes symbol content bytes rest = record { prefix = prefix; bytes_are = bytes_are; is = part_is; ends = ends } in
-      subst (λ p. After p rest) (sym next_is) (after_content symbol ended.0 (λ c. After (to c)) (λ c. ending (class_of symbol) (to c) (ended.1 c)) content bytes rest takes then)
+      subst (λ p. After p rest) (sym next_is) (after_content symbol ended.0 (λ c. After (to c)) (λ c. ending (class_of symbol) (to c) (ended.1 c)) content bytes
+      rest takes then)
   after_bad_other (Either one two) ended kind left After ending prefix next bytes rest bytes_are (inl how) (inl bad) =
       after_bad_other one ended.0 kind left After ending prefix next bytes rest bytes_are how bad
   after_bad_other (Either one two) ended kind left After ending prefix next bytes rest bytes_are (inl how) (inr bad) =
@@ -198,9 +205,11 @@ module _ {Word Place End : Type 0} (turn : Place → Turn Word Place End) (is_lo
           let places : Some other ≡ Some next = sym found ∙ ap (sign_at this.signs) one ∙ is in
           let place : other ≡ next = cc in
           subst (λ p. After p rest) place (subst (After other) left after)
-      here (inl (b, is, prefix_is)) (inr then) = absurd (sign_clash this.signs bytes b rest next (apart bytes (begins_then Looser this.other After bytes then)) (took.bytes_are ∙ ap (λ p. p ++ rest) prefix_is) is)
+      here (inl (b, is, prefix_is)) (inr then) = absurd (sign_clash this.signs bytes b rest next (apart bytes (begins_then Looser this.other After bytes then))
+          (took.bytes_are ∙ ap (λ p. p ++ rest) prefix_is) is)
       here (inr how) (inl (c, other, found, (prefix, more, whole, same, after))) =
-          absurd (sign_clash this.signs bytes c more other (subst (NoSign this.signs) (sym took.bytes_are) (apart (took.prefix ++ rest) (begins_how Bound this.other took.prefix next rest how))) (whole ∙ ap (λ p. p ++ more) same) found)
+          absurd (sign_clash this.signs bytes c more other (subst (NoSign this.signs) (sym took.bytes_are) (apart (took.prefix ++ rest)
+          (begins_how Bound this.other took.prefix next rest how))) (whole ∙ ap (λ p. p ++ more) same) found)
       here (inr how) (inr then) = after_other Bound Looser this.other ended After ending took.prefix next bytes rest took.bytes_are how then
 
   pub after_took_bad : (this : Turn Word Place End) → StartsApart turn is_loose this.signs this.other → IsEnded turn is_loose this.other
@@ -216,9 +225,11 @@ module _ {Word Place End : Type 0} (turn : Place → Turn Word Place End) (is_lo
           let places : Some other ≡ Some next = sym found ∙ ap (sign_at this.signs) one ∙ is in
           let place : other ≡ next = cc in
           subst (λ p. After p rest) place (subst (After other) left_over after)
-      here (inl (b, is, prefix_is)) (inr then) = absurd (sign_clash this.signs bytes b rest next (apart bytes (begins_bad this.other kind left After bytes then)) (took.bytes_are ∙ ap (λ p. p ++ rest) prefix_is) is)
+      here (inl (b, is, prefix_is)) (inr then) = absurd (sign_clash this.signs bytes b rest next (apart bytes (begins_bad this.other kind left After bytes
+          then)) (took.bytes_are ∙ ap (λ p. p ++ rest) prefix_is) is)
       here (inr how) (inl (c, other, found, (prefix, more, whole, same, after))) =
-          absurd (sign_clash this.signs bytes c more other (subst (NoSign this.signs) (sym took.bytes_are) (apart (took.prefix ++ rest) (begins_how IsBounded this.other took.prefix next rest how))) (whole ∙ ap (λ p. p ++ more) same) found)
+          absurd (sign_clash this.signs bytes c more other (subst (NoSign this.signs) (sym took.bytes_are) (apart (took.prefix ++ rest)
+          (begins_how IsBounded this.other took.prefix next rest how))) (whole ∙ ap (λ p. p ++ more) same) found)
       here (inr how) (inr then) = after_bad_other this.other ended kind left After ending took.prefix next bytes rest took.bytes_are how then
 
   -- what was taken of the bytes of a turn
@@ -232,9 +243,27 @@ module _ {Word Place End : Type 0} (turn : Place → Turn Word Place End) (is_lo
       → Ending turn is_loose After → (bytes : List ℕ) → AtTurn Bound this After bytes → Found Bound this After bytes
   found_of Bound this ended After ending bytes at = ⊎_elim
       (λ ((b, next, is, (prefix, rest, whole, same, after)) : ThenSign this.signs After bytes).
-      let found : Found Bound this After bytes = record { next = next; rest = rest; took = record { prefix = prefix; bytes_are = whole; how = inl (b, is, same) }; after = after } in found)
+      let found : Found Bound this After bytes = record {
+        next = next;
+        rest = rest;
+        took = record {
+          prefix = prefix;
+          bytes_are = whole;
+          how = inl (b, is, same);
+        };
+        after = after;
+      } in found)
       (λ (then : ThenOther Bound this.other After bytes). let found = other_of this.other ended then in
-      let one : Found Bound this After bytes = record { next = found.0; rest = found.1; took = record { prefix = found.2; bytes_are = found.3; how = inr found.4 }; after = found.5 } in one)
+      let one : Found Bound this After bytes = record {
+        next = found.0;
+        rest = found.1;
+        took = record {
+          prefix = found.2;
+          bytes_are = found.3;
+          how = inr found.4;
+        };
+        after = found.5;
+      } in one)
       at
     where
       other_of : (other : Other Word Place) → IsEnded turn is_loose other → ThenOther Bound other After bytes → (next : Place) × (rest : List ℕ)
@@ -252,13 +281,28 @@ module _ {Word Place End : Type 0} (turn : Place → Turn Word Place End) (is_lo
           subst (λ w. Bound (Called w (fault entry.1 (w ++ rest)))) (sym same)
               (subst (λ b. Bound (Called entry.0 (fault entry.1 b))) (whole ∙ ap (λ w. w ++ rest) same) bound),
           ap (lookup (first ∷ table)) same ∙ all_in (λ (e : Entry Word). lookup (first ∷ table) e.0 ≡ Some e.1) (first ∷ table) entry ended.0.named within,
-          subst (Passes is_name_byte) (sym same) (word_passes entry.0 (all_in (λ (e : Entry Word). is_word e.0 ≡ true) (first ∷ table) entry ended.0.words within)),
+          subst (Passes is_name_byte) (sym same) (word_passes entry.0 (all_in (λ (e : Entry Word). is_word e.0 ≡ true) (first ∷ table) entry ended.0.words
+              within)),
           ending NameByte (to entry.1) (ended.1 entry.1) rest after,
         ),
         after,
       )
-      other_of (Token symbol to) ended (content, allows, bound, (prefix, rest, whole, part_is, after)) =
-          (to content, rest, prefix, whole, (content, refl, allows, bound, part_is, ends_symbol symbol ended.0 content allows prefix part_is rest (ending (class_of symbol) (to content) (ended.1 content) rest after)), after)
+      other_of (Token symbol to) ended (content, allows, bound, (prefix, rest, whole, part_is, after)) = (
+        to content,
+        rest,
+        prefix,
+        whole,
+        (
+          content,
+          refl,
+          allows,
+          bound,
+          part_is,
+          ends_symbol symbol ended.0 content allows prefix part_is rest
+              (ending (class_of symbol) (to content) (ended.1 content) rest after),
+        ),
+        after,
+      )
       other_of (Either one two) ended (inl then) = let found = other_of one ended.0 then in (found.0, found.1, found.2, found.3, inl found.4, found.5)
       other_of (Either one two) ended (inr then) = let found = other_of two ended.1 then in (found.0, found.1, found.2, found.3, inr found.4, found.5)
 
@@ -281,8 +325,12 @@ module _ {Word Place End : Type 0} (turn : Place → Turn Word Place End) (is_lo
   pub line_split : (place : Place) (bytes : List ℕ) → Line place bytes → AtEnd place bytes ⊎ AtTurn Any (turn place) LooseLine bytes
   line_split place bytes (zero, end, (ends, none)) = inl (end, ends, none)
   line_split place bytes (suc n, end, at) = inr (⊎_elim
-      (λ (sign : ThenSign (turn place).signs (Loosely turn is_loose (λ next rest. Leads turn is_loose Any end n next rest)) bytes). inl (sign_map (Loosely turn is_loose (λ next rest. Leads turn is_loose Any end n next rest)) LooseLine (λ next rest. blanks_map (is_loose next) (Leads turn is_loose Any end n next) (Line next) (λ these leads. (n, end, leads)) rest) (turn place).signs bytes sign))
-      (λ (other : ThenOther Any (turn place).other (Loosely turn is_loose (λ next rest. Leads turn is_loose Any end n next rest)) bytes). inr (other_map Any Any (λ this any. tt) (Loosely turn is_loose (λ next rest. Leads turn is_loose Any end n next rest)) LooseLine (λ next rest. blanks_map (is_loose next) (Leads turn is_loose Any end n next) (Line next) (λ these leads. (n, end, leads)) rest) (turn place).other bytes other))
+      (λ (sign : ThenSign (turn place).signs (Loosely turn is_loose (λ next rest. Leads turn is_loose Any end n next rest)) bytes). inl
+      (sign_map (Loosely turn is_loose (λ next rest. Leads turn is_loose Any end n next rest)) LooseLine (λ next rest. blanks_map (is_loose next)
+      (Leads turn is_loose Any end n next) (Line next) (λ these leads. (n, end, leads)) rest) (turn place).signs bytes sign))
+      (λ (other : ThenOther Any (turn place).other (Loosely turn is_loose (λ next rest. Leads turn is_loose Any end n next rest)) bytes). inr
+      (other_map Any Any (λ this any. tt) (Loosely turn is_loose (λ next rest. Leads turn is_loose Any end n next rest)) LooseLine (λ next rest. blanks_map
+      (is_loose next) (Leads turn is_loose Any end n next) (Line next) (λ these leads. (n, end, leads)) rest) (turn place).other bytes other))
       at)
 
   -- so many tokens and an end
@@ -304,7 +352,8 @@ module _ {Word Place End : Type 0} (turn : Place → Turn Word Place End) (is_lo
       let line : Line place bytes = (suc way.0, way.1, inl found) in line)
       (λ (other : ThenOther Any (turn place).other LooseLine bytes).
       let (way, found) = other_choice Any Way (λ way. Loosely turn is_loose (ByWay way)) (turn place).other bytes
-      (other_map Any Any (λ this any. tt) LooseLine (λ next rest. (way : Way) × Loosely turn is_loose (ByWay way) next rest) ways (turn place).other bytes other) in
+      (other_map Any Any (λ this any. tt) LooseLine (λ next rest. (way : Way) × Loosely turn is_loose (ByWay way) next rest) ways (turn place).other bytes
+      other) in
       let line : Line place bytes = (suc way.0, way.1, inr found) in line)
       at
 
@@ -320,7 +369,8 @@ module _ {Word Place End : Type 0} (turn : Place → Turn Word Place End) (is_lo
       blanks_map (is_loose next) (BadLeads turn is_loose kind left n next) (BadFrom turn is_loose next kind left) (λ these leads. (n, leads)) rest in
       ⊎_elim
       (λ (sign : ThenSign (turn place).signs From bytes). inl (sign_map From (LooseBad kind left) step (turn place).signs bytes sign))
-      (λ (other : BadOther (turn place).other kind left From bytes). inr (bad_other_map kind left From (LooseBad kind left) step (turn place).other bytes other))
+      (λ (other : BadOther (turn place).other kind left From bytes). inr (bad_other_map kind left From (LooseBad kind left) step (turn place).other bytes
+      other))
       at
 
   pub bad_join : (place : Place) (kind : BadToken) (left : ℕ) (bytes : List ℕ) → BadTurn (turn place) kind left (LooseBad kind left) bytes
@@ -331,7 +381,8 @@ module _ {Word Place End : Type 0} (turn : Place → Turn Word Place End) (is_lo
       × By n next rest = λ next rest. blanks_choice (is_loose next) ℕ (λ n. BadLeads turn is_loose kind left n next) rest in
       ⊎_elim
       (λ (sign : ThenSign (turn place).signs (LooseBad kind left) bytes).
-      let (n, found) = sign_choice ℕ By (turn place).signs bytes (sign_map (LooseBad kind left) (λ next rest. (n : ℕ) × By n next rest) step (turn place).signs bytes sign) in
+      let (n, found) = sign_choice ℕ By (turn place).signs bytes (sign_map (LooseBad kind left) (λ next rest. (n : ℕ) × By n next rest) step (turn place).signs
+      bytes sign) in
       let bad : BadFrom turn is_loose place kind left bytes = (suc n, inl found) in bad)
       (λ (other : BadOther (turn place).other kind left (LooseBad kind left) bytes).
       let (n, found) = bad_other_choice kind left ℕ 0 By (turn place).other bytes

@@ -154,7 +154,12 @@ pub record PropertiesSoFar (before : ℕ) (first : List Pair) (bytes : List ℕ)
   pub leads : (subject : Subject) → steps_before subject + length first ≡ before → LeadsTo (Changed subject first) bytes (Changed subject pairs) rest
 
 pub no_properties : (before : ℕ) (first : List Pair) (bytes : List ℕ) → before ≤ 32 → PropertiesSoFar before first bytes first before bytes
-no_properties before first bytes few = record { few = few; counted = refl; leads = λ subject same. reaches_here turn is_loose are some (Changed subject first) bytes }
+no_properties before first bytes few = record {
+  few = few;
+  counted = refl;
+  leads = λ subject same. reaches_here turn is_loose are some (Changed subject first)
+      bytes;
+}
 
 -- A step `property` leads on, whatever the properties are for.
 abbrev pub NameLeads : ℕ → List ℕ → List ℕ → Type 0
@@ -280,7 +285,8 @@ anonymous_leads : (bytes after at_dot : List ℕ) (anonymous : Bool) → anonymo
     → ReadsToken (95 ∷ []) after at_dot → (query : Query) (label : List ℕ) → LeadsTo (ToFirst query label) bytes (ToAnonymous query label) at_dot
 anonymous_leads bytes after at_dot anonymous is reads second query label =
     on (ToFirst query label) bytes (ToUnderscore query label) after (ToAnonymous query label) at_dot
-    (underscore_leads bytes after anonymous is reads query label) (token_leads (ToUnderscore query label) 95 (ToAnonymous query label) after at_dot refl refl second)
+    (underscore_leads bytes after anonymous is reads query label) (token_leads (ToUnderscore query label) 95 (ToAnonymous query label) after at_dot refl refl
+    second)
 
 dotted_leads : (bytes after at_dot at_vertex : List ℕ) (anonymous : Bool) → anonymous ≡ true → Reads (Sign (cond anonymous 95 86 ∷ [])) tt bytes after
     → ReadsToken (95 ∷ []) after at_dot → ReadsToken (46 ∷ []) at_dot at_vertex → (query : Query) (label : List ℕ)
@@ -336,7 +342,8 @@ to_outer_close : (bytes at_id at_close at_end : List ℕ) (to : ℕ) → ReadsTo
     → ReadsToken (41 ∷ []) at_close at_end → (query : Query) (label : List ℕ) → LeadsTo (OpensId query label) bytes (ToCloses query label to) at_end
 to_outer_close bytes at_id at_close at_end to opening id close query label =
     on (OpensId query label) bytes (IdCloses query label to) at_close (ToCloses query label to) at_end
-    (to_id_close bytes at_id at_close to opening id query label) (token_leads (IdCloses query label to) 41 (ToCloses query label to) at_close at_end refl refl close)
+    (to_id_close bytes at_id at_close to opening id query label) (token_leads (IdCloses query label to) 41 (ToCloses query label to) at_close at_end refl refl
+    close)
 
 pub vertex_id_read : (bytes at_id at_close at_end rest : List ℕ) (to : ℕ) → ReadsToken (40 ∷ []) bytes at_id → ReadsId to at_id at_close
     → ReadsToken (41 ∷ []) at_close at_end → ReadsToken (41 ∷ []) at_end rest → (query : Query) (label : List ℕ)

@@ -64,5 +64,9 @@ drop_opens query = refl
 
 -- a line may end after each `property`, and pairs stand in the order in which they are written
 ends_there : (query : Query) → (turn (Changed (Elements query) (with_pair one_pair (codes "l") (values.Bool false)))).ends ≡ Some
-    (commands.Mutate (Some query) (mutations.Property (record { key = codes "k"; value = values.Bool true } ∷ record { key = codes "l"; value = values.Bool false } ∷ [])))
+    (commands.Mutate (Some query) (mutations.Property (record { key = codes "k"; value = values.Bool true } ∷ record {
+      key = codes "l";
+      value = values.Bool
+          false;
+    } ∷ [])))
 ends_there query = refl

@@ -31,7 +31,12 @@ run_is_name b bytes (c ∷ run) rest start cut =
 run_takes_name : (bytes run rest : List ℕ) → 1 ≤ length bytes → is_name_start (get_or bytes 0 0) ≡ true → CutsRun is_name_byte bytes run rest
     → Takes AnyName run bytes rest
 run_takes_name [] run rest some start cut = absurd (omega arith)
-run_takes_name (b ∷ bytes) run rest some start cut = record { prefix = run; bytes_are = cut.bytes_are; is = (refl, run_is_name b bytes run rest start cut); ends = cut.ends }
+run_takes_name (b ∷ bytes) run rest some start cut = record {
+  prefix = run;
+  bytes_are = cut.bytes_are;
+  is = (refl, run_is_name b bytes run rest start cut);
+  ends = cut.ends;
+}
 
 -- the name that begins with these bytes
 pub takes_name : (bytes name rest : List ℕ) (n : ℕ) → 1 ≤ length bytes → is_name_start (get_or bytes 0 0) ≡ true → n ≡ prefix_len is_name_byte bytes

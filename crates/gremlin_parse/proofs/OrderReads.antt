@@ -46,7 +46,8 @@ sort_leads bytes rest descending (middle, reads, blanks) place query key at =
     (record {
       prefix = reads.takes.prefix;
       bytes_are = reads.takes.bytes_are;
-      how = inr (subst (λ (o : Other StepWord Place). HowOther IsBounded o reads.takes.prefix (ByCloses query key descending) middle) (sym at.other) (inl (sort_name descending, ap (ByCloses query key) (sym (named_sort descending)), reads.allowed, tt, reads.takes.is, reads.takes.ends)));
+      how = inr (subst (λ (o : Other StepWord Place). HowOther IsBounded o reads.takes.prefix (ByCloses query key descending) middle) (sym at.other)
+          (inl (sort_name descending, ap (ByCloses query key) (sym (named_sort descending)), reads.allowed, tt, reads.takes.is, reads.takes.ends)));
     })
     blanks
 
@@ -57,7 +58,8 @@ order_word_leads bytes at_dot (middle, reads, blanks) place query key at =
     (record {
       prefix = reads.takes.prefix;
       bytes_are = reads.takes.bytes_are;
-      how = inr (subst (λ (o : Other StepWord Place). HowOther IsBounded o reads.takes.prefix (AfterOrderWord query key) middle) (sym at.other) (inr (tt, refl, tt, tt, reads.takes.is, tt)));
+      how = inr (subst (λ (o : Other StepWord Place). HowOther IsBounded o reads.takes.prefix (AfterOrderWord query key) middle) (sym at.other)
+          (inr (tt, refl, tt, tt, reads.takes.is, tt)));
     })
     blanks
 
@@ -70,7 +72,8 @@ order_dot_leads bytes at_dot at_name word dot place query key at =
 pub stop_after_order_word : (bytes at_dot : List ℕ) (stop : Stop) → ReadsToken (codes "Order") bytes at_dot → Leaves (Sign (46 ∷ [])) at_dot stop
     → (place : Place) (query : Query) (key : Option (List ℕ)) → DirectsAt place query key bytes → StopsFrom place bytes stop
 stop_after_order_word bytes at_dot stop word leaves place query key at =
-    (order_word_leads bytes at_dot word place query key at).stops stop (stop_at_sign (AfterOrderWord query key) 46 (DirectionName query key) at_dot stop refl leaves)
+    (order_word_leads bytes at_dot word place query key at).stops stop (stop_at_sign (AfterOrderWord query key) 46 (DirectionName query key) at_dot stop refl
+    leaves)
 
 pub stop_at_sort_name : (bytes at_dot at_name : List ℕ) (stop : Stop) → ReadsToken (codes "Order") bytes at_dot → ReadsToken (46 ∷ []) at_dot at_name
     → Leaves (OneWord sort_names) at_name stop → (place : Place) (query : Query) (key : Option (List ℕ)) → DirectsAt place query key bytes
@@ -85,7 +88,19 @@ pub qualified_leads : (bytes at_dot at_name rest : List ℕ) (descending : Bool)
 qualified_leads bytes at_dot at_name rest descending word dot (middle, reads, blanks) place query key at =
     on place bytes (DirectionName query key) at_name (ByCloses query key descending) rest (order_dot_leads bytes at_dot at_name word dot place query key at)
     (reaches_next turn is_loose are some (DirectionName query key) at_name (ByCloses query key descending) middle rest
-    (record { prefix = reads.takes.prefix; bytes_are = reads.takes.bytes_are; how = inr (sort_name descending, ap (ByCloses query key) (sym (named_sort descending)), reads.allowed, tt, reads.takes.is, reads.takes.ends) })
+    (record {
+      prefix = reads.takes.prefix;
+      bytes_are = reads.takes.bytes_are;
+      how = inr (
+        sort_name descending,
+        ap (ByCloses query key)
+            (sym (named_sort descending)),
+        reads.allowed,
+        tt,
+        reads.takes.is,
+        reads.takes.ends,
+      );
+    })
     blanks)
 
 -- ---- up to the closing parenthesis
@@ -169,7 +184,8 @@ stop_in_order_key bytes stop quoted at query = at (ByFirst query) (OrderKey quer
 pub stop_after_order_key : (name bytes after : List ℕ) (stop : Stop) → starts_quote bytes ≡ true → NameReads name bytes after → LeavesBoth 44 41 after stop
     → (query : Query) → StopsFrom (ByFirst query) bytes stop
 stop_after_order_key name bytes after stop quoted reads leaves query =
-    (order_key_leads query name bytes after quoted reads).stops stop (stop_at_comma (AfterOrderKey query name) (OrderDirection query (Some name)) (Steps (reordered query (Some name) false)) after stop refl leaves)
+    (order_key_leads query name bytes after quoted reads).stops stop (stop_at_comma (AfterOrderKey query name) (OrderDirection query (Some name))
+    (Steps (reordered query (Some name) false)) after stop refl leaves)
 
 -- what a comma, or a parenthesis, after the key leads to
 abbrev after_key : Query → List ℕ → Bool → Place
@@ -179,7 +195,8 @@ comma_after_order_key : (query : Query) (name bytes after rest : List ℕ) (more
     → ReadsToken (cond more 44 41 ∷ []) after rest → LeadsTo (ByFirst query) bytes (after_key query name more) rest
 comma_after_order_key query name bytes after rest more quoted reads token =
     on (ByFirst query) bytes (AfterOrderKey query name) after (after_key query name more) rest (order_key_leads query name bytes after quoted reads)
-    (comma_leads (AfterOrderKey query name) (OrderDirection query (Some name)) (Steps (reordered query (Some name) false)) after rest more refl refl refl refl token)
+    (comma_leads (AfterOrderKey query name) (OrderDirection query (Some name)) (Steps (reordered query (Some name) false)) after rest more refl refl refl refl
+    token)
 
 pub key_read : (name bytes after rest : List ℕ) (more : Bool) → more ≡ false → starts_quote bytes ≡ true → NameReads name bytes after
     → ReadsToken (cond more 44 41 ∷ []) after rest → (query : Query) → LeadsTo (ByFirst query) bytes (Steps (reordered query (Some name) false)) rest

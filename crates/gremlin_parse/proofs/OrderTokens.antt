@@ -63,7 +63,8 @@ texts_from tokens i d bytes within = rw (add-one, drop-cons tokens i d)
 
 pub token_read : (tokens : List (Bor (List ℕ))) (i : ℕ) (d : Bor (List ℕ)) (bytes rest : List ℕ) → i < length tokens
     → ReadsToken (get_or tokens i d).now bytes rest → after_tokens (texts (drop (i + 1) tokens)) rest ≡ after_tokens (texts (drop i tokens)) bytes
-token_read tokens i d bytes rest within reads = sym (texts_from tokens i d bytes within ∙ ap (option_and_then (λ rest. after_tokens (texts (drop (i + 1) tokens)) rest)) (after_token-read (get_or tokens i d).now bytes rest reads))
+token_read tokens i d bytes rest within reads = sym (texts_from tokens i d bytes within ∙ ap
+    (option_and_then (λ rest. after_tokens (texts (drop (i + 1) tokens)) rest)) (after_token-read (get_or tokens i d).now bytes rest reads))
 
 pub token_left : (tokens : List (Bor (List ℕ))) (i : ℕ) (d : Bor (List ℕ)) (bytes : List ℕ) (stop : Stop) → i < length tokens
     → Leaves (Sign (get_or tokens i d).now) bytes stop → after_tokens (texts (drop i tokens)) bytes ≡ None

@@ -59,7 +59,8 @@ some_byte (c ∷ read) b = λ none. cc
 
 pub end_halts : HaltsAt no_blanks AtEnd
 end_halts = λ class halts bytes (prefix, rest, whole, are, end).
-    subst (EndsRun (passes class)) (sym whole) (part_halts class true AnyBlanks [] (ap (λ t. t && true) halts) tt tt prefix rest are (λ _. subst (EndsRun (passes class)) (sym end) tt))
+    subst (EndsRun (passes class)) (sym whole) (part_halts class true AnyBlanks [] (ap (λ t. t && true) halts) tt tt prefix rest are
+    (λ _. subst (EndsRun (passes class)) (sym end) tt))
 
 pub end_no_bad : HasNoBad (Blanks ∷ [])
 end_no_bad kind left bytes = λ bad. ⊎_elim (λ here. absurd here.5) (λ ((prefix, rest, whole, are, later) : Then Blanks (BadParts [] kind left) bytes). later)
@@ -166,7 +167,8 @@ pair_more bytes rest after list key value so_far other reads =
 pub pairs_stop : (bytes rest : List ℕ) (list : List Pair) (stop : Stop) → PairsSoFar bytes list rest → ¬ AtEnd rest → LeavesOne pair_symbols rest stop
     → IsStop SpellsPairs BadInPairs (Unit {0}) bytes stop
 pairs_stop bytes rest list stop so_far other leaves =
-    stop_so_far pair_item (Unit {0}) bytes rest list stop so_far other (stop_among no_blanks pair_symbols refl SpellsPairs BadInPairs pairs_close (Unit {0}) rest stop leaves)
+    stop_so_far pair_item (Unit {0}) bytes rest list stop so_far other (stop_among no_blanks pair_symbols refl SpellsPairs BadInPairs pairs_close (Unit {0})
+    rest stop leaves)
 
 pub pairs_read : (bytes rest : List ℕ) (list : List Pair) → PairsSoFar bytes list rest → AtEnd rest → IsMadeOf (pairs_to_end list) bytes
 pairs_read bytes rest list so_far end = all_read pair_item (Unit {0}) bytes rest list so_far end

@@ -38,6 +38,12 @@ pub no_fault : (line : List ℕ) (command : Command) (fault : LineFault) → IsP
 no_fault line command fault (blanks, rest, whole, are, (letter, more, cut, is, produced)) =
     let spelled : Spells line command = line_spelled line command (blanks, rest, whole, are, (letter, more, cut, is, produced)) in
     let start : rest ≡ codes "g" ++ more = cut ∙ ap (λ (l : List ℕ). l ++ more) is in
-    let takes : Takes AnyBlanks tt (after_tag line) rest = record { prefix = blanks; bytes_are = whole; is = are; ends = subst (EndsRun is_blank) (sym start) refl } in
+    let takes : Takes AnyBlanks tt (after_tag line) rest = record {
+      prefix = blanks;
+      bytes_are = whole;
+      is = are;
+      ends = subst (EndsRun is_blank) (sym start)
+          refl;
+    } in
     no_fault_of line (after_tag line) rest command refl takes (tail_after command (after_tag line) rest takes (spelled_loosely line command spelled))
     (spelled_keeps (after_tag line) rest command takes spelled) fault

@@ -68,7 +68,8 @@ pub follows_halts : (class : Class) (end : Bool) (symbols : List Symbol) → hal
     → ((contents : Contents symbols) → end ≡ true → Halts (passes class) (Last contents)) → Halts (passes class) (Follows symbols Last)
 follows_halts class end [] is Last last = λ bytes at. last tt is bytes at
 follows_halts class end (symbol ∷ symbols) is Last last = λ bytes (content, allows, (prefix, rest, bytes_are, part_is, later)).
-    subst (EndsRun (passes class)) (sym bytes_are) (part_halts class end symbol symbols is content allows prefix rest part_is (λ more. follows_halts class end symbols more (λ contents. Last (content, contents)) (λ contents. last (content, contents)) rest later))
+    subst (EndsRun (passes class)) (sym bytes_are) (part_halts class end symbol symbols is content allows prefix rest part_is
+    (λ more. follows_halts class end symbols more (λ contents. Last (content, contents)) (λ contents. last (content, contents)) rest later))
 
 pub bad_follows_halts : (class : Class) (end : Bool) (symbols : List Symbol) → halts class end symbols ≡ true → (Bad : Bads) (kind : BadToken) (left : ℕ)
     → (end ≡ true → Halts (passes class) (Bad kind left)) → Halts (passes class) (BadFollows symbols Bad kind left)
@@ -77,7 +78,8 @@ bad_follows_halts class end (symbol ∷ symbols) is Bad kind left bads = λ byte
     ⊎_elim
     (λ (here : IsBad symbol kind left bytes). bad_halts class end symbol symbols is kind left bytes here)
     (λ ((content, allows, (prefix, rest, bytes_are, part_is, later)) : One symbol (BadFollows symbols Bad kind left) bytes).
-    subst (EndsRun (passes class)) (sym bytes_are) (part_halts class end symbol symbols is content allows prefix rest part_is (λ more. bad_follows_halts class end symbols more Bad kind left bads rest later)))
+    subst (EndsRun (passes class)) (sym bytes_are) (part_halts class end symbol symbols is content allows prefix rest part_is
+    (λ more. bad_follows_halts class end symbols more Bad kind left bads rest later)))
     at
 
 -- some line of a production
@@ -105,8 +107,18 @@ follows_within (symbol ∷ symbols) Bad within = λ kind place bytes at.
 pub read_follows : (symbols : List Symbol) (contents : Contents symbols) (Last : Contents symbols → List ℕ → Type 0) (bytes rest : List ℕ)
     → ReadsAll symbols contents bytes rest → Last contents rest → Follows symbols Last bytes
 read_follows [] contents Last bytes rest same last = subst (Last tt) (sym same) last
-read_follows (symbol ∷ symbols) contents Last bytes rest (middle, reads, later) last =
-    (contents.0, reads.allowed, (reads.takes.prefix, middle, reads.takes.bytes_are, reads.takes.is, read_follows symbols contents.1 (λ others. Last (contents.0, others)) middle rest later last))
+read_follows (symbol ∷ symbols) contents Last bytes rest (middle, reads, later) last = (
+  contents.0,
+  reads.allowed,
+  (
+    reads.takes.prefix,
+    middle,
+    reads.takes.bytes_are,
+    reads.takes.is,
+    read_follows symbols contents.1
+        (λ others. Last (contents.0, others)) middle rest later last,
+  ),
+)
 
 -- ---- symbols, and others after them
 
@@ -147,8 +159,11 @@ pub stop_after : (Line : List ℕ → Type 0) (Bad : Bads) (Lack : Type 0) (Left
     (stop : Stop) → bytes ≡ read ++ rest → (LackLeft → Lack) → Goes Line Bad read Left BadLeft rest → IsStop Left BadLeft LackLeft rest stop
     → IsStop Line Bad Lack bytes stop
 stop_after Line Bad Lack Left BadLeft LackLeft bytes read rest stops.Memory bytes_are lack goes stop = lack stop
-stop_after Line Bad Lack Left BadLeft LackLeft bytes read rest (stops.Syntax left) bytes_are lack goes stop =
-    (stops_after Line Left bytes read rest left bytes_are goes.line stop.0, λ kind place bad. stop.1 kind place (goes.back kind place (subst (Bad kind place) bytes_are bad)))
+stop_after Line Bad Lack Left BadLeft LackLeft bytes read rest (stops.Syntax left) bytes_are lack goes stop = (
+  stops_after Line Left bytes read rest left bytes_are goes.line stop.0,
+  λ kind place bad. stop.1 kind place (goes.back kind place (subst (Bad kind place)
+      bytes_are bad)),
+)
 stop_after Line Bad Lack Left BadLeft LackLeft bytes read rest (stops.Bad kind left) bytes_are lack goes stop = record {
   has = subst (Bad kind left) (sym bytes_are) (goes.onto kind left stop.has);
   first = λ other place bad. stop.first other place (goes.back other place (subst (Bad other place) bytes_are bad));
@@ -201,7 +216,11 @@ keywords_are_words ([] ∷ words) are = cc
 keywords_are_words ((b ∷ word) ∷ words) are = let two = both (is_word (b ∷ word)) (are_keywords words) are in (two.0, keywords_are_words words two.1)
 
 plain_table : (words : List (List ℕ)) → are_keywords words ≡ true → IsWordTable (plain words)
-plain_table words are = record { words = keywords_are_words words are; named = all_of (λ entry. lookup (plain words) entry.0 ≡ Some entry.1) (plain words) (listed words) }
+plain_table words are = record {
+  words = keywords_are_words words are;
+  named = all_of (λ entry. lookup (plain words) entry.0 ≡ Some entry.1) (plain words)
+      (listed words);
+}
 
 -- Where no part of the symbol goes on so, no line of it and no bad token stands there.
 pub record Refuses (symbol : Symbol) (After : List ℕ → Type 0) (bytes : List ℕ) (left : ℕ) : Type 0 where
@@ -215,7 +234,9 @@ pub refuses_at : (symbol : Symbol) (After : List ℕ → Type 0) → is_symbol s
     → (bytes : List ℕ) (left : ℕ) → LeavesAt symbol bytes left → Refuses symbol After bytes left
 refuses_at AnyBlanks After is ends line some bytes left leaves = absurd leaves
 refuses_at AnyGap After is ends line some bytes left (left_is, blankless) = record {
-  stop = subst (StopsBefore (One AnyGap After) bytes) (sym left_is) (stops_here (One AnyGap After) bytes (codes " " ++ line) (tt, tt, (codes " ", line, refl, ((refl, tt), λ none. cc), some)) (λ more same (content, allows, then). no_gap After more (EndsRun-first_byte is_blank bytes more same blankless) then));
+  stop = subst (StopsBefore (One AnyGap After) bytes) (sym left_is) (stops_here (One AnyGap After) bytes (codes " " ++ line)
+      (tt, tt, (codes " ", line, refl, ((refl, tt), λ none. cc), some)) (λ more same (content, allows, then). no_gap After more
+      (EndsRun-first_byte is_blank bytes more same blankless) then));
   no_bad = λ kind place bad. bad.1;
 }
 refuses_at (Sign sign) After is ends line some bytes left leaves = record {
@@ -232,21 +253,30 @@ refuses_at (OneWord (word ∷ words)) After is ends line some bytes left leaves 
   no_bad = λ kind place bad. bad.1;
 }
 refuses_at AnyName After is ends line some bytes left (left_is, nameless) = record {
-  stop = subst (StopsBefore (One AnyName After) bytes) (sym left_is) (stops_here (One AnyName After) bytes (codes "a" ++ line) (codes "a", tt, (codes "a", line, refl, (refl, (refl, tt)), some)) (λ more same (name, allows, then). nameless (StartsName-first_byte more bytes same (Then-name-starts After name more then))));
-  no_bad = λ kind place (name, bad, rest, takes, at). nameless (subst StartsName (sym takes.bytes_are) (name_starts takes.prefix rest (subst IsName (sym takes.is.0) takes.is.1)));
+  stop = subst (StopsBefore (One AnyName After) bytes) (sym left_is) (stops_here (One AnyName After) bytes (codes "a" ++ line)
+      (codes "a", tt, (codes "a", line, refl, (refl, (refl, tt)), some)) (λ more same (name, allows, then). nameless (StartsName-first_byte more bytes same
+      (Then-name-starts After name more then))));
+  no_bad = λ kind place (name, bad, rest, takes, at). nameless (subst StartsName (sym takes.bytes_are) (name_starts takes.prefix rest
+      (subst IsName (sym takes.is.0) takes.is.1)));
 }
 refuses_at (AnyNumber most) After is ends line some bytes left (left_is, numberless) = record {
   stop = subst (StopsBefore (One (AnyNumber most) After) bytes) (sym left_is)
-      (stops_here (One (AnyNumber most) After) bytes (codes "0" ++ line) (0, tt, (codes "0", line, refl, (refl, refl), some)) (λ more same (number, allows, then). numberless (StartsNumber-first_byte more bytes same (Then-number-starts After most number more then))));
+      (stops_here (One (AnyNumber most) After) bytes (codes "0" ++ line) (0, tt, (codes "0", line, refl, (refl, refl), some))
+      (λ more same (number, allows, then). numberless (StartsNumber-first_byte more bytes same (Then-number-starts After most number more then))));
   no_bad = λ kind place (number, bad, rest, takes, at). numberless (subst StartsNumber (sym takes.bytes_are) (number_starts takes.prefix rest takes.is.0));
 }
 refuses_at AnyTimes After is ends line some bytes left (left_is, numberless) = record {
-  stop = subst (StopsBefore (One AnyTimes After) bytes) (sym left_is) (stops_here (One AnyTimes After) bytes (codes "0" ++ line) (0, tt, (codes "0", line, refl, (refl, refl), some)) (λ more same (number, allows, then). numberless (StartsNumber-first_byte more bytes same (Then-times-starts After number more then))));
+  stop = subst (StopsBefore (One AnyTimes After) bytes) (sym left_is) (stops_here (One AnyTimes After) bytes (codes "0" ++ line)
+      (0, tt, (codes "0", line, refl, (refl, refl), some)) (λ more same (number, allows, then). numberless (StartsNumber-first_byte more bytes same
+      (Then-times-starts After number more then))));
   no_bad = λ kind place (number, bad, rest, takes, at). numberless (subst StartsNumber (sym takes.bytes_are) (number_starts takes.prefix rest takes.is.0));
 }
 refuses_at (AnyClosed double) After is ends line some bytes left (inl (left_is, nameless)) = record {
   stop = subst (StopsBefore (One (AnyClosed double) After) bytes) (sym left_is)
-      (stops_here (One (AnyClosed double) After) bytes ((codes "a" ++ quote_byte double ∷ []) ++ line) (codes "a", tt, (codes "a" ++ quote_byte double ∷ [], line, refl, (refl, (refl, tt)), some)) (λ more same (name, allows, (prefix, rest, whole, part_is, after)). nameless (StartsName-first_byte more bytes same (closed_starts double name more prefix rest part_is whole))));
+      (stops_here (One (AnyClosed double) After) bytes ((codes "a" ++ quote_byte double ∷ []) ++ line)
+      (codes "a", tt, (codes "a" ++ quote_byte double ∷ [], line, refl, (refl, (refl, tt)), some))
+      (λ more same (name, allows, (prefix, rest, whole, part_is, after)). nameless (StartsName-first_byte more bytes same
+      (closed_starts double name more prefix rest part_is whole))));
   no_bad = λ kind place (name, bad, rest, takes, at). nameless (closed_starts double name bytes takes.prefix rest takes.is takes.bytes_are);
 }
 refuses_at (AnyClosed double) After is ends line some bytes left (inr (name, unread, whole, name_is, stops, differs, left_is)) = record {
@@ -255,7 +285,20 @@ refuses_at (AnyClosed double) After is ends line some bytes left (inr (name, unr
     unread = unread;
     bytes_are = whole;
     left_is = left_is;
-    viable = (quote_byte double ∷ line, (name, tt, (name ++ quote_byte double ∷ [], line, sym (append_assoc name (quote_byte double ∷ []) line), (refl, name_is), some)));
+    viable = (
+      quote_byte double ∷ line,
+      (
+        name,
+        tt,
+        (
+          name ++ quote_byte double ∷ [],
+          line,
+          sym (append_assoc name (quote_byte double ∷ []) line),
+          (refl, name_is),
+          some,
+        ),
+      ),
+    );
     none = λ more same (other, allows, (prefix, rest, there, part_is, after)).
         let run = closed_run double other name rest more part_is.1 name_is (EndsRun-first_byte is_name_byte unread more same stops)
         (sym (closed_bytes double other (name ++ more) prefix rest part_is.0 there)) in
@@ -266,7 +309,11 @@ refuses_at (AnyClosed double) After is ends line some bytes left (inr (name, unr
       (sym (closed_bytes double other bytes takes.prefix rest takes.is.0 takes.bytes_are) ∙ whole) in
       differs (sym (ap first_byte run.1));
 }
-refuses_at AnyValue After is ends line some bytes left leaves = record { stop = value_stops After ends line bytes left some leaves; no_bad = no_bad_value bytes left leaves }
+refuses_at AnyValue After is ends line some bytes left leaves = record {
+  stop = value_stops After ends line bytes left some leaves;
+  no_bad = no_bad_value bytes
+      left leaves;
+}
 
 -- No line of the symbol stands where reading stops in it.
 pub no_one : (symbol : Symbol) (After : List ℕ → Type 0) → is_symbol symbol ≡ true → Ended symbol After → (bytes : List ℕ) (left : ℕ)
@@ -306,7 +353,8 @@ module _ (enders : Enders) (symbol : Symbol) (symbols : List Symbol) (is : is_pr
       record {
         line = record {
           onto = λ more after. (content, reads.allowed, (takes.prefix, more, refl, takes.is, after));
-          back = λ more same (other, allows, then). (after_symbol symbol all.head (Follows symbols (λ _. Last)) ends content other allows (takes.prefix ++ more) more (takes_again symbol content bytes rest more takes same) then).1;
+          back = λ more same (other, allows, then). (after_symbol symbol all.head (Follows symbols (λ _. Last)) ends content other allows (takes.prefix ++ more)
+              more (takes_again symbol content bytes rest more takes same) then).1;
         };
         onto = λ kind left bad. inr (content, reads.allowed, (takes.prefix, rest, refl, takes.is, bad));
         back = λ kind left bad. ⊎_elim
@@ -333,7 +381,8 @@ module _ (enders : Enders) (symbol : Symbol) (symbols : List Symbol) (is : is_pr
         refuses.stop,
         λ kind place bad. ⊎_elim
             (λ (here : IsBad symbol kind place bytes). refuses.no_bad kind place here)
-            (λ (one : One symbol (BadFollows symbols Bad kind place) bytes). no_one symbol (BadFollows symbols Bad kind place) all.head (bads kind place) bytes left leaves one)
+            (λ (one : One symbol (BadFollows symbols Bad kind place) bytes). no_one symbol (BadFollows symbols Bad kind place) all.head (bads kind place)
+            bytes left leaves one)
             bad,
       )
   stop_at_symbol Lack bytes (stops.Bad kind left) leaves =

@@ -35,7 +35,11 @@ query_of_some bytes (query, (prefix, rest, whole, are_blanks, (n, leads))) = (pr
 -- a stop of the one language is one of the other
 pub stops_in_some : (bytes : List ℕ) (stop : Stop) → StopsInQuery bytes stop → IsStop SomeQuery BadQuery (Unit {0}) bytes stop
 stops_in_some bytes stops.Memory at = tt
-stops_in_some bytes (stops.Syntax left) (stop, none) = (stops_of_same SomeQuery IsQuery bytes left some_of_query (λ more same is. query_of_some more is) stop, none)
+stops_in_some bytes (stops.Syntax left) (stop, none) = (
+  stops_of_same SomeQuery IsQuery bytes left some_of_query (λ more same is. query_of_some more is)
+      stop,
+  none,
+)
 stops_in_some bytes (stops.Bad kind left) stop = record {
   has = stop.has;
   first = stop.first;
@@ -100,7 +104,8 @@ loosen end (suc n) place bytes at =
     (λ these leads. loosen end n next these leads) rest in
     ⊎_elim
     (λ (sign : ThenSign (turn place).signs From bytes). inl (sign_map From To step (turn place).signs bytes sign))
-    (λ (other : ThenOther IsBounded (turn place).other From bytes). inr (other_map IsBounded (λ _. Unit {0}) (λ this bound. tt) From To step (turn place).other bytes other))
+    (λ (other : ThenOther IsBounded (turn place).other From bytes). inr (other_map IsBounded (λ _. Unit {0}) (λ this bound. tt) From To step (turn place).other
+    bytes other))
     at
 
 pub query_of_kept : (command : Command) (bytes : List ℕ) → IsKeptQuery command bytes → QueryTo command bytes
@@ -123,4 +128,8 @@ end_is_asked place end none ends = cc
 
 pub query_is_asked : (command : Command) (bytes : List ℕ) → QueryTo command bytes → IsAsked command
 query_is_asked command bytes (prefix, rest, whole, are_blanks, (n, leads)) =
-    leads_keep turn is_loose (λ _. Unit {0}) (λ _. Unit {0}) IsAsked (λ place none. (each_sign_any (turn place).signs, each_other_any (λ _. Unit {0}) (turn place).other)) end_is_asked command n Start rest tt leads
+    leads_keep turn is_loose (λ _. Unit {0}) (λ _. Unit {0}) IsAsked (λ place none. (
+      each_sign_any (turn place).signs,
+      each_other_any (λ _. Unit {0})
+          (turn place).other,
+    )) end_is_asked command n Start rest tt leads

@@ -93,7 +93,19 @@ times_rest = codes "times" ++ 40 ∷ 49 ∷ 41 ∷ []
 
 times_of_line : (query : Query) (body : List BodyStep) → Line (TimesOf query body) (49 ∷ 41 ∷ [])
 times_of_line query body = line_join turn is_loose (TimesOf query body) (49 ∷ 41 ∷ [])
-    (inr (1, tt, tt, (codes "1", 41 ∷ [], refl, (refl, refl), loose_line (Closing query (steps.Repeat body 1)) (41 ∷ []) (closes_line query (steps.Repeat body 1)))))
+    (inr (
+      1,
+      tt,
+      tt,
+      (
+        codes "1",
+        41 ∷ [],
+        refl,
+        (refl, refl),
+        loose_line (Closing query (steps.Repeat body 1)) (41 ∷ [])
+            (closes_line query (steps.Repeat body 1)),
+      ),
+    ))
 
 opens_times_line : (query : Query) (body : List BodyStep) → Line (OpensTimes query body) (40 ∷ 49 ∷ 41 ∷ [])
 opens_times_line query body = by_sign (OpensTimes query body) 40 (TimesOf query body) (49 ∷ 41 ∷ []) refl (times_of_line query body)
@@ -197,7 +209,19 @@ pair_closes_line purpose key value = by_sign (PairCloses purpose key value) 41 (
 pair_value_line : (purpose : PairFor) (key : List ℕ) → Line (PairValue purpose key) (48 ∷ 41 ∷ [])
 pair_value_line purpose key =
     let zero_value : Value = values.Int (pos 0) in
-    line_join turn is_loose (PairValue purpose key) (48 ∷ 41 ∷ []) (inr (zero_value, tt, tt, (codes "0", 41 ∷ [], refl, inl (0, refl, (refl, refl)), loose_line (PairCloses purpose key zero_value) (41 ∷ []) (pair_closes_line purpose key zero_value))))
+    line_join turn is_loose (PairValue purpose key) (48 ∷ 41 ∷ []) (inr (
+      zero_value,
+      tt,
+      tt,
+      (
+        codes "0",
+        41 ∷ [],
+        refl,
+        inl (0, refl, (refl, refl)),
+        loose_line
+            (PairCloses purpose key zero_value) (41 ∷ []) (pair_closes_line purpose key zero_value),
+      ),
+    ))
 
 pair_key_line : (purpose : PairFor) (key : List ℕ) → Line (AfterPairKey purpose key) (44 ∷ 48 ∷ 41 ∷ [])
 pair_key_line purpose key = by_sign (AfterPairKey purpose key) 44 (PairValue purpose key) (48 ∷ 41 ∷ []) refl (pair_value_line purpose key)
@@ -222,7 +246,18 @@ quoted_pair_line : (purpose : PairFor) → Line (Quote (PairKey purpose)) (39 �
 quoted_pair_line purpose =
     let rest : List ℕ = 44 ∷ 48 ∷ 41 ∷ [] in
     by_sign (Quote (PairKey purpose)) 39 (InQuotes (PairKey purpose) false) (97 ∷ 39 ∷ rest) refl
-    (line_join turn is_loose (InQuotes (PairKey purpose) false) (97 ∷ 39 ∷ rest) (inr (codes "a", tt, tt, (codes "a" ++ 39 ∷ [], rest, refl, (refl, (refl, tt)), loose_line (AfterPairKey purpose (codes "a")) rest (pair_key_line purpose (codes "a"))))))
+    (line_join turn is_loose (InQuotes (PairKey purpose) false) (97 ∷ 39 ∷ rest) (inr (
+      codes "a",
+      tt,
+      tt,
+      (
+        codes "a" ++ 39 ∷ [],
+        rest,
+        refl,
+        (refl, (refl, tt)),
+        loose_line (AfterPairKey purpose (codes "a")) rest (pair_key_line purpose (codes "a")),
+      ),
+    )))
 
 found_label_line : (label : List ℕ) → Line (AfterFoundLabel label) (44 ∷ 39 ∷ 97 ∷ 39 ∷ 44 ∷ 48 ∷ 41 ∷ [])
 found_label_line label = by_sign (AfterFoundLabel label) 44 (Quote (PairKey (OfSource label))) (39 ∷ 97 ∷ 39 ∷ 44 ∷ 48 ∷ 41 ∷ []) refl
@@ -242,7 +277,19 @@ after_quoted_line (PairKey purpose) name = pair_key_line purpose name
 
 in_quotes_line : (quoted : Quoted) (double : Bool) → Line (InQuotes quoted double) (97 ∷ quote_byte double ∷ rest_of_quoted quoted)
 in_quotes_line quoted double = line_join turn is_loose (InQuotes quoted double) (97 ∷ quote_byte double ∷ rest_of_quoted quoted)
-    (inr (codes "a", tt, tt, (codes "a" ++ quote_byte double ∷ [], rest_of_quoted quoted, refl, (refl, (refl, tt)), loose_line (after_quoted quoted (codes "a")) (rest_of_quoted quoted) (after_quoted_line quoted (codes "a")))))
+    (inr (
+      codes "a",
+      tt,
+      tt,
+      (
+        codes "a" ++ quote_byte double ∷ [],
+        rest_of_quoted quoted,
+        refl,
+        (refl, (refl, tt)),
+        loose_line (after_quoted quoted (codes "a"))
+            (rest_of_quoted quoted) (after_quoted_line quoted (codes "a")),
+      ),
+    ))
 
 quote_line : (quoted : Quoted) → Line (Quote quoted) (39 ∷ 97 ∷ 39 ∷ rest_of_quoted quoted)
 quote_line quoted = by_sign (Quote quoted) 39 (InQuotes quoted false) (97 ∷ 39 ∷ rest_of_quoted quoted) refl (in_quotes_line quoted false)
@@ -275,7 +322,8 @@ body_table = word_table (map as_step_word body_words) refl
 
 body_apart : (next : Place) (bytes : List ℕ) → StandsWhole (map as_step_word body_words) bytes → NoSign ((95, next) ∷ []) bytes
 body_apart next bytes stands = subst (NoSign ((95, next) ∷ [])) (sym stands.bytes_are)
-    (all_in (λ (e : Entry StepWord). NoSign ((95, next) ∷ []) (e.0 ++ stands.rest)) (map as_step_word body_words) stands.entry (refl, (refl, (refl, (refl, (refl, tt))))) stands.within)
+    (all_in (λ (e : Entry StepWord). NoSign ((95, next) ∷ []) (e.0 ++ stands.rest)) (map as_step_word body_words) stands.entry
+    (refl, (refl, (refl, (refl, (refl, tt))))) stands.within)
 
 quoted_halts : (quoted : Quoted) (name : List ℕ) → place_halts turn is_loose NoByte (after_quoted quoted name) ≡ true
 quoted_halts (OneName purpose names) name = refl
@@ -366,7 +414,19 @@ compared_line : (into : Into) (key : List ℕ) (relation : Relation) → Line (C
 compared_line into key relation =
     let filter = relation_filter key relation (values.Int (pos 0)) in
     line_join turn is_loose (Compared into key relation) (48 ∷ 41 ∷ 41 ∷ rest_after into)
-    (inr (values.Int (pos 0), tt, tt, (codes "0", 41 ∷ 41 ∷ rest_after into, refl, inl (0, refl, (refl, refl)), loose_line (ClosesValue into filter) (41 ∷ 41 ∷ rest_after into) (closes_value_line into filter))))
+    (inr (
+      values.Int (pos 0),
+      tt,
+      tt,
+      (
+        codes "0",
+        41 ∷ 41 ∷ rest_after into,
+        refl,
+        inl (0, refl, (refl, refl)),
+        loose_line (ClosesValue into filter)
+            (41 ∷ 41 ∷ rest_after into) (closes_value_line into filter),
+      ),
+    ))
 
 opens_value_line : (into : Into) (key : List ℕ) (relation : Relation) → Line (OpensValue into key relation) (40 ∷ 48 ∷ 41 ∷ 41 ∷ rest_after into)
 opens_value_line into key relation = by_sign (OpensValue into key relation) 40 (Compared into key relation) (48 ∷ 41 ∷ 41 ∷ rest_after into) refl
@@ -374,7 +434,19 @@ opens_value_line into key relation = by_sign (OpensValue into key relation) 40 (
 
 relation_line : (into : Into) (key : List ℕ) → Line (RelationName into key) (codes "eq" ++ 40 ∷ 48 ∷ 41 ∷ 41 ∷ rest_after into)
 relation_line into key = line_join turn is_loose (RelationName into key) (codes "eq" ++ 40 ∷ 48 ∷ 41 ∷ 41 ∷ rest_after into)
-    (inr (codes "eq", inl refl, tt, (codes "eq", 40 ∷ 48 ∷ 41 ∷ 41 ∷ rest_after into, refl, refl, loose_line (OpensValue into key (relation_of (codes "eq"))) (40 ∷ 48 ∷ 41 ∷ 41 ∷ rest_after into) (opens_value_line into key (relation_of (codes "eq"))))))
+    (inr (
+      codes "eq",
+      inl refl,
+      tt,
+      (
+        codes "eq",
+        40 ∷ 48 ∷ 41 ∷ 41 ∷ rest_after into,
+        refl,
+        refl,
+        loose_line (OpensValue into key (relation_of (codes "eq")))
+            (40 ∷ 48 ∷ 41 ∷ 41 ∷ rest_after into) (opens_value_line into key (relation_of (codes "eq"))),
+      ),
+    ))
 
 -- ---- what a direction of an order begins with
 
@@ -390,7 +462,8 @@ BeginsOrder query key bytes = Begins {Word = StepWord} (Token (Sign (codes "Orde
 
 begins_sort : (query : Query) (key : Option (List ℕ)) (bytes : List ℕ) → BeginsSort query key bytes → Starts starts_sort bytes
 begins_sort query key bytes (inl (word, within, (prefix, rest, whole, is, after))) =
-    subst (Starts starts_sort) (sym (whole ∙ ap (λ p. p ++ rest) is)) (all_in (λ (e : Entry (Unit {0})). Starts starts_sort (e.0 ++ rest)) (plain sort_names) (word, tt) (refl, (refl, tt)) within)
+    subst (Starts starts_sort) (sym (whole ∙ ap (λ p. p ++ rest) is)) (all_in (λ (e : Entry (Unit {0})). Starts starts_sort (e.0 ++ rest)) (plain sort_names)
+    (word, tt) (refl, (refl, tt)) within)
 begins_sort query key bytes (inr (kind, left, (word, bad, rest, takes, at))) = absurd bad
 
 begins_order : (query : Query) (key : Option (List ℕ)) (bytes : List ℕ) → BeginsOrder query key bytes → Starts (λ b. nat_eq b 79) bytes
@@ -491,12 +564,28 @@ abbrev SortEnded : Query → Option (List ℕ) → Type 0
 SortEnded query key = IsEnded {Word = StepWord} turn is_loose (Token (OneWord sort_names) (λ word. ByCloses query key (is_descending word)))
 
 sort_ended : (query : Query) (key : Option (List ℕ)) → SortEnded query key
-sort_ended query key = (refl, λ word. refl, (41 ∷ [], λ word. loose_line (ByCloses query key (is_descending word)) (41 ∷ []) (by_closes_line query key (is_descending word))))
+sort_ended query key = (
+  refl,
+  λ word. refl,
+  (
+    41 ∷ [],
+    λ word. loose_line (ByCloses query key (is_descending word)) (41 ∷ []) (by_closes_line query key
+        (is_descending word)),
+  ),
+)
 
 direction_ended : (query : Query) (key : Option (List ℕ)) → IsEnded turn is_loose (direction_of query key)
 direction_ended query key = (
   sort_ended query key,
-  (refl, λ content. refl, (46 ∷ (codes "asc" ++ 41 ∷ []), λ content. loose_line (AfterOrderWord query key) (46 ∷ (codes "asc" ++ 41 ∷ [])) (after_order_word_line query key))),
+  (
+    refl,
+    λ content. refl,
+    (
+      46 ∷ (codes "asc" ++ 41 ∷ []),
+      λ content. loose_line (AfterOrderWord query key) (46 ∷ (codes "asc" ++ 41 ∷ []))
+          (after_order_word_line query key),
+    ),
+  ),
   λ bytes sort order. no_sort_order bytes (begins_sort query key bytes sort) (begins_order query key bytes order),
   tt,
   tt,
@@ -535,7 +624,15 @@ are (FirstId edges) = record {
   ended = (refl, λ id. refl, (41 ∷ [], λ id. loose_line (AfterId edges (id ∷ [])) (41 ∷ []) (after_id_line edges (id ∷ []))));
   alone = λ end ends. cc;
 }
-are (NextId edges ids) = other_is _ _ refl refl (refl, λ id. refl, (41 ∷ [], λ id. loose_line (AfterId edges (ids ++ id ∷ [])) (41 ∷ []) (after_id_line edges (ids ++ id ∷ []))))
+are (NextId edges ids) = other_is _ _ refl refl (
+  refl,
+  λ id. refl,
+  (
+    41 ∷ [],
+    λ id. loose_line (AfterId edges (ids ++ id ∷ [])) (41 ∷ [])
+        (after_id_line edges (ids ++ id ∷ [])),
+  ),
+)
 are (StepName query) = other_is _ _ refl refl (step_table, λ word. refl)
 are (ValueOf into key) = record {
   no_blank = refl;
@@ -544,17 +641,57 @@ are (ValueOf into key) = record {
       (λ (value : BeginsValue into key bytes). value_apart (AfterP into key) bytes (begins_value into key bytes value))
       begins;
   ended = (
-    (refl, λ word. refl, (40 ∷ 48 ∷ 41 ∷ 41 ∷ rest_after into, λ word. loose_line (OpensValue into key (relation_of word)) (40 ∷ 48 ∷ 41 ∷ 41 ∷ rest_after into) (opens_value_line into key (relation_of word)))),
-    (refl, λ value. refl, (41 ∷ rest_after into, λ value. loose_line (ClosesFilter into (value_filter key value)) (41 ∷ rest_after into) (closes_filter_line into (value_filter key value)))),
+    (
+      refl,
+      λ word. refl,
+      (
+        40 ∷ 48 ∷ 41 ∷ 41 ∷ rest_after into,
+        λ word. loose_line (OpensValue into key (relation_of word)) (40 ∷ 48 ∷ 41 ∷ 41 ∷ rest_after into)
+            (opens_value_line into key (relation_of word)),
+      ),
+    ),
+    (
+      refl,
+      λ value. refl,
+      (
+        41 ∷ rest_after into,
+        λ value. loose_line (ClosesFilter into (value_filter key value)) (41 ∷ rest_after into)
+            (closes_filter_line into (value_filter key value)),
+      ),
+    ),
     λ bytes word value. no_relation_value bytes (begins_relation into key bytes word) (begins_value into key bytes value),
     tt,
     tt,
   );
   alone = λ end ends. cc;
 }
-are (RelationName into key) = other_is _ _ refl refl (refl, λ word. refl, (40 ∷ 48 ∷ 41 ∷ 41 ∷ rest_after into, λ word. loose_line (OpensValue into key (relation_of word)) (40 ∷ 48 ∷ 41 ∷ 41 ∷ rest_after into) (opens_value_line into key (relation_of word))))
-are (Compared into key relation) = other_is _ _ refl refl (refl, λ value. refl, (41 ∷ 41 ∷ rest_after into, λ value. loose_line (ClosesValue into (relation_filter key relation value)) (41 ∷ 41 ∷ rest_after into) (closes_value_line into (relation_filter key relation value))))
-are (Most query) = other_is _ _ refl refl (refl, λ most. refl, (41 ∷ [], λ most. loose_line (Closing query (steps.Limit most)) (41 ∷ []) (closes_line query (steps.Limit most))))
+are (RelationName into key) = other_is _ _ refl refl (
+  refl,
+  λ word. refl,
+  (
+    40 ∷ 48 ∷ 41 ∷ 41 ∷ rest_after into,
+    λ word. loose_line
+        (OpensValue into key (relation_of word)) (40 ∷ 48 ∷ 41 ∷ 41 ∷ rest_after into) (opens_value_line into key (relation_of word)),
+  ),
+)
+are (Compared into key relation) = other_is _ _ refl refl (
+  refl,
+  λ value. refl,
+  (
+    41 ∷ 41 ∷ rest_after into,
+    λ value. loose_line
+        (ClosesValue into (relation_filter key relation value)) (41 ∷ 41 ∷ rest_after into) (closes_value_line into (relation_filter key relation value)),
+  ),
+)
+are (Most query) = other_is _ _ refl refl (
+  refl,
+  λ most. refl,
+  (
+    41 ∷ [],
+    λ most. loose_line (Closing query (steps.Limit most)) (41 ∷ [])
+        (closes_line query (steps.Limit most)),
+  ),
+)
 are (OrderedName query) = other_is _ _ refl refl (ordered_table, λ word. refl)
 are (ByFirst query) = record {
   no_blank = refl;
@@ -564,7 +701,15 @@ are (ByFirst query) = record {
 }
 are (OrderDirection query key) = other_is _ _ refl refl (direction_ended query key)
 are (DirectionName query key) = other_is _ _ refl refl (sort_ended query key)
-are (InQuotes quoted double) = other_is _ _ refl refl (refl, quoted_halts quoted, (rest_of_quoted quoted, λ name. loose_line (after_quoted quoted name) (rest_of_quoted quoted) (after_quoted_line quoted name)))
+are (InQuotes quoted double) = other_is _ _ refl refl (
+  refl,
+  quoted_halts quoted,
+  (
+    rest_of_quoted quoted,
+    λ name. loose_line (after_quoted quoted name)
+        (rest_of_quoted quoted) (after_quoted_line quoted name),
+  ),
+)
 are (BodyFirst query) = record {
   no_blank = refl;
   apart = λ bytes begins. body_apart (Underscore query) bytes begins;
@@ -572,18 +717,70 @@ are (BodyFirst query) = record {
   alone = λ end ends. cc;
 }
 are (BodyName query body) = other_is _ _ refl refl (body_table, λ word. refl)
-are (TimesWord query body) = other_is _ _ refl refl (refl, λ word. refl, (40 ∷ 49 ∷ 41 ∷ [], λ word. loose_line (OpensTimes query body) (40 ∷ 49 ∷ 41 ∷ []) (opens_times_line query body)))
-are (TimesOf query body) = other_is _ _ refl refl (refl, λ times. refl, (41 ∷ [], λ times. loose_line (Closing query (steps.Repeat body times)) (41 ∷ []) (closes_line query (steps.Repeat body times))))
-are (ToWord query label) = other_is _ _ refl refl (refl, λ word. refl, (40 ∷ vertex_rest, λ word. loose_line (OpensTo query label) (40 ∷ vertex_rest) (opens_to_line query label)))
-are (ToId query label) = other_is _ _ refl refl (refl, λ to. refl, (41 ∷ 41 ∷ [], λ to. loose_line (IdCloses query label to) (41 ∷ 41 ∷ []) (id_closes_line query label to)))
+are (TimesWord query body) = other_is _ _ refl refl (
+  refl,
+  λ word. refl,
+  (
+    40 ∷ 49 ∷ 41 ∷ [],
+    λ word. loose_line (OpensTimes query body) (40 ∷ 49 ∷ 41 ∷ [])
+        (opens_times_line query body),
+  ),
+)
+are (TimesOf query body) = other_is _ _ refl refl (
+  refl,
+  λ times. refl,
+  (
+    41 ∷ [],
+    λ times. loose_line (Closing query (steps.Repeat body times)) (41 ∷ [])
+        (closes_line query (steps.Repeat body times)),
+  ),
+)
+are (ToWord query label) = other_is _ _ refl refl (
+  refl,
+  λ word. refl,
+  (
+    40 ∷ vertex_rest,
+    λ word. loose_line (OpensTo query label) (40 ∷ vertex_rest)
+        (opens_to_line query label),
+  ),
+)
+are (ToId query label) = other_is _ _ refl refl (
+  refl,
+  λ to. refl,
+  (
+    41 ∷ 41 ∷ [],
+    λ to. loose_line (IdCloses query label to) (41 ∷ 41 ∷ [])
+        (id_closes_line query label to),
+  ),
+)
 are (PropertyName subject pairs) = other_is _ _ refl refl (property_table, λ word. refl)
-are (PairValue purpose key) = other_is _ _ refl refl (refl, λ value. refl, (41 ∷ [], λ value. loose_line (PairCloses purpose key value) (41 ∷ []) (pair_closes_line purpose key value)))
+are (PairValue purpose key) = other_is _ _ refl refl (
+  refl,
+  λ value. refl,
+  (
+    41 ∷ [],
+    λ value. loose_line (PairCloses purpose key value) (41 ∷ [])
+        (pair_closes_line purpose key value),
+  ),
+)
 are place = record { no_blank = refl; apart = λ bytes none. absurd none; ended = tt; alone = λ end ends. refl }
 
 -- ---- a line of each of the other places
 
 most_line : (query : Query) → Line (Most query) (48 ∷ 41 ∷ [])
-most_line query = line_join turn is_loose (Most query) (48 ∷ 41 ∷ []) (inr (0, tt, tt, (codes "0", 41 ∷ [], refl, (refl, refl), loose_line (Closing query (steps.Limit 0)) (41 ∷ []) (closes_line query (steps.Limit 0)))))
+most_line query = line_join turn is_loose (Most query) (48 ∷ 41 ∷ []) (inr (
+  0,
+  tt,
+  tt,
+  (
+    codes "0",
+    41 ∷ [],
+    refl,
+    (refl, refl),
+    loose_line
+        (Closing query (steps.Limit 0)) (41 ∷ []) (closes_line query (steps.Limit 0)),
+  ),
+))
 
 first_name_line : (purpose : NamesFor) → Line (FirstName purpose) (41 ∷ rest_of_names purpose)
 first_name_line purpose = by_sign (FirstName purpose) 41 (after_names purpose []) (rest_of_names purpose) refl (after_names_line purpose [])
@@ -609,8 +806,11 @@ body_some place query body is =
     let out = of_body.Neighbours directions.Outgoing in
     let later = opens_body_some query body out in
     let other : ThenOther (λ _. Unit {0}) (body_name query body) (Loosely turn is_loose (LineFrom turn is_loose)) (codes "out" ++ later.0) =
-    (as_step_word (codes "out", out), inl refl, tt, (codes "out", later.0, refl, refl, loose_line (OpensBody query body out) later.0 later.1)) in
-    (codes "out" ++ later.0, line_join turn is_loose place (codes "out" ++ later.0) (inr (subst (λ o. ThenOther (λ _. Unit {0}) o (Loosely turn is_loose (LineFrom turn is_loose)) (codes "out" ++ later.0)) (sym is) other)))
+    (as_step_word (codes "out", out), inl refl, tt, (codes "out", later.0, refl, refl, loose_line (OpensBody query body out) later.0 later.1)) in (
+      codes "out" ++ later.0,
+      line_join turn is_loose place (codes "out" ++ later.0)
+          (inr (subst (λ o. ThenOther (λ _. Unit {0}) o (Loosely turn is_loose (LineFrom turn is_loose)) (codes "out" ++ later.0)) (sym is) other)),
+    )
 
 order_closes_line : (query : Query) → Line (OrderCloses query) (41 ∷ [])
 order_closes_line query = by_sign (OrderCloses query) 41 (Ordered (with_step query plain_order)) [] refl (ordered_line (with_step query plain_order))
@@ -655,18 +855,65 @@ some SourceName = (_, source_line)
 some (Opening kind) = (_, opening_line kind)
 some (FirstId edges) = (_, first_id_line edges)
 some (AfterId edges ids) = (_, after_id_line edges ids)
-some (NextId edges ids) = (48 ∷ 41 ∷ [], line_join turn is_loose (NextId edges ids) (48 ∷ 41 ∷ []) (inr (0, tt, tt, (codes "0", 41 ∷ [], refl, (refl, refl), loose_line (AfterId edges (ids ++ 0 ∷ [])) (41 ∷ []) (after_id_line edges (ids ++ 0 ∷ []))))))
+some (NextId edges ids) = (
+  48 ∷ 41 ∷ [],
+  line_join turn is_loose (NextId edges ids) (48 ∷ 41 ∷ [])
+      (inr (0, tt, tt, (codes "0", 41 ∷ [], refl, (refl, refl), loose_line (AfterId edges (ids ++ 0 ∷ [])) (41 ∷ []) (after_id_line edges (ids ++ 0 ∷ []))))),
+)
 some (Steps query) = (_, steps_line query)
 some (StepName query) =
-    let later = opens_some query (words.Bare bare.Count) in
-    (codes "count" ++ later.0, line_join turn is_loose (StepName query) (codes "count" ++ later.0) (inr ((codes "count", words.Bare bare.Count), inr (inr (inr (inr (inr (inr (inr (inr (inr (inr (inr (inr (inr (inr (inr (inl refl))))))))))))))), tt, (codes "count", later.0, refl, refl, loose_line (Opens query (words.Bare bare.Count)) later.0 later.1))))
+    let later = opens_some query (words.Bare bare.Count) in (
+      codes "count" ++ later.0,
+      line_join turn is_loose (StepName query) (codes "count" ++ later.0) (inr (
+        (codes "count", words.Bare bare.Count),
+        inr
+            (inr (inr (inr (inr (inr (inr (inr (inr (inr (inr (inr (inr (inr (inr (inl refl))))))))))))))),
+        tt,
+        (
+          codes "count",
+          later.0,
+          refl,
+          refl,
+          loose_line
+              (Opens query (words.Bare bare.Count)) later.0 later.1,
+        ),
+      )),
+    )
 some (Opens query word) = opens_some query word
 some (Closing query step) = (_, closes_line query step)
 some (FirstName purpose) = (_, first_name_line purpose)
-some (AfterName purpose names) = (_, by_sign (AfterName purpose names) 41 (after_names purpose names) (rest_of_names purpose) refl (after_names_line purpose names))
-some (AfterKey into key) = (_, by_sign (AfterKey into key) 41 (after_filter into (filters.Has key)) (rest_after into) refl (after_filter_line into (filters.Has key)))
-some (ValueOf into key) = (48 ∷ 41 ∷ rest_after into, line_join turn is_loose (ValueOf into key) (48 ∷ 41 ∷ rest_after into) (inr (inr (values.Int (pos 0), tt, tt, (codes "0", 41 ∷ rest_after into, refl, inl (0, refl, (refl, refl)), loose_line (ClosesFilter into (value_filter key (values.Int (pos 0)))) (41 ∷ rest_after into) (closes_filter_line into (value_filter key (values.Int (pos 0)))))))))
-some (AfterP into key) = (_, by_sign (AfterP into key) 46 (RelationName into key) (codes "eq" ++ 40 ∷ 48 ∷ 41 ∷ 41 ∷ rest_after into) refl (relation_line into key))
+some (AfterName purpose names) = (
+  _,
+  by_sign (AfterName purpose names) 41 (after_names purpose names) (rest_of_names purpose) refl
+      (after_names_line purpose names),
+)
+some (AfterKey into key) = (
+  _,
+  by_sign (AfterKey into key) 41 (after_filter into (filters.Has key)) (rest_after into) refl (after_filter_line into
+      (filters.Has key)),
+)
+some (ValueOf into key) = (
+  48 ∷ 41 ∷ rest_after into,
+  line_join turn is_loose (ValueOf into key) (48 ∷ 41 ∷ rest_after into)
+      (inr (inr (
+        values.Int (pos 0),
+        tt,
+        tt,
+        (
+          codes "0",
+          41 ∷ rest_after into,
+          refl,
+          inl (0, refl, (refl, refl)),
+          loose_line
+              (ClosesFilter into (value_filter key (values.Int (pos 0)))) (41 ∷ rest_after into) (closes_filter_line into (value_filter key (values.Int (pos 0)))),
+        ),
+      ))),
+)
+some (AfterP into key) = (
+  _,
+  by_sign (AfterP into key) 46 (RelationName into key) (codes "eq" ++ 40 ∷ 48 ∷ 41 ∷ 41 ∷ rest_after into) refl
+      (relation_line into key),
+)
 some (RelationName into key) = (_, relation_line into key)
 some (OpensValue into key relation) = (_, opens_value_line into key relation)
 some (Compared into key relation) = (_, compared_line into key relation)
@@ -676,19 +923,45 @@ some (Most query) = (_, most_line query)
 some (OrderCloses query) = (_, order_closes_line query)
 some (Ordered query) = (_, ordered_line query)
 some (OrderedName query) =
-    let later = opens_some query words.By in
-    (codes "by" ++ later.0, line_join turn is_loose (OrderedName query) (codes "by" ++ later.0) (inr ((codes "by", words.By), inl refl, tt, (codes "by", later.0, refl, refl, loose_line (Opens query words.By) later.0 later.1))))
+    let later = opens_some query words.By in (
+      codes "by" ++ later.0,
+      line_join turn is_loose (OrderedName query) (codes "by" ++ later.0)
+          (inr ((codes "by", words.By), inl refl, tt, (codes "by", later.0, refl, refl, loose_line (Opens query words.By) later.0 later.1))),
+    )
 some (ByFirst query) = (_, by_first_line query)
-some (AfterOrderKey query key) = (_, by_sign (AfterOrderKey query key) 41 (Steps (reordered query (Some key) false)) [] refl (steps_line (reordered query (Some key) false)))
-some (OrderDirection query key) = (codes "asc" ++ 41 ∷ [], line_join turn is_loose (OrderDirection query key) (codes "asc" ++ 41 ∷ []) (inr (inl (codes "asc", inl refl, tt, (codes "asc", 41 ∷ [], refl, refl, loose_line (ByCloses query key false) (41 ∷ []) (by_closes_line query key false))))))
+some (AfterOrderKey query key) = (
+  _,
+  by_sign (AfterOrderKey query key) 41 (Steps (reordered query (Some key) false)) [] refl
+      (steps_line (reordered query (Some key) false)),
+)
+some (OrderDirection query key) = (
+  codes "asc" ++ 41 ∷ [],
+  line_join turn is_loose (OrderDirection query key) (codes "asc" ++ 41 ∷ [])
+      (inr (inl (
+        codes "asc",
+        inl refl,
+        tt,
+        (
+          codes "asc",
+          41 ∷ [],
+          refl,
+          refl,
+          loose_line (ByCloses query key false) (41 ∷ [])
+              (by_closes_line query key false),
+        ),
+      ))),
+)
 some (AfterOrderWord query key) = (_, after_order_word_line query key)
 some (DirectionName query key) = (_, sort_line query key)
 some (ByCloses query key descending) = (_, by_closes_line query key descending)
 some (Quote quoted) = (_, quote_line quoted)
 some (InQuotes quoted double) = (_, in_quotes_line quoted double)
 some (BodyFirst query) = body_some (BodyFirst query) query [] refl
-some (Underscore query) = let later = body_some (BodyName query []) query [] refl in
-    (95 ∷ 46 ∷ later.0, by_sign (Underscore query) 95 (AfterAnonymous query) (46 ∷ later.0) refl (by_sign (AfterAnonymous query) 46 (BodyName query []) later.0 refl later.1))
+some (Underscore query) = let later = body_some (BodyName query []) query [] refl in (
+  95 ∷ 46 ∷ later.0,
+  by_sign (Underscore query) 95 (AfterAnonymous query) (46 ∷ later.0) refl (by_sign (AfterAnonymous query) 46 (BodyName query [])
+      later.0 refl later.1),
+)
 some (AfterAnonymous query) = let later = body_some (BodyName query []) query [] refl in
     (46 ∷ later.0, by_sign (AfterAnonymous query) 46 (BodyName query []) later.0 refl later.1)
 some (BodyName query body) = body_some (BodyName query body) query body refl
@@ -715,7 +988,22 @@ some (ToCloses query label to) = (_, to_closes_line query label to)
 some (DropCloses query) = (_, drop_line query)
 some (Dropped query) = ([], (zero, commands.Mutate (Some query) mutations.Drop, (refl, refl)))
 some (Changed subject pairs) = (_, changed_line subject pairs)
-some (PropertyName subject pairs) = (codes "property" ++ opened_property, line_join turn is_loose (PropertyName subject pairs) (codes "property" ++ opened_property) (inr ((codes "property", words.Change changes.Property), inl refl, tt, (codes "property", opened_property, refl, refl, loose_line (OpensProperty subject pairs) opened_property (opens_property_line subject pairs)))))
+some (PropertyName subject pairs) = (
+  codes "property" ++ opened_property,
+  line_join turn is_loose (PropertyName subject pairs)
+      (codes "property" ++ opened_property) (inr (
+        (codes "property", words.Change changes.Property),
+        inl refl,
+        tt,
+        (
+          codes "property",
+          opened_property,
+          refl,
+          refl,
+          loose_line (OpensProperty subject pairs) opened_property (opens_property_line subject pairs),
+        ),
+      )),
+)
 some (OpensProperty subject pairs) = (_, opens_property_line subject pairs)
 some (AfterPairKey purpose key) = (_, pair_key_line purpose key)
 some (PairValue purpose key) = (_, pair_value_line purpose key)

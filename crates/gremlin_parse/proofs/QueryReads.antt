@@ -95,8 +95,11 @@ leaves_sign b next bytes (stops.Syntax left) leaves = at leaves.read leaves.word
   where
     at : (read : List ℕ) → b ∷ [] ≡ read ++ leaves.next ∷ leaves.more → bytes ≡ read ++ leaves.unread → NoSign ((b, next) ∷ []) bytes × (left ≡ length bytes)
     at [] word whole =
-        let same : leaves.next ≡ b = cc in
-        (no_one_sign b next bytes (λ first. leaves.differs (ap first_byte (sym whole) ∙ first ∙ ap (λ (n : ℕ). Some n) (sym same))), leaves.left_is ∙ ap length (sym whole))
+        let same : leaves.next ≡ b = cc in (
+          no_one_sign b next bytes (λ first. leaves.differs (ap first_byte (sym whole) ∙ first ∙ ap (λ (n : ℕ). Some n) (sym same))),
+          leaves.left_is ∙ ap length
+              (sym whole),
+        )
     at (c ∷ []) word whole = cc
     at (c ∷ d ∷ read) word whole = cc
 leaves_sign b next bytes (stops.Bad kind left) leaves = absurd leaves.1
@@ -360,7 +363,8 @@ pub stop_after_id : (bytes rest after : List ℕ) (ids : List ℕ) (id : ℕ) (m
 stop_after_id bytes rest after ids id more stop goes so_far (middle, reads, blanks) leaves edges =
     let one = on (FirstId edges) bytes (NextId edges ids) rest (AfterId edges (ids ++ id ∷ [])) after (to_next_id bytes rest ids more goes so_far edges)
     (next_id_leads edges ids id rest middle after reads blanks) in
-    one.stops stop (stop_at_comma (AfterId edges (ids ++ id ∷ [])) (NextId edges (ids ++ id ∷ [])) (Steps (query_from (elements_of edges (ids ++ id ∷ [])))) after stop refl leaves)
+    one.stops stop (stop_at_comma (AfterId edges (ids ++ id ∷ [])) (NextId edges (ids ++ id ∷ [])) (Steps (query_from (elements_of edges (ids ++ id ∷ []))))
+    after stop refl leaves)
 
 pub ids_done : (bytes rest : List ℕ) (ids : List ℕ) (more : Bool) → more ≡ false → IdsSoFar bytes more ids rest → (edges : Bool)
     → LeadsTo (FirstId edges) bytes (Steps (query_from (elements_of edges ids))) rest
@@ -409,15 +413,31 @@ read_faultless stage is_ordered bytes rest word no_bad takes = by_fault (step_fa
   where
     by_fault : (found : Option BadToken) → step_fault stage word bytes ≡ found → step_fault stage word bytes ≡ None
     by_fault None is = is
-    by_fault (Some kind) is = absurd (no_bad kind (length bytes) (whole_word_fault stage is_ordered bytes word (whole_word_of (words_after is_ordered) (table_after is_ordered) bytes rest word takes) kind is))
+    by_fault (Some kind) is = absurd (no_bad kind (length bytes) (whole_word_fault stage is_ordered bytes word (whole_word_of (words_after is_ordered)
+        (table_after is_ordered) bytes rest word takes) kind is))
 
 -- No step has the name `by`.
 pub by_is_ordered : (is_ordered : Bool) (bytes rest : List ℕ) (word : StepWord) → TakesWord (words_after is_ordered) bytes word rest → word ≡ words.By
     → is_ordered ≡ true
 by_is_ordered true bytes rest word takes by = refl
 by_is_ordered false bytes rest word (run, cut, is) by =
-    let other : is_by word ≡ false = all_in (λ (e : Entry StepWord). is_by e.1 ≡ false) step_words (run, word)
-    (refl, (refl, (refl, (refl, (refl, (refl, (refl, (refl, (refl, (refl, (refl, (refl, (refl, (refl, (refl, (refl, (refl, (refl, (refl, (refl, (refl, (refl, tt)))))))))))))))))))))) (lookup_in step_words run word is) in
+    let other : is_by word ≡ false = all_in (λ (e : Entry StepWord). is_by e.1 ≡ false) step_words (run, word) (
+      refl,
+      (
+        refl,
+        (
+          refl,
+          (
+            refl,
+            (
+              refl,
+              (refl, (refl, (refl, (refl, (refl, (refl, (refl, (refl, (refl, (refl, (refl, (refl, (refl, (refl, (refl, (refl, (refl, tt))))))))))))))))),
+            ),
+          ),
+        ),
+      ),
+    )
+    (lookup_in step_words run word is) in
     let clash : true ≡ false = ap is_by (sym by) ∙ other in
     cc
 
@@ -430,11 +450,33 @@ word_leads : (is_ordered : Bool) (query : Query) (word : StepWord) (bytes middle
     → LeadsTo (names_place is_ordered query) bytes (Opens query word) rest
 word_leads true query word bytes middle rest no_fault (run, cut, is) blanks =
     reaches_next turn is_loose are some (OrderedName query) bytes (Opens query word) middle rest
-    (record { prefix = run; bytes_are = cut.bytes_are; how = inr (word, refl, subst (λ b. step_fault (stage_of query) word b ≡ None) cut.bytes_are no_fault, is, cut.passes, cut.ends) })
+    (record {
+      prefix = run;
+      bytes_are = cut.bytes_are;
+      how = inr (
+        word,
+        refl,
+        subst (λ b. step_fault (stage_of query) word b ≡ None) cut.bytes_are no_fault,
+        is,
+        cut.passes,
+        cut.ends,
+      );
+    })
     blanks
 word_leads false query word bytes middle rest no_fault (run, cut, is) blanks =
     reaches_next turn is_loose are some (StepName query) bytes (Opens query word) middle rest
-    (record { prefix = run; bytes_are = cut.bytes_are; how = inr (word, refl, subst (λ b. step_fault (stage_of query) word b ≡ None) cut.bytes_are no_fault, is, cut.passes, cut.ends) })
+    (record {
+      prefix = run;
+      bytes_are = cut.bytes_are;
+      how = inr (
+        word,
+        refl,
+        subst (λ b. step_fault (stage_of query) word b ≡ None) cut.bytes_are no_fault,
+        is,
+        cut.passes,
+        cut.ends,
+      );
+    })
     blanks
 
 pub after_step_loose : (into : Into) (step : BodyStep) → is_loose (after_step into step) ≡ true
@@ -493,7 +535,8 @@ pub stop_at_step_name : (stage : Stage) (is_ordered : Bool) (bytes at_name : Lis
     → LeavesWords (words_after is_ordered) (step_fault stage) at_name stop → (query : Query) → stage_of query ≡ stage
     → StopsFrom (steps_place is_ordered query) bytes stop
 stop_at_step_name stage is_ordered bytes at_name stop token leaves query same =
-    (dot_leads is_ordered query bytes at_name token).stops stop (stop_at_name is_ordered query at_name stop (subst (λ (s : Stage). LeavesWords (words_after is_ordered) (step_fault s) at_name stop) (sym same) leaves))
+    (dot_leads is_ordered query bytes at_name token).stops stop (stop_at_name is_ordered query at_name stop
+    (subst (λ (s : Stage). LeavesWords (words_after is_ordered) (step_fault s) at_name stop) (sym same) leaves))
 
 -- The name has no fault after the query so far.
 faultless : (stage : Stage) (word : StepWord) (bytes : List ℕ) (query : Query) → step_fault stage word bytes ≡ None → stage_of query ≡ stage
@@ -565,7 +608,8 @@ first_names bytes after rest name more reads token = λ purpose place quotes.
 pub stop_after_first_name : (bytes after name : List ℕ) (stop : Stop) → NameReads name bytes after → LeavesBoth 44 41 after stop
     → (purpose : NamesFor) (place : Place) → QuotesAt place (OneName purpose []) bytes → StopsFrom place bytes stop
 stop_after_first_name bytes after name stop reads leaves purpose place quotes =
-    (reads place (OneName purpose []) quotes).stops stop (stop_at_comma (AfterName purpose (name ∷ [])) (Quote (OneName purpose (name ∷ []))) (after_names purpose (name ∷ [])) after stop refl leaves)
+    (reads place (OneName purpose []) quotes).stops stop (stop_at_comma (AfterName purpose (name ∷ [])) (Quote (OneName purpose (name ∷ [])))
+    (after_names purpose (name ∷ [])) after stop refl leaves)
 
 to_next_name : (bytes rest : List ℕ) (names : List (List ℕ)) (more : Bool) → more ≡ true → NamesSoFar bytes more names rest
     → (purpose : NamesFor) (place : Place) → QuotesAt place (OneName purpose []) bytes → LeadsTo place bytes (Quote (OneName purpose names)) rest
@@ -594,7 +638,8 @@ stop_after_name bytes rest after name names more stop goes so_far reads leaves p
     let quoted : Quoted = OneName purpose names in
     let one = on place bytes (Quote quoted) rest (AfterName purpose (names ++ name ∷ [])) after
     (to_next_name bytes rest names more goes so_far purpose place quotes) (reads (Quote quoted) quoted (quotes_at quoted rest)) in
-    one.stops stop (stop_at_comma (AfterName purpose (names ++ name ∷ [])) (Quote (OneName purpose (names ++ name ∷ []))) (after_names purpose (names ++ name ∷ [])) after stop refl leaves)
+    one.stops stop (stop_at_comma (AfterName purpose (names ++ name ∷ [])) (Quote (OneName purpose (names ++ name ∷ [])))
+    (after_names purpose (names ++ name ∷ [])) after stop refl leaves)
 
 pub names_done : (bytes rest : List ℕ) (names : List (List ℕ)) (more : Bool) → more ≡ false → NamesSoFar bytes more names rest
     → (purpose : NamesFor) (place : Place) → QuotesAt place (OneName purpose []) bytes → LeadsTo place bytes (after_names purpose names) rest
@@ -613,7 +658,8 @@ quotes_first purpose bytes unclosed = record {
         → NoSign ((41, after_names purpose []) ∷ (39, InQuotes (OneName purpose []) false) ∷ (34, InQuotes (OneName purpose []) true) ∷ []) these
     none [] unclosed neither = tt
     none (c ∷ these) unclosed neither =
-        ap (λ (t : Bool). cond t (Some (after_names purpose [])) (sign_at ((39, InQuotes (OneName purpose []) false) ∷ (34, InQuotes (OneName purpose []) true) ∷ []) c)) (other_byte 41 c (λ same. unclosed (ap (λ (n : ℕ). Some n) same)))
+        ap (λ (t : Bool). cond t (Some (after_names purpose [])) (sign_at ((39, InQuotes (OneName purpose []) false) ∷ (34, InQuotes (OneName purpose []) true)
+        ∷ []) c)) (other_byte 41 c (λ same. unclosed (ap (λ (n : ℕ). Some n) same)))
         ∙ no_two_signs 39 34 (InQuotes (OneName purpose []) false) (InQuotes (OneName purpose []) true) (c ∷ these) (neither.1, neither.0)
 
     stop_first : (stop : Stop) → LeavesBoth 34 39 bytes stop → StopsFrom (FirstName purpose) bytes stop
@@ -678,7 +724,8 @@ pub most_read : (bytes middle at_close rest : List ℕ) (most : ℕ) → Reads (
     → ReadsToken (41 ∷ []) at_close rest → (query : Query) → LeadsTo (Most query) bytes (Steps (with_step query (steps.Limit most))) rest
 most_read bytes middle at_close rest most reads blanks close query =
     on (Most query) bytes (Closing query (steps.Limit most)) at_close (Steps (with_step query (steps.Limit most))) rest
-    (most_leads query most bytes middle at_close reads blanks) (token_leads (Closing query (steps.Limit most)) 41 (Steps (with_step query (steps.Limit most))) at_close rest refl refl close)
+    (most_leads query most bytes middle at_close reads blanks) (token_leads (Closing query (steps.Limit most)) 41 (Steps (with_step query (steps.Limit most)))
+    at_close rest refl refl close)
 
 -- ---- has
 
@@ -691,14 +738,16 @@ stop_in_key bytes stop at into = at (Quote (Key into)) (Key into) (quotes_at (Ke
 pub stop_after_key : (name bytes after : List ℕ) (stop : Stop) → NameReads name bytes after → LeavesBoth 44 41 after stop → (into : Into)
     → StopsFrom (Quote (Key into)) bytes stop
 stop_after_key name bytes after stop reads leaves into =
-    (key_leads into name bytes after reads).stops stop (stop_at_comma (AfterKey into name) (ValueOf into name) (after_filter into (filters.Has name)) after stop refl leaves)
+    (key_leads into name bytes after reads).stops stop (stop_at_comma (AfterKey into name) (ValueOf into name) (after_filter into (filters.Has name))
+    after stop refl leaves)
 
 comma_after_key : (into : Into) (name bytes after rest : List ℕ) (more : Bool) → NameReads name bytes after → ReadsToken (cond more 44 41 ∷ []) after rest
     → LeadsTo (Quote (Key into)) bytes (cond more (ValueOf into name) (after_filter into (filters.Has name))) rest
 comma_after_key into name bytes after rest more reads token =
     on (Quote (Key into)) bytes (AfterKey into name) after (cond more (ValueOf into name) (after_filter into (filters.Has name))) rest
     (key_leads into name bytes after reads)
-    (comma_leads (AfterKey into name) (ValueOf into name) (after_filter into (filters.Has name)) after rest more refl refl refl (after_filter_loose into (filters.Has name)) token)
+    (comma_leads (AfterKey into name) (ValueOf into name) (after_filter into (filters.Has name)) after rest more refl refl refl (after_filter_loose into
+    (filters.Has name)) token)
 
 pub has_read : (name bytes after rest : List ℕ) (more : Bool) → more ≡ false → NameReads name bytes after → ReadsToken (cond more 44 41 ∷ []) after rest
     → (into : Into) → LeadsTo (Quote (Key into)) bytes (after_filter into (filters.Has name)) rest
@@ -720,7 +769,9 @@ stop_in_comparison name bytes after at_value more stop goes reads token at into 
     (at_value_leads into name bytes after at_value more goes reads token).stops stop (at into name)
 
 pub comparison_read : (name bytes after at_value rest : List ℕ) (relation : Relation) (value : Value) (more : Bool) → more ≡ true → NameReads name bytes after
-    → ReadsToken (cond more 44 41 ∷ []) after at_value → ((into : Into) (key : List ℕ) → LeadsTo (ValueOf into key) at_value (after_filter into (relation_filter key relation value)) rest) → (into : Into) → LeadsTo (Quote (Key into)) bytes (after_filter into (relation_filter name relation value)) rest
+    → ReadsToken (cond more 44 41 ∷ []) after at_value → ((into : Into) (key : List ℕ) → LeadsTo (ValueOf into key) at_value
+    (after_filter into (relation_filter key relation value)) rest) → (into : Into) → LeadsTo (Quote (Key into)) bytes
+    (after_filter into (relation_filter name relation value)) rest
 comparison_read name bytes after at_value rest relation value more goes reads token argument into =
     on (Quote (Key into)) bytes (ValueOf into name) at_value (after_filter into (relation_filter name relation value)) rest
     (at_value_leads into name bytes after at_value more goes reads token) (argument into name)
@@ -731,7 +782,11 @@ plain_value_leads : (into : Into) (key : List ℕ) (value : Value) (bytes middle
     → Reads AnyBlanks tt middle rest → LeadsTo (ValueOf into key) bytes (ClosesFilter into (value_filter key value)) rest
 plain_value_leads into key value bytes middle rest reads blanks =
     reaches_next turn is_loose are some (ValueOf into key) bytes (ClosesFilter into (value_filter key value)) middle rest
-    (record { prefix = reads.takes.prefix; bytes_are = reads.takes.bytes_are; how = inr (inr (value, refl, tt, reads.bounded, reads.takes.is, reads.takes.ends)) })
+    (record {
+      prefix = reads.takes.prefix;
+      bytes_are = reads.takes.bytes_are;
+      how = inr (inr (value, refl, tt, reads.bounded, reads.takes.is, reads.takes.ends));
+    })
     blanks
 
 pub stop_after_plain : (bytes middle at_close : List ℕ) (value : Value) (stop : Stop) → Reads AnyValue value bytes middle → Reads AnyBlanks tt middle at_close
@@ -745,7 +800,8 @@ pub plain_read : (bytes middle at_close rest : List ℕ) (value : Value) → Rea
 plain_read bytes middle at_close rest value reads blanks close into key =
     on (ValueOf into key) bytes (ClosesFilter into (value_filter key value)) at_close (after_filter into (value_filter key value)) rest
     (plain_value_leads into key value bytes middle at_close reads blanks)
-    (token_leads (ClosesFilter into (value_filter key value)) 41 (after_filter into (value_filter key value)) at_close rest refl (after_filter_loose into (value_filter key value)) close)
+    (token_leads (ClosesFilter into (value_filter key value)) 41 (after_filter into (value_filter key value)) at_close rest refl (after_filter_loose into
+    (value_filter key value)) close)
 
 -- Where neither a word for a relation nor a value stands, reading stops at the later place.
 pub stop_at_argument : (bytes : List ℕ) (one two : Stop) → first_byte bytes ≢ Some 80 → Leaves (OneWord relation_names) bytes one → Leaves AnyValue bytes two
@@ -772,7 +828,19 @@ pub relation_leads : (into : Into) (key : List ℕ) (relation : Relation) (bytes
     → LeadsTo (ValueOf into key) bytes (OpensValue into key relation) rest
 relation_leads into key relation bytes rest (middle, reads, blanks) =
     reaches_next turn is_loose are some (ValueOf into key) bytes (OpensValue into key relation) middle rest
-    (record { prefix = reads.takes.prefix; bytes_are = reads.takes.bytes_are; how = inr (inl (relation_name relation, ap (OpensValue into key) (sym (named_relation relation)), reads.allowed, tt, reads.takes.is, reads.takes.ends)) })
+    (record {
+      prefix = reads.takes.prefix;
+      bytes_are = reads.takes.bytes_are;
+      how = inr (inl (
+        relation_name relation,
+        ap (OpensValue into key)
+            (sym (named_relation relation)),
+        reads.allowed,
+        tt,
+        reads.takes.is,
+        reads.takes.ends,
+      ));
+    })
     blanks
 
 p_leads : (into : Into) (key bytes at_dot at_relation : List ℕ) → ReadsToken (80 ∷ []) bytes at_dot → ReadsToken (46 ∷ []) at_dot at_relation
@@ -790,7 +858,8 @@ stop_after_p bytes at_dot stop p leaves into key = (token_leads (ValueOf into ke
 pub stop_at_relation : (bytes at_dot at_relation : List ℕ) (stop : Stop) → ReadsToken (80 ∷ []) bytes at_dot → ReadsToken (46 ∷ []) at_dot at_relation
     → Leaves (OneWord relation_names) at_relation stop → (into : Into) (key : List ℕ) → StopsFrom (ValueOf into key) bytes stop
 stop_at_relation bytes at_dot at_relation stop p dot leaves into key =
-    (p_leads into key bytes at_dot at_relation p dot).stops stop (stop_at (RelationName into key) at_relation stop (record { no_end = λ end ends. cc; no_sign = no_signs at_relation; other = leaves }))
+    (p_leads into key bytes at_dot at_relation p dot).stops stop (stop_at (RelationName into key) at_relation stop
+    (record { no_end = λ end ends. cc; no_sign = no_signs at_relation; other = leaves }))
 
 pub relation_within : (relation : Relation) (bytes rest : List ℕ) → ReadsRelation relation bytes rest → length rest ≤ length bytes
 relation_within relation bytes rest (middle, reads, blanks) =
@@ -804,7 +873,19 @@ pub p_relation_leads : (bytes at_dot at_relation rest : List ℕ) (relation : Re
 p_relation_leads bytes at_dot at_relation rest relation p dot (middle, reads, blanks) into key =
     on (ValueOf into key) bytes (RelationName into key) at_relation (OpensValue into key relation) rest (p_leads into key bytes at_dot at_relation p dot)
     (reaches_next turn is_loose are some (RelationName into key) at_relation (OpensValue into key relation) middle rest
-    (record { prefix = reads.takes.prefix; bytes_are = reads.takes.bytes_are; how = inr (relation_name relation, ap (OpensValue into key) (sym (named_relation relation)), reads.allowed, tt, reads.takes.is, reads.takes.ends) })
+    (record {
+      prefix = reads.takes.prefix;
+      bytes_are = reads.takes.bytes_are;
+      how = inr (
+        relation_name relation,
+        ap (OpensValue into key)
+            (sym (named_relation relation)),
+        reads.allowed,
+        tt,
+        reads.takes.is,
+        reads.takes.ends,
+      );
+    })
     blanks)
 
 opens_leads : (into : Into) (key : List ℕ) (relation : Relation) (bytes at_value : List ℕ) → ReadsToken (40 ∷ []) bytes at_value
@@ -837,7 +918,8 @@ stop_at_open bytes stop leaves into key relation = stop_at_sign (OpensValue into
 pub stop_in_compared : (bytes at_value : List ℕ) (stop : Stop) → ReadsToken (40 ∷ []) bytes at_value → Leaves AnyValue at_value stop
     → (into : Into) (key : List ℕ) (relation : Relation) → StopsFrom (OpensValue into key relation) bytes stop
 stop_in_compared bytes at_value stop token leaves into key relation =
-    (opens_leads into key relation bytes at_value token).stops stop (stop_at (Compared into key relation) at_value stop (record { no_end = λ end ends. cc; no_sign = no_signs at_value; other = leaves }))
+    (opens_leads into key relation bytes at_value token).stops stop (stop_at (Compared into key relation) at_value stop
+    (record { no_end = λ end ends. cc; no_sign = no_signs at_value; other = leaves }))
 
 pub stop_at_inner : (bytes at_value middle at_close : List ℕ) (value : Value) (stop : Stop) → ReadsToken (40 ∷ []) bytes at_value
     → Reads AnyValue value at_value middle → Reads AnyBlanks tt middle at_close → Leaves (Sign (41 ∷ [])) at_close stop
@@ -880,7 +962,8 @@ steps_end false query = refl
 pub query_kept : (place : Place) (query : Query) (bytes rest : List ℕ) (is_ordered : Bool) → LeadsTo place bytes (steps_place is_ordered query) rest → rest ≡ []
     → KeptFrom turn is_loose (commands.Query (shown query)) place bytes
 query_kept place query bytes rest is_ordered leads none =
-    leads.kept (commands.Query (shown query)) (kept_end turn is_loose are some (steps_place is_ordered query) (commands.Query (shown query)) rest (steps_end is_ordered query) none)
+    leads.kept (commands.Query (shown query)) (kept_end turn is_loose are some (steps_place is_ordered query) (commands.Query (shown query)) rest
+    (steps_end is_ordered query) none)
 
 -- a step that changes the graph
 pub stop_in_change : (place : Place) (query : Query) (stage : Stage) (is_ordered : Bool) (word : StepWord) (change : ChangeWord)
@@ -888,12 +971,14 @@ pub stop_in_change : (place : Place) (query : Query) (stage : Stage) (is_ordered
     → OpensStep stage is_ordered word rest at_arguments → word ≡ words.Change change
     → ((query : Query) → steps_of query ≡ stage.steps → StopsFrom (opened query (words.Change change)) at_arguments stop) → StopsFrom place bytes stop
 stop_in_change place query stage is_ordered word change bytes rest at_arguments stop leads same opens is at =
-    leads.stops stop ((opens query same).stops stop (subst (λ (w : StepWord). StopsFrom (opened query w) at_arguments stop) (sym is) (at query (ap (λ (s : Stage). s.steps) same))))
+    leads.stops stop ((opens query same).stops stop (subst (λ (w : StepWord). StopsFrom (opened query w) at_arguments stop) (sym is)
+    (at query (ap (λ (s : Stage). s.steps) same))))
 
 pub change_kept : (place : Place) (query : Query) (stage : Stage) (is_ordered : Bool) (word : StepWord) (change : ChangeWord) (mutation : Mutation)
     (bytes rest at_arguments : List ℕ) → LeadsTo place bytes (steps_place is_ordered query) rest → stage_of query ≡ stage
     → OpensStep stage is_ordered word rest at_arguments → word ≡ words.Change change
-    → ((query : Query) → steps_of query ≡ stage.steps → KeptFrom turn is_loose (commands.Mutate (Some query) mutation) (opened query (words.Change change)) at_arguments) → KeptFrom turn is_loose (commands.Mutate (Some query) mutation) place bytes
+    → ((query : Query) → steps_of query ≡ stage.steps → KeptFrom turn is_loose (commands.Mutate (Some query) mutation) (opened query (words.Change change))
+    at_arguments) → KeptFrom turn is_loose (commands.Mutate (Some query) mutation) place bytes
 change_kept place query stage is_ordered word change mutation bytes rest at_arguments leads same opens is kept =
     let command : Command = commands.Mutate (Some query) mutation in
     let here = subst (λ (w : StepWord). KeptFrom turn is_loose command (opened query w) at_arguments) (sym is)
@@ -903,7 +988,14 @@ change_kept place query stage is_ordered word change mutation bytes rest at_argu
 -- the whole query
 pub query_is_kept : (kind : SourceKind) (bytes at_source rest : List ℕ) (command : Command) → Reads AnyBlanks tt bytes at_source
     → LeadsTo Start at_source (opened_source kind) rest → KeptFrom turn is_loose command (opened_source kind) rest → IsKeptQuery command bytes
-query_is_kept kind bytes at_source rest command blanks source kept = (blanks.takes.prefix, at_source, blanks.takes.bytes_are, blanks.takes.is, source.kept command kept)
+query_is_kept kind bytes at_source rest command blanks source kept = (
+  blanks.takes.prefix,
+  at_source,
+  blanks.takes.bytes_are,
+  blanks.takes.is,
+  source.kept
+      command kept,
+)
 
 -- a stop after the blanks
 pub query_stops : (bytes at_source : List ℕ) (stop : Stop) → Reads AnyBlanks tt bytes at_source → StopsFrom Start at_source stop → StopsInQuery bytes stop

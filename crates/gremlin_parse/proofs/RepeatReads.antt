@@ -112,7 +112,8 @@ read_in_time table is_table before bytes rest word no_bad takes = by_fault (late
     by_fault None is = is
     by_fault (Some kind) is = absurd (no_bad kind (length bytes) (word, whole_word_of table is_table bytes rest word takes, is, refl))
 
-pub read_early : (before : ℕ) (bytes rest : List ℕ) (word : BodyWord) → ((kind : BadToken) (place : ℕ) → ¬ IsBadWord body_words (λ _ _. late_fault before) kind place bytes) → TakesWord body_words bytes word rest → late_fault before ≡ None
+pub read_early : (before : ℕ) (bytes rest : List ℕ) (word : BodyWord) → ((kind : BadToken) (place : ℕ) → ¬ IsBadWord body_words (λ _ _. late_fault before)
+    kind place bytes) → TakesWord body_words bytes word rest → late_fault before ≡ None
 read_early = read_in_time body_words body_words_are
 
 below_33 : (n : ℕ) → nat_lt n 32 ≡ true → n < 32
@@ -211,7 +212,8 @@ body_opening_read before bytes after_name at_open rest word early takes blanks o
 to_first : (query : Query) (bytes : List ℕ) → Line (BodyName query []) bytes → Line (BodyFirst query) bytes
 to_first query bytes line = pick (line_split turn is_loose (BodyName query []) bytes line)
   where
-    pick : AtEnd turn is_loose (BodyName query []) bytes ⊎ (ThenSign [] (LooseLine turn is_loose) bytes ⊎ ThenOther (Any turn is_loose) (body_name query []) (LooseLine turn is_loose) bytes) → Line (BodyFirst query) bytes
+    pick : AtEnd turn is_loose (BodyName query []) bytes ⊎ (ThenSign [] (LooseLine turn is_loose) bytes ⊎ ThenOther (Any turn is_loose) (body_name query [])
+        (LooseLine turn is_loose) bytes) → Line (BodyFirst query) bytes
     pick (inl (end, ends, none)) = cc
     pick (inr (inl sign)) = absurd (sign_refuses [] (LooseLine turn is_loose) bytes (no_signs bytes) sign)
     pick (inr (inr other)) = line_join turn is_loose (BodyFirst query) bytes (inr other)
@@ -219,7 +221,8 @@ to_first query bytes line = pick (line_split turn is_loose (BodyName query []) b
 from_first : (query : Query) (bytes : List ℕ) → NoSign ((95, Underscore query) ∷ []) bytes → Line (BodyFirst query) bytes → Line (BodyName query []) bytes
 from_first query bytes no_sign line = pick (line_split turn is_loose (BodyFirst query) bytes line)
   where
-    pick : AtEnd turn is_loose (BodyFirst query) bytes ⊎ (ThenSign ((95, Underscore query) ∷ []) (LooseLine turn is_loose) bytes ⊎ ThenOther (Any turn is_loose) (body_name query []) (LooseLine turn is_loose) bytes) → Line (BodyName query []) bytes
+    pick : AtEnd turn is_loose (BodyFirst query) bytes ⊎ (ThenSign ((95, Underscore query) ∷ []) (LooseLine turn is_loose) bytes ⊎ ThenOther (Any turn is_loose)
+        (body_name query []) (LooseLine turn is_loose) bytes) → Line (BodyName query []) bytes
     pick (inl (end, ends, none)) = cc
     pick (inr (inl sign)) = absurd (sign_refuses ((95, Underscore query) ∷ []) (LooseLine turn is_loose) bytes no_sign sign)
     pick (inr (inr other)) = line_join turn is_loose (BodyName query []) bytes (inr other)
@@ -228,14 +231,17 @@ bad_to_first : (query : Query) (kind : BadToken) (left : ℕ) (bytes : List ℕ)
     → BadFrom turn is_loose (BodyFirst query) kind left bytes
 bad_to_first query kind left bytes bad = ⊎_elim
     (λ (sign : ThenSign [] (LooseBad turn is_loose kind left) bytes). absurd (sign_refuses [] (LooseBad turn is_loose kind left) bytes (no_signs bytes) sign))
-    (λ (other : BadOther (body_name query []) kind left (LooseBad turn is_loose kind left) bytes). bad_join turn is_loose (BodyFirst query) kind left bytes (inr other))
+    (λ (other : BadOther (body_name query []) kind left (LooseBad turn is_loose kind left) bytes). bad_join turn is_loose (BodyFirst query) kind left bytes
+    (inr other))
     (bad_split turn is_loose (BodyName query []) kind left bytes bad)
 
 bad_from_first : (query : Query) (kind : BadToken) (left : ℕ) (bytes : List ℕ) → NoSign ((95, Underscore query) ∷ []) bytes
     → BadFrom turn is_loose (BodyFirst query) kind left bytes → BadFrom turn is_loose (BodyName query []) kind left bytes
 bad_from_first query kind left bytes no_sign bad = ⊎_elim
-    (λ (sign : ThenSign ((95, Underscore query) ∷ []) (LooseBad turn is_loose kind left) bytes). absurd (sign_refuses ((95, Underscore query) ∷ []) (LooseBad turn is_loose kind left) bytes no_sign sign))
-    (λ (other : BadOther (body_name query []) kind left (LooseBad turn is_loose kind left) bytes). bad_join turn is_loose (BodyName query []) kind left bytes (inr other))
+    (λ (sign : ThenSign ((95, Underscore query) ∷ []) (LooseBad turn is_loose kind left) bytes). absurd (sign_refuses ((95, Underscore query) ∷ [])
+    (LooseBad turn is_loose kind left) bytes no_sign sign))
+    (λ (other : BadOther (body_name query []) kind left (LooseBad turn is_loose kind left) bytes). bad_join turn is_loose (BodyName query []) kind left bytes
+    (inr other))
     (bad_split turn is_loose (BodyFirst query) kind left bytes bad)
 
 -- Where no underscore stands, a body begins with its first name.
@@ -254,7 +260,8 @@ body_begins query bytes other = record { stops = stays; kept = λ end (n, leads)
         bytes_are = stop.bytes_are;
         left_is = stop.left_is;
         viable = (stop.viable.0, to_first query (stop.read ++ stop.viable.0) stop.viable.1);
-        none = λ more same line. stop.none more same (from_first query (stop.read ++ more) (NoSign-first_byte ((95, Underscore query) ∷ []) bytes (stop.read ++ more) (first_byte-append stop.read more stop.unread same ∙ ap first_byte (sym stop.bytes_are)) no_sign) line);
+        none = λ more same line. stop.none more same (from_first query (stop.read ++ more) (NoSign-first_byte ((95, Underscore query) ∷ []) bytes
+            (stop.read ++ more) (first_byte-append stop.read more stop.unread same ∙ ap first_byte (sym stop.bytes_are)) no_sign) line);
       },
       λ kind place bad. none kind place (bad_from_first query kind place bytes no_sign bad),
     )
@@ -270,7 +277,8 @@ body_begins query bytes other = record { stops = stays; kept = λ end (n, leads)
 
     keeps : (end : Command) (n : ℕ) → Leads turn is_loose IsBounded end n (BodyName query []) bytes → KeptFrom turn is_loose end (BodyFirst query) bytes
     keeps end zero (ends, none) = cc
-    keeps end (suc n) (inl sign) = absurd (sign_refuses [] (Loosely turn is_loose (λ next rest. Leads turn is_loose IsBounded end n next rest)) bytes (no_signs bytes) sign)
+    keeps end (suc n) (inl sign) = absurd (sign_refuses [] (Loosely turn is_loose (λ next rest. Leads turn is_loose IsBounded end n next rest)) bytes
+        (no_signs bytes) sign)
     keeps end (suc n) (inr other) = (suc n, inr other)
 
 -- the first of the two underscores
@@ -325,7 +333,8 @@ anonymous_read [] at_dot rest some is token dot query = absurd (omega arith)
 anonymous_read (b ∷ after) at_dot rest some is token dot query =
     let second = subst (λ (a : List ℕ). ReadsToken (95 ∷ []) a at_dot) (after_first-cons b after) token in
     subst (λ (c : ℕ). LeadsTo (BodyFirst query) (c ∷ after) (BodyName query []) rest) (sym is)
-    (on (BodyFirst query) (95 ∷ after) (AfterAnonymous query) at_dot (BodyName query []) rest (second_leads query after at_dot second) (token_leads (AfterAnonymous query) 46 (BodyName query []) at_dot rest refl refl dot))
+    (on (BodyFirst query) (95 ∷ after) (AfterAnonymous query) at_dot (BodyName query []) rest (second_leads query after at_dot second)
+    (token_leads (AfterAnonymous query) 46 (BodyName query []) at_dot rest refl refl dot))
 
 -- ---- the steps of a body
 
@@ -370,7 +379,8 @@ to_body_name before count bytes rest more list goes so_far query same =
     subst (λ (t : Bool). LeadsTo (BodyFirst query) bytes (after_dot query list t) rest) goes (so_far.leads query same)
 
 pub stop_in_body_step : (before count : ℕ) (bytes rest : List ℕ) (more : Bool) (list : List BodyStep) (stop : Stop) → more ≡ true
-    → BodySoFar before bytes more list count rest → ((query : Query) (body : List BodyStep) → count_before query body ≡ count → StopsFrom (BodyName query body) rest stop) → (query : Query) → steps_of query ≡ before → StopsFrom (BodyFirst query) bytes stop
+    → BodySoFar before bytes more list count rest → ((query : Query) (body : List BodyStep) → count_before query body ≡ count → StopsFrom (BodyName query body)
+    rest stop) → (query : Query) → steps_of query ≡ before → StopsFrom (BodyFirst query) bytes stop
 stop_in_body_step before count bytes rest more list stop goes so_far at query same =
     (to_body_name before count bytes rest more list goes so_far query same).stops stop (at query list (next_count before count query list so_far.counted same))
 

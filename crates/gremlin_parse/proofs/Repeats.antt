@@ -32,7 +32,10 @@ bad_parts_within (this ∷ parts) = λ kind place bytes bad.
 
 -- Where the bytes are none of the first language, and what may go on as one of it may go on as one of the second, a stop of the second is a stop of both.
 pub stop_of_second : (First Second Both : List ℕ → Type 0) (BadSecond BadBoth : Bads) → ((bytes : List ℕ) → Second bytes → Both bytes)
-    → ((bytes : List ℕ) → Both bytes → First bytes ⊎ Second bytes) → ((read : List ℕ) (b : ℕ) (more : List ℕ) → First (read ++ b ∷ more) → (line : List ℕ) × Second (read ++ b ∷ line)) → (Lack : Type 0) (bytes : List ℕ) (stop : Stop) → ¬ First bytes → ((kind : BadToken) (left : ℕ) → BadSecond kind left bytes → BadBoth kind left bytes) → ((kind : BadToken) (left : ℕ) → BadBoth kind left bytes → BadSecond kind left bytes) → IsStop Second BadSecond Lack bytes stop → IsStop Both BadBoth Lack bytes stop
+    → ((bytes : List ℕ) → Both bytes → First bytes ⊎ Second bytes) → ((read : List ℕ) (b : ℕ) (more : List ℕ) → First (read ++ b ∷ more) → (line : List ℕ)
+    × Second (read ++ b ∷ line)) → (Lack : Type 0) (bytes : List ℕ) (stop : Stop) → ¬ First bytes → ((kind : BadToken) (left : ℕ) → BadSecond kind left
+    bytes → BadBoth kind left bytes) → ((kind : BadToken) (left : ℕ) → BadBoth kind left bytes → BadSecond kind left bytes) → IsStop Second BadSecond Lack
+    bytes stop → IsStop Both BadBoth Lack bytes stop
 stop_of_second First Second Both BadSecond BadBoth join cases goes_on Lack bytes stops.Memory other bad_join bad_cases stop = stop
 stop_of_second First Second Both BadSecond BadBoth join cases goes_on Lack bytes (stops.Syntax left) other bad_join bad_cases (stop, no_bad) = (
   record {
@@ -84,7 +87,8 @@ pub record SameItem (X : Type 0) (x y : X) (After Other : Language) : Type 0 whe
   pub one : After rest
   pub two : Other rest
 
--- What is to be known of an item: `One` are the bytes of some item and then of a language, `BadOne` is a bad token in an item or after one, and `last` are the parts that stand after all items.
+-- What is to be known of an item: `One` are the bytes of some item and then of a language, `BadOne`
+-- is a bad token in an item or after one, and `last` are the parts that stand after all items.
 pub record IsItem {X : Type 0} (item : X → List Part) (last : List Part) (enders : Enders) (One : Language → Language) (BadOne : Bads → Bads) : Type 1 where
   -- an item by its parts
   pub join : (After : Language) (x : X) (bytes : List ℕ) → ThenParts (item x) After bytes → One After bytes
@@ -139,7 +143,8 @@ module _ {X : Type 0} {item : X → List Part} {last : List Part} {enders : Ende
       (x ∷ list, listed_then item last x list bytes made)
 
   first_item : (x : X) (list : List X) (bytes : List ℕ) → IsMadeOf (listed item last (x ∷ list)) bytes → One Items bytes
-  first_item x list bytes made = is.join Items x bytes (then_parts_map (IsMadeOf (listed item last list)) Items (λ rest these. (list, these)) (item x) bytes (then_listed item last x list bytes made))
+  first_item x list bytes made = is.join Items x bytes (then_parts_map (IsMadeOf (listed item last list)) Items (λ rest these. (list, these)) (item x) bytes
+      (then_listed item last x list bytes made))
 
   cases : (bytes : List ℕ) → Items bytes → IsMadeOf last bytes ⊎ One Items bytes
   cases bytes ([], made) = inl made
@@ -156,7 +161,8 @@ module _ {X : Type 0} {item : X → List Part} {last : List Part} {enders : Ende
   bad_cases kind left bytes (x ∷ list, bad) =
       let then = bad_then_of_parts (item x) (listed item last list) kind left bytes
       (subst (λ parts. BadParts parts kind left bytes) (listed-cons item last x list) bad) in
-      is.bad_join BadItems kind left x bytes (bad_then_map (BadParts (listed item last list)) BadItems kind left (λ rest these. (list, these)) (item x) bytes then)
+      is.bad_join BadItems kind left x bytes (bad_then_map (BadParts (listed item last list)) BadItems kind left (λ rest these. (list, these)) (item x)
+      bytes then)
 
   items_end : HaltsAt enders Items
   items_end = λ class halts bytes items. ⊎_elim (λ (end : IsMadeOf last bytes). is.last_ends class halts bytes end)
@@ -221,7 +227,8 @@ module _ {X : Type 0} {item : X → List Part} {last : List Part} {enders : Ende
     spells = λ later made. subst (λ items. IsMadeOf (listed item last items) bytes) (sym (append_assoc list (x ∷ []) later))
         (so_far.spells (x ∷ later) (listed_then item last x later rest (spells later made)));
     bounded = λ later these. subst (λ items. AllByRecursion IsBounded (listed item last items)) (sym (append_assoc list (x ∷ []) later))
-        (so_far.bounded (x ∷ later) (subst (AllByRecursion IsBounded) (sym (listed-cons item last x later)) (all_join (item x) (listed item last later) within these)));
+        (so_far.bounded (x ∷ later) (subst (AllByRecursion IsBounded) (sym (listed-cons item last x later)) (all_join (item x) (listed item last later)
+        within these)));
   }
 
   pub stop_so_far : (Lack : Type 0) (bytes rest : List ℕ) (list : List X) (stop : Stop) → SoFar Lack bytes list rest → ¬ IsMadeOf last rest

@@ -46,7 +46,8 @@ cut_run p (b ∷ bytes) =
 -- the run of so many bytes
 pub cut_run_at : (p : ℕ → Bool) (bytes run rest : List ℕ) (n : ℕ) → n ≡ prefix_len p bytes → run ≡ take n bytes → rest ≡ drop n bytes → CutsRun p bytes run rest
 cut_run_at p bytes run rest n count prefix_is rest_is =
-    subst (λ list. CutsRun p bytes list rest) (sym prefix_is) (subst (CutsRun p bytes (take n bytes)) (sym rest_is) (subst (λ k. CutsRun p bytes (take k bytes) (drop k bytes)) (sym count) (cut_run p bytes)))
+    subst (λ list. CutsRun p bytes list rest) (sym prefix_is) (subst (CutsRun p bytes (take n bytes)) (sym rest_is)
+    (subst (λ k. CutsRun p bytes (take k bytes) (drop k bytes)) (sym count) (cut_run p bytes)))
 
 -- what ends a run depends on the first byte only
 pub EndsRun-first_byte : (p : ℕ → Bool) (bytes more : List ℕ) → first_byte more ≡ first_byte bytes → EndsRun p bytes → EndsRun p more

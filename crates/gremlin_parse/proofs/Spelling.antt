@@ -104,8 +104,10 @@ follows_agree enders (symbol ∷ symbols) is One Two ones twos bytes (content, a
     let class = class_of symbol in
     let After : List ℕ → Type 0 = Follows symbols (λ contents. One (content, contents)) in
     let Other : List ℕ → Type 0 = Follows symbols (λ contents. Two (other, contents)) in
-    let here = whole symbol all.head After (follows_halts class (enders class) symbols all.ended (λ contents. One (content, contents)) (λ contents. ones (content, contents) class)) content allows bytes one in
-    let there = after_symbol symbol all.head Other (follows_halts class (enders class) symbols all.ended (λ contents. Two (other, contents)) (λ contents. twos (other, contents) class)) content other others bytes here.rest here.takes two in
+    let here = whole symbol all.head After (follows_halts class (enders class) symbols all.ended (λ contents. One (content, contents))
+    (λ contents. ones (content, contents) class)) content allows bytes one in
+    let there = after_symbol symbol all.head Other (follows_halts class (enders class) symbols all.ended (λ contents. Two (other, contents))
+    (λ contents. twos (other, contents) class)) content other others bytes here.rest here.takes two in
     let Same : Content symbol → Type 0 = λ v. Follows symbols (λ contents. Two (v, contents)) here.rest in
     let later = follows_agree enders symbols all.later (λ contents. One (content, contents)) (λ contents. Two (content, contents))
     (λ contents. ones (content, contents)) (λ contents. twos (content, contents)) here.rest here.after (subst Same (sym there.0) there.1) in
@@ -168,9 +170,27 @@ bad_part (OneWord words) kind left bytes bad = absurd bad.1
 bad_part AnyName kind left bytes (name, bad, rest, takes, place) = (takes.prefix, rest, takes.bytes_are, takes.is, takes.ends, bad, place)
 bad_part (AnyNumber most) kind left bytes (number, bad, rest, takes, place) =
     (takes.prefix, rest, takes.bytes_are, takes.is, wide_ends kind most number takes.prefix rest bad takes.is.1 takes.ends, bad, place)
-bad_part AnyTimes kind left bytes (number, bad, rest, takes, place) = (takes.prefix, rest, takes.bytes_are, takes.is, times_end number takes.prefix rest takes.is.1 takes.ends, bad, place)
+bad_part AnyTimes kind left bytes (number, bad, rest, takes, place) = (
+  takes.prefix,
+  rest,
+  takes.bytes_are,
+  takes.is,
+  times_end number takes.prefix rest
+      takes.is.1 takes.ends,
+  bad,
+  place,
+)
 bad_part (AnyClosed double) kind left bytes (name, bad, rest, takes, place) = (takes.prefix, rest, takes.bytes_are, takes.is, tt, bad, place)
-bad_part AnyValue kind left bytes (value, bad, rest, takes, place) = (takes.prefix, rest, takes.bytes_are, takes.is, bad_value_ends value kind takes.prefix rest takes.is bad takes.ends, bad, place)
+bad_part AnyValue kind left bytes (value, bad, rest, takes, place) = (
+  takes.prefix,
+  rest,
+  takes.bytes_are,
+  takes.is,
+  bad_value_ends value kind takes.prefix rest
+      takes.is bad takes.ends,
+  bad,
+  place,
+)
 
 part_bad : (symbol : Symbol) (content : Content symbol) (kind : BadToken) (left : ℕ) (bytes : List ℕ) → IsBadPart (part symbol content) kind left bytes
     → IsBad symbol kind left bytes

@@ -45,7 +45,17 @@ stops_in_word After word bytes line left some leaves = record {
   unread = leaves.unread;
   bytes_are = leaves.bytes_are;
   left_is = leaves.left_is;
-  viable = ((leaves.next ∷ leaves.more) ++ line, (word, line, sym (append_assoc leaves.read (leaves.next ∷ leaves.more) line) ∙ ap (λ w. w ++ line) (sym leaves.word_is), refl, some));
+  viable = (
+    (leaves.next ∷ leaves.more) ++ line,
+    (
+      word,
+      line,
+      sym (append_assoc leaves.read (leaves.next ∷ leaves.more) line) ∙ ap (λ w. w ++ line)
+          (sym leaves.word_is),
+      refl,
+      some,
+    ),
+  );
   none = λ more same (prefix, rest, whole, prefix_is, after).
       let goes_on : more ≡ leaves.next ∷ (leaves.more ++ rest) = append_cancel_left leaves.read more (leaves.next ∷ (leaves.more ++ rest))
       (whole ∙ ap (λ w. w ++ rest) (prefix_is ∙ leaves.word_is) ∙ append_assoc leaves.read (leaves.next ∷ leaves.more) rest) in

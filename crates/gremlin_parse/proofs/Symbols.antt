@@ -200,7 +200,13 @@ module _ (symbol : Symbol) (is : is_symbol symbol ≡ true) (After : List ℕ �
 -- the same symbol before other bytes that begin alike
 pub takes_again : (symbol : Symbol) (content : Content symbol) (bytes rest more : List ℕ) → (takes : Takes symbol content bytes rest)
     → first_byte more ≡ first_byte rest → Takes symbol content (takes.prefix ++ more) more
-takes_again symbol content bytes rest more takes same = record { prefix = takes.prefix; bytes_are = refl; is = takes.is; ends = Ends-first_byte symbol content takes.prefix rest more same takes.ends }
+takes_again symbol content bytes rest more takes same = record {
+  prefix = takes.prefix;
+  bytes_are = refl;
+  is = takes.is;
+  ends = Ends-first_byte symbol content
+      takes.prefix rest more same takes.ends;
+}
 
 -- ---- the first byte of a symbol
 
@@ -347,11 +353,14 @@ bad_halts class end AnyGap symbols is kind left bytes (content, bad, rest, takes
 bad_halts class end (Sign sign) symbols is kind left bytes (content, bad, rest, takes, place) = absurd bad
 bad_halts class end (OneWord words) symbols is kind left bytes (content, bad, rest, takes, place) = absurd bad
 bad_halts class end AnyName symbols is kind left bytes (name, bad, rest, takes, place) =
-    subst (EndsRun (passes class)) (sym takes.bytes_are) (name_ends (passes class) (name_fails class is) (takes.prefix ++ rest) (name_starts takes.prefix rest (subst IsName (sym takes.is.0) takes.is.1)))
+    subst (EndsRun (passes class)) (sym takes.bytes_are) (name_ends (passes class) (name_fails class is) (takes.prefix ++ rest) (name_starts takes.prefix rest
+    (subst IsName (sym takes.is.0) takes.is.1)))
 bad_halts class end (AnyNumber most) symbols is kind left bytes (number, bad, rest, takes, place) =
-    subst (EndsRun (passes class)) (sym takes.bytes_are) (number_ends (passes class) (digit_fails class is) (takes.prefix ++ rest) (number_starts takes.prefix rest takes.is.0))
+    subst (EndsRun (passes class)) (sym takes.bytes_are) (number_ends (passes class) (digit_fails class is) (takes.prefix ++ rest)
+    (number_starts takes.prefix rest takes.is.0))
 bad_halts class end AnyTimes symbols is kind left bytes (number, bad, rest, takes, place) =
-    subst (EndsRun (passes class)) (sym takes.bytes_are) (number_ends (passes class) (digit_fails class is) (takes.prefix ++ rest) (number_starts takes.prefix rest takes.is.0))
+    subst (EndsRun (passes class)) (sym takes.bytes_are) (number_ends (passes class) (digit_fails class is) (takes.prefix ++ rest)
+    (number_starts takes.prefix rest takes.is.0))
 bad_halts class end (AnyClosed double) symbols is kind left bytes (name, bad, rest, takes, place) =
     name_ends (passes class) (name_fails class is) bytes (closed_starts double name bytes takes.prefix rest takes.is takes.bytes_are)
 bad_halts class end AnyValue symbols is kind left bytes (value, bad, rest, takes, place) =

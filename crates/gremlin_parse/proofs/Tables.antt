@@ -144,7 +144,8 @@ module _ {K : Type 0} where
   found_in (first ∷ table) distinct entry within =
       let two = both (all_pass (λ (e : Entry K). not (pointwise nat_eq first.0 e.0)) table) (are_distinct table) distinct in
       ⊎_elim
-      (λ (same : entry ≡ first). subst (λ (e : Entry K). lookup (first ∷ table) e.0 ≡ Some e.1) (sym same) (ap (λ t. cond t (Some first.1) (lookup table first.0)) (pointwise_same first.0)))
+      (λ (same : entry ≡ first). subst (λ (e : Entry K). lookup (first ∷ table) e.0 ≡ Some e.1) (sym same)
+      (ap (λ t. cond t (Some first.1) (lookup table first.0)) (pointwise_same first.0)))
       (λ (later : InTable entry table).
       let other = turned (pointwise nat_eq first.0 entry.0) (passes_in (λ (e : Entry K). not (pointwise nat_eq first.0 e.0)) table two.0 entry later) in
       ap (λ t. cond t (Some first.1) (lookup table entry.0)) other ∙ found_in table two.1 entry later)
@@ -216,8 +217,17 @@ module _ {K : Type 0} where
   reaches first (second ∷ table) run =
       let after = reaches second table run in
       ⊎_elim
-      (λ (less : common first.0 run ≤ reach (second ∷ table) run). let here : Reaches (first ∷ second ∷ table) run = record { entry = after.entry; within = inr after.within; is = omega (arith, after.is) } in here)
-      (λ (more : reach (second ∷ table) run ≤ common first.0 run). let here : Reaches (first ∷ second ∷ table) run = record { entry = first; within = inl refl; is = omega arith } in here)
+      (λ (less : common first.0 run ≤ reach (second ∷ table) run). let here : Reaches (first ∷ second ∷ table) run = record {
+        entry = after.entry;
+        within = inr
+            after.within;
+        is = omega (arith, after.is);
+      } in here)
+      (λ (more : reach (second ∷ table) run ≤ common first.0 run). let here : Reaches (first ∷ second ∷ table) run = record {
+        entry = first;
+        within = inl refl;
+        is = omega arith;
+      } in here)
       (either (common first.0 run) (reach (second ∷ table) run))
     where
       either : (m n : ℕ) → (m ≤ n) ⊎ (n ≤ m)
@@ -295,7 +305,21 @@ module _ {K : Type 0} where
         unread = unread;
         bytes_are = bytes_are;
         left_is = omega (arith, left_is, read_len, len);
-        viable = (prefix.0 ++ line.0, (most.entry, most.within, (most.entry.0, line.0, sym (append_assoc read prefix.0 line.0) ∙ ap (λ w. w ++ line.0) (sym word_is), refl, line.1)));
+        viable = (
+          prefix.0 ++ line.0,
+          (
+            most.entry,
+            most.within,
+            (
+              most.entry.0,
+              line.0,
+              sym (append_assoc read prefix.0 line.0) ∙ ap (λ w. w ++ line.0)
+                  (sym word_is),
+              refl,
+              line.1,
+            ),
+          ),
+        );
         none = λ more same (entry, is_in, (word, after, whole, word_is, is)).
             let passes : Passes is_name_byte entry.0 = word_passes entry.0 (all_in (λ (e : Entry K). is_word e.0 ≡ true) table entry words.words is_in) in
             let few : common entry.0 (read ++ drop n run) ≤ length read = let le = reach_most table run entry is_in in
@@ -332,7 +356,16 @@ module _ {K : Type 0} where
   words_agree table words One Two ends stops bytes (entry, within, (prefix, rest, whole, front_is, after)) two =
       let passes : Passes is_name_byte entry.0 = word_passes entry.0 (all_in (λ (e : Entry K). is_word e.0 ≡ true) table entry words.words within) in
       let named : lookup table entry.0 ≡ Some entry.1 = all_in (λ (e : Entry K). lookup table e.0 ≡ Some e.1) table entry words.named within in
-      let takes : TakesWord table bytes entry.1 rest = (entry.0, record { bytes_are = whole ∙ ap (λ w. w ++ rest) front_is; passes = passes; ends = ends entry.1 rest after }, named) in
+      let takes : TakesWord table bytes entry.1 rest = (
+        entry.0,
+        record {
+          bytes_are = whole ∙ ap (λ w. w ++ rest) front_is;
+          passes = passes;
+          ends = ends entry.1
+              rest after;
+        },
+        named,
+      ) in
       record { kind = entry.1; rest = rest; one = after; two = ThenWord-after table words Two stops bytes rest entry.1 takes two }
 
   abbrev pub forget : Entry K → Entry (Unit {0})

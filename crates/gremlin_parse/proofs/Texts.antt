@@ -101,7 +101,8 @@ one_text quote is text inside other others rest more pieces others_pieces whole 
     ended : (left inside_left : List ℕ) → ArePieces quote left inside_left → quote ∷ rest ≡ inside_left ++ quote ∷ more → (left ≡ []) × (rest ≡ more)
     ended [] inside_left none here = let same : quote ∷ rest ≡ quote ∷ more = here ∙ ap (λ i. i ++ quote ∷ more) none in (refl, cc)
     ended (b ∷ left) inside_left (piece, after, inside_is, this, pieces_left) here =
-        absurd (piece_no_quote quote b is piece (after ++ quote ∷ more) rest this (sym (append_assoc piece after (quote ∷ more)) ∙ ap (λ i. i ++ quote ∷ more) (sym inside_is) ∙ sym here))
+        absurd (piece_no_quote quote b is piece (after ++ quote ∷ more) rest this (sym (append_assoc piece after (quote ∷ more)) ∙ ap (λ i. i ++ quote ∷ more)
+        (sym inside_is) ∙ sym here))
 
 -- one piece more
 pub pieces_more : (quote b : ℕ) (text inside piece : List ℕ) → ArePieces quote text inside → IsPiece quote b piece
@@ -172,7 +173,15 @@ text_more quote bytes rest after len so_far takes = record {
 }
 
 pub text_stops : (quote : ℕ) (bytes rest : List ℕ) (len left : ℕ) → TextSoFar quote bytes rest len → LeavesPiece rest left → LeavesQuoted quote bytes left
-text_stops quote bytes rest len left so_far leaves = record { text = so_far.text; inside = so_far.inside; rest = rest; bytes_are = so_far.bytes_are; pieces = so_far.pieces; leaves = leaves }
+text_stops quote bytes rest len left so_far leaves = record {
+  text = so_far.text;
+  inside = so_far.inside;
+  rest = rest;
+  bytes_are = so_far.bytes_are;
+  pieces =
+      so_far.pieces;
+  leaves = leaves;
+}
 
 -- the whole text, cut where its closing quote stands
 pub text_closes : (quote : ℕ) (bytes rest : List ℕ) (len : ℕ) → TextSoFar quote bytes rest len → StartsWith quote rest → (cut closed : List ℕ)

@@ -28,4 +28,16 @@ zero_number number (b ∷ c ∷ bytes) is zero =
 -- a number of times out of its bounds
 pub bad_times : (number left : ℕ) (bytes rest : List ℕ) → Takes (AnyNumber most_id) number bytes rest → (number < 1) ⊎ (16 < number) → left ≡ length bytes
     → IsBad AnyTimes WrongTimes left bytes
-bad_times number left bytes rest takes wrong left_is = (number, wrong, rest, record { prefix = takes.prefix; bytes_are = takes.bytes_are; is = takes.is; ends = takes.ends }, left_is)
+bad_times number left bytes rest takes wrong left_is = (
+  number,
+  wrong,
+  rest,
+  record {
+    prefix = takes.prefix;
+    bytes_are = takes.bytes_are;
+    is = takes.is;
+    ends =
+        takes.ends;
+  },
+  left_is,
+)

@@ -174,8 +174,22 @@ goes_lead end (token ∷ tokens) place bytes (inr (inl quotes)) (text, rest, who
 goes_lead end (token ∷ tokens) place bytes (inr (inr (inl (middle, next, first, no_blanks, second, loose, same, goes)))) (text, rest, whole, this, from) =
     let (n, at) = go_on end tokens next rest loose (goes_lead end tokens) goes from in
     let text_is : IsToken (word (codes "__")) text = subst (λ t. IsToken t text) same this in
-    let inner : Leads turn is_loose IsBounded end (suc n) middle (95 ∷ rest) = inl (95, next, second, (95 ∷ [], rest, refl, refl, at)) in
-    (suc (suc n), inl (95, middle, first, (95 ∷ [], 95 ∷ rest, whole ∙ ap (λ (t : List ℕ). t ++ rest) text_is.0, refl, tight (is_loose middle) (Leads turn is_loose IsBounded end (suc n) middle) (95 ∷ rest) no_blanks inner)))
+    let inner : Leads turn is_loose IsBounded end (suc n) middle (95 ∷ rest) = inl (95, next, second, (95 ∷ [], rest, refl, refl, at)) in (
+      suc (suc n),
+      inl (
+        95,
+        middle,
+        first,
+        (
+          95 ∷ [],
+          95 ∷ rest,
+          whole ∙ ap (λ (t : List ℕ). t ++ rest) text_is.0,
+          refl,
+          tight (is_loose middle)
+              (Leads turn is_loose IsBounded end (suc n) middle) (95 ∷ rest) no_blanks inner,
+        ),
+      ),
+    )
 goes_lead end (token ∷ tokens) place bytes (inr (inr (inr other))) (text, rest, whole, this, from) =
     let (n, at) = other_go end tokens token (turn place).other (loose_after place) (goes_lead end tokens) other text rest bytes whole this from in
     (suc n, inr at)
@@ -184,19 +198,57 @@ goes_lead end (token ∷ tokens) place bytes (inr (inr (inr other))) (text, rest
 
 later_names_go : (end : Command) (purpose : NamesFor) (names more : List (List ℕ)) (rest : List Token) → Goes end (after_names purpose (names ++ more)) rest
     → Goes end (AfterName purpose names) ((after_commas (map Quoted more) ++ closing ∷ []) ++ rest)
-later_names_go end purpose names [] rest goes = inl (41, (after_names purpose names), refl, (loose_names purpose names), refl, (subst (λ l. Goes end (after_names purpose l) rest) (append-nil names) goes))
+later_names_go end purpose names [] rest goes = inl (
+  41,
+  (after_names purpose names),
+  refl,
+  (loose_names purpose names),
+  refl,
+  (subst (λ l. Goes end (after_names purpose l) rest) (append-nil names) goes),
+)
 later_names_go end purpose names (name ∷ more) rest goes =
-    inl (44, (Quote (OneName purpose names)), refl, refl, refl, (inr (inl ((OneName purpose names), name, refl, refl, refl, (later_names_go end purpose (names ++ name ∷ []) more rest (subst (λ l. Goes end (after_names purpose l) rest) (sym (append_assoc names (name ∷ []) more)) goes))))))
+    inl (
+      44,
+      (Quote (OneName purpose names)),
+      refl,
+      refl,
+      refl,
+      (inr (inl (
+        (OneName purpose names),
+        name,
+        refl,
+        refl,
+        refl,
+        (later_names_go end purpose (names ++ name ∷ []) more rest
+            (subst (λ l. Goes end (after_names purpose l) rest) (sym (append_assoc names (name ∷ []) more)) goes)),
+      ))),
+    )
 
 names_go : (end : Command) (purpose : NamesFor) (names : List (List ℕ)) (rest : List Token) → Goes end (after_names purpose names) rest
     → Goes end (FirstName purpose) ((names_of names ++ closing ∷ []) ++ rest)
 names_go end purpose [] rest goes = inl (41, (after_names purpose []), refl, (loose_names purpose []), refl, goes)
-names_go end purpose (name ∷ names) rest goes = inr (inl ((OneName purpose []), name, refl, refl, refl, (later_names_go end purpose (name ∷ []) names rest goes)))
+names_go end purpose (name ∷ names) rest goes = inr (inl (
+  (OneName purpose []),
+  name,
+  refl,
+  refl,
+  refl,
+  (later_names_go end purpose (name ∷ [])
+      names rest goes),
+))
 
 some_names_go : (end : Command) (purpose : NamesFor) (names : List (List ℕ)) (rest : List Token) → names ≢ [] → Goes end (after_names purpose names) rest
     → Goes end (Quote (OneName purpose [])) ((names_of names ++ closing ∷ []) ++ rest)
 some_names_go end purpose [] rest some goes = absurd (some refl)
-some_names_go end purpose (name ∷ names) rest some goes = inr (inl ((OneName purpose []), name, refl, refl, refl, (later_names_go end purpose (name ∷ []) names rest goes)))
+some_names_go end purpose (name ∷ names) rest some goes = inr (inl (
+  (OneName purpose []),
+  name,
+  refl,
+  refl,
+  refl,
+  (later_names_go end purpose (name ∷ [])
+      names rest goes),
+))
 
 -- ---- filters
 
@@ -225,19 +277,58 @@ opens_value_go : (end : Command) (into : Into) (key : List ℕ) (relation : Rela
     → Goes end (OpensValue into key (relation_of (relation_name relation))) (opening ∷ literal value ∷ closing ∷ closing ∷ rest)
 opens_value_go end into key relation value rest goes =
     subst (λ r. Goes end (OpensValue into key r) (opening ∷ literal value ∷ closing ∷ closing ∷ rest)) (sym (relation_back relation))
-    (inl (40, (Compared into key relation), refl, refl, refl, (inr (inr (inr (value, tt, refl, inl (41, (ClosesFilter into (filters.HasValue key relation value)), refl, refl, refl, (closes_go end into (filters.HasValue key relation value) rest goes))))))))
+    (inl (
+      40,
+      (Compared into key relation),
+      refl,
+      refl,
+      refl,
+      (inr (inr (inr (
+        value,
+        tt,
+        refl,
+        inl (
+          41,
+          (ClosesFilter into (filters.HasValue key relation value)),
+          refl,
+          refl,
+          refl,
+          (closes_go end into (filters.HasValue key relation value) rest goes),
+        ),
+      )))),
+    ))
 
 compared_go : (end : Command) (into : Into) (key : List ℕ) (relation : Relation) (value : Value) (text rest : List Token) → IsCompared relation value text
     → Goes end (after_filter into (filters.HasValue key relation value)) rest → Goes end (ValueOf into key) ((text ++ closing ∷ []) ++ rest)
 compared_go end into key relation value text rest (inl (equal, is)) goes =
     subst (λ (t : List Token). Goes end (ValueOf into key) ((t ++ closing ∷ []) ++ rest)) (sym is)
-    (inr (inr (inr (inr (value, tt, refl, closes_go end into (filters.HasValue key relations.Eq value) rest (subst (λ r. Goes end (after_filter into (filters.HasValue key r value)) rest) equal goes))))))
+    (inr (inr (inr (inr (
+      value,
+      tt,
+      refl,
+      closes_go end into (filters.HasValue key relations.Eq value) rest
+          (subst (λ r. Goes end (after_filter into (filters.HasValue key r value)) rest) equal goes),
+    )))))
 compared_go end into key relation value text rest (inr (inl is)) goes =
     subst (λ (t : List Token). Goes end (ValueOf into key) ((t ++ closing ∷ []) ++ rest)) (sym is)
     (inr (inr (inr (inl (relation_name relation, relation_in relation, refl, opens_value_go end into key relation value rest goes)))))
 compared_go end into key relation value text rest (inr (inr is)) goes =
     subst (λ (t : List Token). Goes end (ValueOf into key) ((t ++ closing ∷ []) ++ rest)) (sym is)
-    (inl (80, (AfterP into key), refl, refl, refl, (inl (46, (RelationName into key), refl, refl, refl, (inr (inr (inr (relation_name relation, relation_in relation, refl, opens_value_go end into key relation value rest goes))))))))
+    (inl (
+      80,
+      (AfterP into key),
+      refl,
+      refl,
+      refl,
+      (inl (
+        46,
+        (RelationName into key),
+        refl,
+        refl,
+        refl,
+        (inr (inr (inr (relation_name relation, relation_in relation, refl, opens_value_go end into key relation value rest goes)))),
+      )),
+    ))
 
 -- what stands after the parenthesis of a step of a query or of a body, and the word of the step
 abbrev BodyGo : Command → Into → BodyStep → List Token → List Token → Type 0
@@ -246,16 +337,49 @@ BodyGo end into step text rest = (this : BodyWord) × (arguments : List Token) �
 
 filter_go : (end : Command) (into : Into) (filter : Filter) (text rest : List Token) → IsFilter filter text → Goes end (after_filter into filter) rest
     → BodyGo end into (bodies.Filter filter) text rest
-filter_go end into (filters.Has key) text rest is goes =
-    (of_body.Has, Quoted key ∷ closing ∷ [], is, (λ these bytes. refl), inr (inl ((Key into), key, refl, refl, refl, (inl (41, (after_filter into (filters.Has key)), refl, (loose_filter into (filters.Has key)), refl, goes)))))
-filter_go end into (filters.HasValue key relation value) text rest (compared, are, is) goes =
-    (of_body.Has, Quoted key ∷ comma ∷ (compared ++ closing ∷ []), is, (λ these bytes. refl), inr (inl ((Key into), key, refl, refl, refl, (inl (44, (ValueOf into key), refl, refl, refl, (compared_go end into key relation value compared rest are goes))))))
+filter_go end into (filters.Has key) text rest is goes = (
+  of_body.Has,
+  Quoted key ∷ closing ∷ [],
+  is,
+  (λ these bytes. refl),
+  inr
+      (inl ((Key into), key, refl, refl, refl, (inl (41, (after_filter into (filters.Has key)), refl, (loose_filter into (filters.Has key)), refl, goes)))),
+)
+filter_go end into (filters.HasValue key relation value) text rest (compared, are, is) goes = (
+  of_body.Has,
+  Quoted key ∷ comma ∷ (compared ++ closing ∷ []),
+  is,
+  (λ these bytes. refl),
+  inr
+      (inl (
+        (Key into),
+        key,
+        refl,
+        refl,
+        refl,
+        (inl (
+          44,
+          (ValueOf into key),
+          refl,
+          refl,
+          refl,
+          (compared_go end into key relation value compared rest are
+              goes),
+        )),
+      )),
+)
 filter_go end into (filters.HasLabel labels) text rest (some, is) goes =
     (of_body.HasLabel, names_of labels ++ closing ∷ [], is, (λ these bytes. refl), some_names_go end (OfLabels into) labels rest some goes)
 
 body_go : (end : Command) (into : Into) (step : BodyStep) (text rest : List Token) → IsBodyStep step text → Goes end (after_step into step) rest
     → BodyGo end into step text rest
-body_go end into (bodies.Neighbours hop) text rest is goes = (of_body.Neighbours hop.direction, names_of hop.labels ++ closing ∷ [], is, (λ these bytes. refl), names_go end (OfHop into hop.direction) hop.labels rest goes)
+body_go end into (bodies.Neighbours hop) text rest is goes = (
+  of_body.Neighbours hop.direction,
+  names_of hop.labels ++ closing ∷ [],
+  is,
+  (λ these bytes. refl),
+  names_go end (OfHop into hop.direction) hop.labels rest goes,
+)
 body_go end into (bodies.Filter filter) text rest is goes = filter_go end into filter text rest is goes
 
 -- ---- repeats
@@ -275,8 +399,26 @@ NamedGo end query body tokens = (token : Token) × (later : List Token) × (toke
 named_go : (end : Command) (query : Query) (body : List BodyStep) (step : BodyStep) (text rest : List Token) → IsBodyStep step text
     → count_before query body < 32 → Goes end (InBody query (body ++ step ∷ [])) rest → NamedGo end query body (text ++ rest)
 named_go end query body step text rest is early goes =
-    let (this, arguments, cut, same, opened) = body_go end (OfBody query body) step text rest is goes in
-    (word (letters_of this), opening ∷ (arguments ++ rest), ap (λ (t : List Token). t ++ rest) cut, ((letters_of this, words.Body this), body_entry this, refl, (λ bytes from. never_late (count_before query body) early), inl (40, (opened_body (OfBody query body) this), refl, (loose_body (OfBody query body) this), refl, opened)))
+    let (this, arguments, cut, same, opened) = body_go end (OfBody query body) step text rest is goes in (
+      word (letters_of this),
+      opening ∷ (arguments ++ rest),
+      ap (λ (t : List Token). t ++ rest) cut,
+      (
+        (letters_of this, words.Body this),
+        body_entry this,
+        refl,
+        (λ bytes from. never_late (count_before query body) early),
+        inl (
+          40,
+          (opened_body (OfBody query body) this),
+          refl,
+          (loose_body (OfBody query body)
+              this),
+          refl,
+          opened,
+        ),
+      ),
+    )
 
 later_body_go : (end : Command) (query : Query) (body more : List BodyStep) (text rest : List Token) → AreBodySteps more text → InTime query (body ++ more)
     → Goes end (AfterBody query (body ++ more)) rest → Goes end (InBody query body) (text ++ (closing ∷ rest))
@@ -312,13 +454,48 @@ first_body_go end query body front text rest (inl none) are early goes =
 first_body_go end query body front text rest (inr is) are early goes =
     let (token, tokens, cut, other) = some_body_go end query body text rest are early goes in
     subst (λ (f : List Token). Goes end (BodyFirst query) (f ++ (text ++ (closing ∷ rest)))) (sym is)
-    (inr (inr (inl (Underscore query, AfterAnonymous query, refl, refl, refl, refl, refl, inl (46, (BodyName query []), refl, refl, refl, (subst (Goes end (BodyName query [])) (sym cut) (inr (inr (inr other)))))))))
+    (inr (inr (inl (
+      Underscore query,
+      AfterAnonymous query,
+      refl,
+      refl,
+      refl,
+      refl,
+      refl,
+      inl (
+        46,
+        (BodyName query []),
+        refl,
+        refl,
+        refl,
+        (subst (Goes end (BodyName query [])) (sym cut) (inr (inr (inr other)))),
+      ),
+    ))))
 
 times_go : (end : Command) (query : Query) (body : List BodyStep) (times : ℕ) (rest : List Token)
     → Goes end (Steps (with_step query (steps.Repeat body times))) rest
     → Goes end (AfterBody query body) (dot ∷ word (codes "times") ∷ opening ∷ Whole (Times times) ∷ closing ∷ rest)
 times_go end query body times rest goes =
-    inl (46, (TimesWord query body), refl, refl, refl, (inr (inr (inr (tt, tt, refl, inl (40, (TimesOf query body), refl, refl, refl, (inr (inr (inr (times, tt, refl, inl (41, (Steps (with_step query (steps.Repeat body times))), refl, refl, refl, goes)))))))))))
+    inl (
+      46,
+      (TimesWord query body),
+      refl,
+      refl,
+      refl,
+      (inr (inr (inr (
+        tt,
+        tt,
+        refl,
+        inl (
+          40,
+          (TimesOf query body),
+          refl,
+          refl,
+          refl,
+          (inr (inr (inr (times, tt, refl, inl (41, (Steps (with_step query (steps.Repeat body times))), refl, refl, refl, goes))))),
+        ),
+      )))),
+    )
 
 regrouped : (front text tail rest : List Token) → (((front ++ text) ++ closing ∷ []) ++ tail) ++ rest ≡ front ++ (text ++ (closing ∷ (tail ++ rest)))
 regrouped front text tail rest = append_assoc ((front ++ text) ++ closing ∷ []) tail rest ∙ append_assoc (front ++ text) (closing ∷ []) (tail ++ rest)
@@ -340,10 +517,42 @@ DirectionGo end query key tokens = (token : Token) × (later : List Token) × (t
 
 direction_go : (end : Command) (query : Query) (key : Option (List ℕ)) (descending : Bool) (text rest : List Token) → IsDirection descending text
     → Goes end (ByCloses query key descending) rest → DirectionGo end query key (text ++ rest)
-direction_go end query key descending text rest (inl is) goes =
-    (word (sort_name descending), rest, ap (λ (t : List Token). t ++ rest) is, inl (sort_name descending, sort_in descending, refl, subst (λ d. Goes end (ByCloses query key d) rest) (sym (sort_back descending)) goes))
-direction_go end query key descending text rest (inr is) goes =
-    (word (codes "Order"), dot ∷ word (sort_name descending) ∷ rest, ap (λ (t : List Token). t ++ rest) is, inr (tt, tt, refl, inl (46, (DirectionName query key), refl, refl, refl, (inr (inr (inr (sort_name descending, sort_in descending, refl, subst (λ d. Goes end (ByCloses query key d) rest) (sym (sort_back descending)) goes)))))))
+direction_go end query key descending text rest (inl is) goes = (
+  word (sort_name descending),
+  rest,
+  ap (λ (t : List Token). t ++ rest) is,
+  inl (
+    sort_name descending,
+    sort_in descending,
+    refl,
+    subst
+        (λ d. Goes end (ByCloses query key d) rest) (sym (sort_back descending)) goes,
+  ),
+)
+direction_go end query key descending text rest (inr is) goes = (
+  word (codes "Order"),
+  dot ∷ word (sort_name descending) ∷ rest,
+  ap (λ (t : List Token). t ++ rest) is,
+  inr (
+    tt,
+    tt,
+    refl,
+    inl (
+      46,
+      (DirectionName query key),
+      refl,
+      refl,
+      refl,
+      (inr (inr (inr (
+        sort_name descending,
+        sort_in descending,
+        refl,
+        subst (λ d. Goes end (ByCloses query key d) rest) (sym (sort_back descending))
+            goes,
+      )))),
+    ),
+  ),
+)
 
 by_closes_go : (end : Command) (query : Query) (key : Option (List ℕ)) (descending : Bool) (rest : List Token)
     → Goes end (Steps (reordered query key descending)) rest → Goes end (ByCloses query key descending) (closing ∷ rest)
@@ -359,7 +568,21 @@ by_go end query None descending text rest (inr is) goes =
     subst (Goes end (ByFirst query)) (sym cut) (inr (inr (inr other)))
 by_go end query (Some key) descending text rest (inl (ascends, is)) goes =
     subst (λ (t : List Token). Goes end (ByFirst query) (t ++ (closing ∷ rest))) (sym is)
-    (inr (inl ((OrderKey query), key, refl, refl, refl, (inl (41, (Steps (reordered query (Some key) false)), refl, refl, refl, (subst (λ d. Goes end (Steps (reordered query (Some key) d)) rest) ascends goes))))))
+    (inr (inl (
+      (OrderKey query),
+      key,
+      refl,
+      refl,
+      refl,
+      (inl (
+        41,
+        (Steps (reordered query (Some key) false)),
+        refl,
+        refl,
+        refl,
+        (subst (λ d. Goes end (Steps (reordered query (Some key) d)) rest) ascends goes),
+      )),
+    )))
 by_go end query (Some key) descending text rest (inr (direction, are, is)) goes =
     let (token, later, cut, other) = direction_go end query (Some key) descending direction (closing ∷ rest) are
     (by_closes_go end query (Some key) descending rest goes) in
@@ -413,7 +636,10 @@ incident_in directions.Incoming = inr (inr (inr (inr (inl refl))))
 incident_in directions.Both = inr (inr (inr (inr (inr (inl refl)))))
 
 -- from the tenth name of a step on
-after_ten : (entry : Entry StepWord) → InTable entry ((codes "outV", words.Bare bare.OutV) ∷ (codes "inV", words.Bare bare.InV) ∷ (codes "id", words.Bare bare.Id) ∷ (codes "label", words.Bare bare.Label) ∷ (codes "dedup", words.Bare bare.Dedup) ∷ (codes "count", words.Bare bare.Count) ∷ (codes "limit", words.Limit) ∷ (codes "order", words.Order) ∷ (codes "repeat", words.Repeat) ∷ (codes "addE", words.Change changes.AddE) ∷ (codes "property", words.Change changes.Property) ∷ (codes "drop", words.Change changes.Drop) ∷ []) → InTable entry step_words
+after_ten : (entry : Entry StepWord) → InTable entry ((codes "outV", words.Bare bare.OutV) ∷ (codes "inV", words.Bare bare.InV) ∷
+    (codes "id", words.Bare bare.Id) ∷ (codes "label", words.Bare bare.Label) ∷ (codes "dedup", words.Bare bare.Dedup) ∷ (codes "count", words.Bare bare.Count)
+    ∷ (codes "limit", words.Limit) ∷ (codes "order", words.Order) ∷ (codes "repeat", words.Repeat) ∷ (codes "addE", words.Change changes.AddE) ∷
+    (codes "property", words.Change changes.Property) ∷ (codes "drop", words.Change changes.Drop) ∷ []) → InTable entry step_words
 after_ten entry within = inr (inr (inr (inr (inr (inr (inr (inr (inr (inr within)))))))))
 
 bare_in : (this : BareStep) → InTable (step_letters (words.Bare this), words.Bare this) step_words
@@ -428,8 +654,21 @@ bare_go : (end : Command) (query : Query) (this : BareStep) (text rest : List To
     → IsNext query (Does (bare_step this)) → Goes end (Steps (with_step query (bare_step this))) rest → NameGo end query (text ++ rest)
 bare_go end query this text rest is next goes =
     let free = free_name query (words.Bare this) (text ++ rest) refl (λ bytes from. sym (bare_takes this (items_of query) bytes) ∙ next.0)
-    (before_last query (Does (bare_step this)) next) in
-    (words.Bare this, closing ∷ rest, bare_in this, ap (λ (t : List Token). t ++ rest) is, free, inl (41, (Steps (with_step query (bare_step this))), refl, refl, refl, goes))
+    (before_last query (Does (bare_step this)) next) in (
+      words.Bare this,
+      closing ∷ rest,
+      bare_in this,
+      ap (λ (t : List Token). t ++ rest) is,
+      free,
+      inl (
+        41,
+        (Steps (with_step query (bare_step this))),
+        refl,
+        refl,
+        refl,
+        goes,
+      ),
+    )
 
 step_body_go : (end : Command) (query : Query) (step : BodyStep) (text rest : List Token) → IsBodyStep step text → IsNext query (Does (step_of step))
     → Goes end (Steps (with_step query (step_of step))) rest → NameGo end query (text ++ rest)
@@ -442,27 +681,63 @@ step_body_go end query step text rest is next goes =
 order_free : (query : Query) (key : Option (List ℕ)) (descending : Bool) (text rest : List Token) → IsOrder key descending text → Follows rest
     → IsNext query (Does (steps.Order key descending)) → AllFree (text ++ rest) (step_fault (stage_of query) words.Order)
 order_free query key descending text rest is follows next =
-    free_name query words.Order (text ++ rest) refl (λ bytes from. sym (order_takes key descending (items_of query) bytes (order_keyed key descending text rest is follows bytes from)) ∙ next.0) (before_last query (Does (steps.Order key descending)) next)
+    free_name query words.Order (text ++ rest) refl (λ bytes from. sym (order_takes key descending (items_of query) bytes (order_keyed key descending text rest
+    is follows bytes from)) ∙ next.0) (before_last query (Does (steps.Order key descending)) next)
 
 order_go : (end : Command) (query : Query) (key : Option (List ℕ)) (descending : Bool) (text rest : List Token) → IsOrder key descending text
     → AllFree (text ++ rest) (step_fault (stage_of query) words.Order) → AfterSteps end (with_step query (steps.Order key descending)) rest
     → NameGo end query (text ++ rest)
 order_go end query key descending text rest (inl (no_key, ascends, is)) free (goes, ordered, follows) =
     let plain_is : Goes end (Ordered (with_step query plain_order)) rest =
-    subst (λ s. Goes end (Ordered (with_step query s)) rest) (λ i. steps.Order (no_key i) (ascends i)) ordered in
-    (words.Order, closing ∷ rest, after_ten _ (inr (inr (inr (inr (inr (inr (inr (inl refl)))))))), ap (λ (t : List Token). t ++ rest) is, free, inl (41, (Ordered (with_step query plain_order)), refl, refl, refl, plain_is))
+    subst (λ s. Goes end (Ordered (with_step query s)) rest) (λ i. steps.Order (no_key i) (ascends i)) ordered in (
+      words.Order,
+      closing ∷ rest,
+      after_ten _ (inr (inr (inr (inr (inr (inr (inr (inl refl)))))))),
+      ap (λ (t : List Token). t ++ rest) is,
+      free,
+      inl
+          (41, (Ordered (with_step query plain_order)), refl, refl, refl, plain_is),
+    )
 order_go end query key descending text rest (inr (by, are, is)) free (goes, ordered, follows) =
     let put = replace_last-append query.steps plain_order (steps.Order key descending) in
     let by_is = by_go end (with_step query plain_order) key descending by rest are
     (subst (λ l. Goes end (Steps (record query { steps = l })) rest) (sym put) goes) in
     let cut : text ++ rest ≡ word (codes "order") ∷ opening ∷ closing ∷ dot ∷ word (codes "by") ∷ opening ∷ (by ++ (closing ∷ rest)) =
-    ap (λ (t : List Token). t ++ rest) is ∙ (λ i. word (codes "order") ∷ opening ∷ closing ∷ dot ∷ word (codes "by") ∷ opening ∷ append_assoc by (closing ∷ []) rest i) in (
+    ap (λ (t : List Token). t ++ rest) is ∙ (λ i. word (codes "order") ∷ opening ∷ closing ∷ dot ∷ word (codes "by") ∷ opening ∷ append_assoc by (closing ∷ [])
+    rest i) in (
       words.Order,
       closing ∷ dot ∷ word (codes "by") ∷ opening ∷ (by ++ (closing ∷ rest)),
       after_ten _ (inr (inr (inr (inr (inr (inr (inr (inl refl)))))))),
       cut,
       free,
-      inl (41, (Ordered (with_step query plain_order)), refl, refl, refl, (inl (46, (OrderedName (with_step query plain_order)), refl, refl, refl, (inr (inr (inr ((codes "by", words.By), inl refl, refl, (λ bytes from. refl), inl (40, (ByFirst (with_step query plain_order)), refl, refl, refl, by_is)))))))),
+      inl (
+        41,
+        (Ordered (with_step query plain_order)),
+        refl,
+        refl,
+        refl,
+        (inl (
+          46,
+          (OrderedName (with_step query plain_order)),
+          refl,
+          refl,
+          refl,
+          (inr (inr (inr (
+            (codes "by", words.By),
+            inl refl,
+            refl,
+            (λ bytes from. refl),
+            inl (
+              40,
+              (ByFirst (with_step query plain_order)),
+              refl,
+              refl,
+              refl,
+              by_is,
+            ),
+          )))),
+        )),
+      ),
     )
 
 repeat_go : (end : Command) (query : Query) (body : List BodyStep) (times : ℕ) (text rest : List Token) → IsRepeat body times text
@@ -482,14 +757,28 @@ written_go : (end : Command) (query : Query) (step : WrittenStep) (text rest : L
 written_go end query (Does (steps.Neighbours hop)) text rest is next goes = step_body_go end query (bodies.Neighbours hop) text rest is next goes.0
 written_go end query (Does (steps.Incident hop)) text rest is next goes =
     let free = free_name query (words.Names (of_names.Incident hop.direction)) (text ++ rest) refl (λ bytes from. next.0)
-    (before_last query (Does (steps.Incident hop)) next) in
-    (words.Names (of_names.Incident hop.direction), (names_of hop.labels ++ closing ∷ []) ++ rest, incident_in hop.direction, ap (λ (t : List Token). t ++ rest) is, free, names_go end (OfStep query (of_names.Incident hop.direction)) hop.labels rest goes.0)
+    (before_last query (Does (steps.Incident hop)) next) in (
+      words.Names (of_names.Incident hop.direction),
+      (names_of hop.labels ++ closing ∷ []) ++ rest,
+      incident_in hop.direction,
+      ap (λ (t : List Token). t ++ rest)
+          is,
+      free,
+      names_go end (OfStep query (of_names.Incident hop.direction)) hop.labels rest goes.0,
+    )
 written_go end query (Does steps.OutV) text rest is next goes = bare_go end query bare.OutV text rest is next goes.0
 written_go end query (Does steps.InV) text rest is next goes = bare_go end query bare.InV text rest is next goes.0
 written_go end query (Does (steps.Filter filter)) text rest is next goes = step_body_go end query (bodies.Filter filter) text rest is next goes.0
 written_go end query (Does (steps.Values keys)) text rest is next goes =
-    let free = free_name query (words.Names of_names.Values) (text ++ rest) refl (λ bytes from. next.0) (before_last query (Does (steps.Values keys)) next) in
-    (words.Names of_names.Values, (names_of keys ++ closing ∷ []) ++ rest, inr (inr (inr (inr (inr (inr (inl refl)))))), ap (λ (t : List Token). t ++ rest) is, free, names_go end (OfStep query of_names.Values) keys rest goes.0)
+    let free = free_name query (words.Names of_names.Values) (text ++ rest) refl (λ bytes from. next.0) (before_last query (Does (steps.Values keys)) next) in (
+      words.Names of_names.Values,
+      (names_of keys ++ closing ∷ []) ++ rest,
+      inr (inr (inr (inr (inr (inr (inl refl)))))),
+      ap (λ (t : List Token). t ++ rest)
+          is,
+      free,
+      names_go end (OfStep query of_names.Values) keys rest goes.0,
+    )
 written_go end query (Does steps.Id) text rest is next goes = bare_go end query bare.Id text rest is next goes.0
 written_go end query (Does steps.Label) text rest is next goes = bare_go end query bare.Label text rest is next goes.0
 written_go end query (Does steps.Dedup) text rest is next goes = bare_go end query bare.Dedup text rest is next goes.0
@@ -506,8 +795,15 @@ written_go end query (Does (steps.Order key descending)) text rest is next goes 
     order_go end query key descending text rest is (order_free query key descending text rest is goes.2 next) goes
 written_go end query (Does (steps.Repeat body times)) text rest is next goes = repeat_go end query body times text rest is next goes.0
 written_go end query (Maps keys) text rest is next goes =
-    let free = free_name query words.ElementMap (text ++ rest) refl (λ bytes from. next.0) (before_last query (Maps keys) next) in
-    (words.ElementMap, (names_of keys ++ closing ∷ []) ++ rest, inr (inr (inr (inr (inr (inr (inr (inl refl))))))), ap (λ (t : List Token). t ++ rest) is, free, names_go end (OfMaps query) keys rest goes.0)
+    let free = free_name query words.ElementMap (text ++ rest) refl (λ bytes from. next.0) (before_last query (Maps keys) next) in (
+      words.ElementMap,
+      (names_of keys ++ closing ∷ []) ++ rest,
+      inr (inr (inr (inr (inr (inr (inr (inl refl))))))),
+      ap (λ (t : List Token). t ++ rest)
+          is,
+      free,
+      names_go end (OfMaps query) keys rest goes.0,
+    )
 
 steps_go : (end : Command) (query : Query) (list : List WrittenStep) (text rest : List Token) → AreSteps list text → AllFit query list
     → AfterSteps end (with_all query list) rest → AfterSteps end query (text ++ rest)
@@ -527,7 +823,21 @@ steps_go end query (step ∷ list) text rest (first, later, is, step_is, are) (f
 pair_go : (end : Command) (purpose : PairFor) (key : List ℕ) (value : Value) (rest : List Token) → Goes end (after_pair purpose key value) rest
     → Goes end (Quote (PairKey purpose)) (Quoted key ∷ comma ∷ literal value ∷ closing ∷ rest)
 pair_go end purpose key value rest goes =
-    inr (inl ((PairKey purpose), key, refl, refl, refl, (inl (44, (PairValue purpose key), refl, refl, refl, (inr (inr (inr (value, tt, refl, inl (41, (after_pair purpose key value), refl, (loose_pair purpose key value), refl, goes)))))))))
+    inr (inl (
+      (PairKey purpose),
+      key,
+      refl,
+      refl,
+      refl,
+      (inl (
+        44,
+        (PairValue purpose key),
+        refl,
+        refl,
+        refl,
+        (inr (inr (inr (value, tt, refl, inl (41, (after_pair purpose key value), refl, (loose_pair purpose key value), refl, goes))))),
+      )),
+    ))
 
 pair_in_time : (subject : Subject) (pairs : List Pair) (pair : Pair) (more : List Pair) → AreEarly subject (pairs ++ pair ∷ more)
     → steps_before subject + length pairs < 32
@@ -542,12 +852,60 @@ properties_go end subject pairs (pair ∷ more) is early =
     let later = properties_go end subject (pairs ++ pair ∷ []) more (is ∙ ap (λ (l : List Pair). changed subject l) joined)
     (subst (AreEarly subject) joined early) in
     let soon = pair_in_time subject pairs pair more early in
-    inl (46, (PropertyName subject pairs), refl, refl, refl, (inr (inr (inr ((codes "property", words.Change changes.Property), inl refl, refl, (λ bytes from. never_late (steps_before subject + length pairs) soon), inl (40, (Quote (PairKey (OfChange subject pairs))), refl, refl, refl, (pair_go end (OfChange subject pairs) pair.key pair.value (properties_of more) later)))))))
+    inl (
+      46,
+      (PropertyName subject pairs),
+      refl,
+      refl,
+      refl,
+      (inr (inr (inr (
+        (codes "property", words.Change changes.Property),
+        inl refl,
+        refl,
+        (λ bytes from. never_late (steps_before subject + length pairs)
+            soon),
+        inl (
+          40,
+          (Quote (PairKey (OfChange subject pairs))),
+          refl,
+          refl,
+          refl,
+          (pair_go end (OfChange subject pairs) pair.key pair.value
+              (properties_of more) later),
+        ),
+      )))),
+    )
 
 vertex_to_go : (end : Command) (query : Query) (label : List ℕ) (to : ℕ) (rest : List Token) → Goes end (Changed (NewEdges query label to) []) rest
     → Goes end (OpensId query label) (opening ∷ identifier to ∷ closing ∷ closing ∷ rest)
 vertex_to_go end query label to rest goes =
-    inl (40, (ToId query label), refl, refl, refl, (inr (inr (inr (to, tt, refl, inl (41, (ToCloses query label to), refl, refl, refl, (inl (41, (Changed (NewEdges query label to) []), refl, refl, refl, goes))))))))
+    inl (
+      40,
+      (ToId query label),
+      refl,
+      refl,
+      refl,
+      (inr (inr (inr (
+        to,
+        tt,
+        refl,
+        inl (
+          41,
+          (ToCloses query label to),
+          refl,
+          refl,
+          refl,
+          (inl (
+            41,
+            (Changed (NewEdges query label to) []),
+            refl,
+            refl,
+            refl,
+            goes,
+          )),
+        ),
+      )))),
+    )
 
 -- from after the parenthesis of `to`
 to_go : (end : Command) (query : Query) (label : List ℕ) (to : ℕ) (text rest : List Token) → IsTo to text → Goes end (Changed (NewEdges query label to) []) rest
@@ -556,12 +914,59 @@ to_go end query label to text rest (front, inl none, is) goes =
     let cut : text ≡ call (codes "to") (call (codes "V") (identifier to ∷ [])) = is
     ∙ ap (λ (f : List Token). call (codes "to") (f ++ call (codes "V") (identifier to ∷ []))) none in
     subst (λ (t : List Token). Goes end (ToWord query label) (t ++ rest)) (sym cut)
-    (inr (inr (inr (tt, tt, refl, inl (40, (ToFirst query label), refl, refl, refl, (inl (86, (OpensId query label), refl, refl, refl, (vertex_to_go end query label to rest goes))))))))
+    (inr (inr (inr (
+      tt,
+      tt,
+      refl,
+      inl (
+        40,
+        (ToFirst query label),
+        refl,
+        refl,
+        refl,
+        (inl (
+          86,
+          (OpensId query label),
+          refl,
+          refl,
+          refl,
+          (vertex_to_go end query label to rest goes),
+        )),
+      ),
+    ))))
 to_go end query label to text rest (front, inr some, is) goes =
     let cut : text ≡ call (codes "to") (word (codes "__") ∷ dot ∷ call (codes "V") (identifier to ∷ [])) = is
     ∙ ap (λ (f : List Token). call (codes "to") (f ++ call (codes "V") (identifier to ∷ []))) some in
     subst (λ (t : List Token). Goes end (ToWord query label) (t ++ rest)) (sym cut)
-    (inr (inr (inr (tt, tt, refl, inl (40, (ToFirst query label), refl, refl, refl, (inr (inr (inl (ToUnderscore query label, ToAnonymous query label, refl, refl, refl, refl, refl, inl (46, (ToVertex query label), refl, refl, refl, (inl (86, (OpensId query label), refl, refl, refl, (vertex_to_go end query label to rest goes)))))))))))))
+    (inr (inr (inr (
+      tt,
+      tt,
+      refl,
+      inl (
+        40,
+        (ToFirst query label),
+        refl,
+        refl,
+        refl,
+        (inr (inr (inl (
+          ToUnderscore query label,
+          ToAnonymous query label,
+          refl,
+          refl,
+          refl,
+          refl,
+          refl,
+          inl (
+            46,
+            (ToVertex query label),
+            refl,
+            refl,
+            refl,
+            (inl (86, (OpensId query label), refl, refl, refl, (vertex_to_go end query label to rest goes))),
+          ),
+        )))),
+      ),
+    ))))
 
 change_go : (end : Command) (query : Query) (mutation : Mutation) (text : List Token) → IsChange mutation text → Fits query mutation
     → end ≡ commands.Mutate (Some query) mutation → NameGo end query text
@@ -572,7 +977,28 @@ change_go end query (mutations.AddE label to pairs) text (last, to_is, cut) (fit
   after_ten _ (inr (inr (inr (inr (inr (inr (inr (inr (inr (inl refl)))))))))),
   cut,
   free_name query (words.Change changes.AddE) text refl (λ bytes from. fit) (omega (arith, early)),
-  inr (inl ((EdgeType query), label, refl, refl, refl, (inl (41, (AfterType query label), refl, refl, refl, (inl (46, (ToWord query label), refl, refl, refl, (to_go end query label to last (properties_of pairs) to_is (properties_go end (NewEdges query label to) [] pairs is (omega (arith, early)))))))))),
+  inr (inl (
+    (EdgeType query),
+    label,
+    refl,
+    refl,
+    refl,
+    (inl (
+      41,
+      (AfterType query label),
+      refl,
+      refl,
+      refl,
+      (inl (
+        46,
+        (ToWord query label),
+        refl,
+        refl,
+        refl,
+        (to_go end query label to last (properties_of pairs) to_is (properties_go end (NewEdges query label to) [] pairs is (omega (arith, early)))),
+      )),
+    )),
+  )),
 )
 change_go end query (mutations.Property []) text cut fit is = cc
 change_go end query (mutations.Property (pair ∷ pairs)) text cut (fit, early) is =
@@ -584,16 +1010,50 @@ change_go end query (mutations.Property (pair ∷ pairs)) text cut (fit, early) 
       free_name query (words.Change changes.Property) text refl (λ bytes from. fit) (omega (arith, early)),
       pair_go end (OfChange (Elements query) []) pair.key pair.value (properties_of pairs) (properties_go end (Elements query) (pair ∷ []) pairs is early),
     )
-change_go end query mutations.Drop text cut (fit, early) is =
-    (words.Change changes.Drop, closing ∷ [], after_ten _ (inr (inr (inr (inr (inr (inr (inr (inr (inr (inr (inr (inl refl)))))))))))), cut, free_name query (words.Change changes.Drop) text refl (λ bytes from. fit) (omega (arith, early)), inl (41, (Dropped query), refl, refl, refl, (ap (λ (c : Command). Some c) (sym is))))
+change_go end query mutations.Drop text cut (fit, early) is = (
+  words.Change changes.Drop,
+  closing ∷ [],
+  after_ten _ (inr (inr (inr (inr (inr (inr (inr (inr (inr (inr (inr (inl refl)))))))))))),
+  cut,
+  free_name query
+      (words.Change changes.Drop) text refl (λ bytes from. fit) (omega (arith, early)),
+  inl (
+    41,
+    (Dropped query),
+    refl,
+    refl,
+    refl,
+    (ap (λ (c : Command). Some c) (sym is)),
+  ),
+)
 
 -- ---- sources
 
 later_ids_go : (end : Command) (edges : Bool) (ids more : List ℕ) (rest : List Token) → Goes end (Steps (query_from (elements_of edges (ids ++ more)))) rest
     → Goes end (AfterId edges ids) ((after_commas (map identifier more) ++ closing ∷ []) ++ rest)
-later_ids_go end edges ids [] rest goes = inl (41, (Steps (query_from (elements_of edges ids))), refl, refl, refl, (subst (λ l. Goes end (Steps (query_from (elements_of edges l))) rest) (append-nil ids) goes))
+later_ids_go end edges ids [] rest goes = inl (
+  41,
+  (Steps (query_from (elements_of edges ids))),
+  refl,
+  refl,
+  refl,
+  (subst (λ l. Goes end (Steps (query_from (elements_of edges l))) rest) (append-nil ids) goes),
+)
 later_ids_go end edges ids (id ∷ more) rest goes =
-    inl (44, (NextId edges ids), refl, refl, refl, (inr (inr (inr (id, tt, refl, later_ids_go end edges (ids ++ id ∷ []) more rest (subst (λ l. Goes end (Steps (query_from (elements_of edges l))) rest) (sym (append_assoc ids (id ∷ []) more)) goes))))))
+    inl (
+      44,
+      (NextId edges ids),
+      refl,
+      refl,
+      refl,
+      (inr (inr (inr (
+        id,
+        tt,
+        refl,
+        later_ids_go end edges (ids ++ id ∷ []) more rest (subst (λ l. Goes end (Steps (query_from (elements_of edges l))) rest)
+            (sym (append_assoc ids (id ∷ []) more)) goes),
+      )))),
+    )
 
 ids_go : (end : Command) (edges : Bool) (ids : List ℕ) (rest : List Token) → Goes end (Steps (query_from (elements_of edges ids))) rest
     → Goes end (FirstId edges) ((ids_of ids ++ closing ∷ []) ++ rest)
@@ -601,10 +1061,58 @@ ids_go end edges [] rest goes = inl (41, (Steps (query_from (elements_of edges [
 ids_go end edges (id ∷ ids) rest goes = inr (inr (inr (id, tt, refl, later_ids_go end edges (id ∷ []) ids rest goes)))
 
 source_go : (end : Command) (source : Source) (rest : List Token) → Goes end (Steps (query_from source)) rest → Goes end SourceName (source_of source ++ rest)
-source_go end (origins.Vertices ids) rest goes = inl (86, (Opening sources.Vertices), refl, refl, refl, (inl (40, (FirstId false), refl, refl, refl, (ids_go end false ids rest goes))))
-source_go end (origins.Edges ids) rest goes = inl (69, (Opening sources.Edges), refl, refl, refl, (inl (40, (FirstId true), refl, refl, refl, (ids_go end true ids rest goes))))
+source_go end (origins.Vertices ids) rest goes = inl (
+  86,
+  (Opening sources.Vertices),
+  refl,
+  refl,
+  refl,
+  (inl (
+    40,
+    (FirstId false),
+    refl,
+    refl,
+    refl,
+    (ids_go end false ids rest goes),
+  )),
+)
+source_go end (origins.Edges ids) rest goes = inl (
+  69,
+  (Opening sources.Edges),
+  refl,
+  refl,
+  refl,
+  (inl (40, (FirstId true), refl, refl, refl, (ids_go end true ids rest goes))),
+)
 source_go end (origins.Found label key value) rest goes =
-    inr (inr (inr (inl (tt, tt, refl, inl (40, (Quote FoundLabel), refl, refl, refl, (inr (inl (FoundLabel, label, refl, refl, refl, (inl (44, (Quote (PairKey (OfSource label))), refl, refl, refl, (pair_go end (OfSource label) key value rest goes)))))))))))
+    inr (inr (inr (inl (
+      tt,
+      tt,
+      refl,
+      inl (
+        40,
+        (Quote FoundLabel),
+        refl,
+        refl,
+        refl,
+        (inr (inl (
+          FoundLabel,
+          label,
+          refl,
+          refl,
+          refl,
+          (inl (
+            44,
+            (Quote (PairKey (OfSource label))),
+            refl,
+            refl,
+            refl,
+            (pair_go end (OfSource label)
+                key value rest goes),
+          )),
+        ))),
+      ),
+    ))))
 
 reading_go : (end : Command) (query : Query) (these : Items) (count : ℕ) (text rest : List Token) → IsReading query these count text → count ≤ 32
     → AfterSteps end query rest → Goes end SourceName (text ++ rest)
@@ -625,7 +1133,34 @@ reading_fits query these count text mutation (source, list, later, cut, are, fit
 vertex_go : (end : Command) (label : List ℕ) (pairs : List Pair) → end ≡ commands.Mutate None (mutations.AddV label pairs) → length pairs ≤ 32
     → Goes end SourceName (call (codes "addV") (Quoted label ∷ []) ++ properties_of pairs)
 vertex_go end label pairs is most =
-    inr (inr (inr (inr (tt, tt, refl, inl (40, (Quote VertexLabel), refl, refl, refl, (inr (inl (VertexLabel, label, refl, refl, refl, (inl (41, (Changed (NewVertex label) []), refl, refl, refl, (properties_go end (NewVertex label) [] pairs is (omega (arith, most)))))))))))))
+    inr (inr (inr (inr (
+      tt,
+      tt,
+      refl,
+      inl (
+        40,
+        (Quote VertexLabel),
+        refl,
+        refl,
+        refl,
+        (inr (inl (
+          VertexLabel,
+          label,
+          refl,
+          refl,
+          refl,
+          (inl (
+            41,
+            (Changed (NewVertex label) []),
+            refl,
+            refl,
+            refl,
+            (properties_go end (NewVertex label)
+                [] pairs is (omega (arith, most))),
+          )),
+        ))),
+      ),
+    ))))
 
 start_go : (end : Command) (text tokens : List Token) → tokens ≡ dot ∷ text → Goes end SourceName text → Goes end Start tokens
 start_go end text tokens is goes = subst (Goes end Start) (sym is) (inl (46, SourceName, refl, refl, refl, goes))
@@ -639,7 +1174,8 @@ mutating_go None (mutations.Property pairs) text none = absurd none
 mutating_go None mutations.Drop text none = absurd none
 mutating_go (Some query) mutation text (these, count, first, last, cut, reading, change, takes_it, most) =
     let end : Command = commands.Mutate (Some query) mutation in
-    subst (Goes end SourceName) (sym cut) (reading_go end query these count first (dot ∷ last) reading (omega (arith, most)) (name_go end query last (change_go end query mutation last change (reading_fits query these count first mutation reading takes_it most) refl)))
+    subst (Goes end SourceName) (sym cut) (reading_go end query these count first (dot ∷ last) reading (omega (arith, most)) (name_go end query last
+    (change_go end query mutation last change (reading_fits query these count first mutation reading takes_it most) refl)))
 
 query_go : (command : Command) (tokens : List Token) → IsQueryOf command tokens → Goes command Start tokens
 query_go (commands.Query query) tokens (reading, these, count, text, cut, is, most, query_is) =

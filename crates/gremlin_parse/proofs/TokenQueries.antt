@@ -115,8 +115,13 @@ properties_walk (suc k) end subject pairs (t ∷ ts) within early (inl (inl (sam
     let (pair, rest, whole, next, later) = property_walk end subject pairs ts at in
     let short = rest_within ts (property_of pair) rest whole in
     let (more, are, ended, all_early) = properties_walk k end subject (pairs ++ pair ∷ []) rest (omega (arith, short, within)) next later in
-    let joined : (pairs ++ pair ∷ []) ++ more ≡ pairs ++ pair ∷ more = append_assoc pairs (pair ∷ []) more in
-    (pair ∷ more, (λ i. same i ∷ (whole ∙ ap (λ (r : List Token). property_of pair ++ r) are) i), ended ∙ ap (λ (l : List Pair). changed subject l) joined, subst (AreEarly subject) joined all_early)
+    let joined : (pairs ++ pair ∷ []) ++ more ≡ pairs ++ pair ∷ more = append_assoc pairs (pair ∷ []) more in (
+      pair ∷ more,
+      (λ i. same i ∷ (whole ∙ ap (λ (r : List Token). property_of pair ++ r) are) i),
+      ended ∙ ap (λ (l : List Pair). changed subject l)
+          joined,
+      subst (AreEarly subject) joined all_early,
+    )
 properties_walk (suc k) end subject pairs (t ∷ ts) within early (inl (inr none)) = absurd none
 properties_walk (suc k) end subject pairs (t ∷ ts) within early (inr none) = absurd none
 
@@ -150,8 +155,13 @@ elements_walk : (end : Command) (query : Query) (tokens : List Token) → are_el
     → Walks end (Quote (PairKey (OfChange (Elements query) []))) tokens → Changes end query (codes "property") tokens
 elements_walk end query tokens fit early walks =
     let (key, value, rest, whole, at) = pair_walk end (OfChange (Elements query) []) tokens walks in
-    let (more, are, ended, all_early) = all_properties end (Elements query) (with_pair [] key value) rest (omega (arith, early)) at in
-    (mutations.Property (record { key = key; value = value } ∷ more), ended, (λ i. dot ∷ word (codes "property") ∷ opening ∷ (whole ∙ ap (λ (r : List Token). Quoted key ∷ comma ∷ literal value ∷ closing ∷ r) are) i), (fit, all_early))
+    let (more, are, ended, all_early) = all_properties end (Elements query) (with_pair [] key value) rest (omega (arith, early)) at in (
+      mutations.Property (record { key = key; value = value } ∷ more),
+      ended,
+      (λ i. dot ∷ word (codes "property") ∷ opening ∷
+          (whole ∙ ap (λ (r : List Token). Quoted key ∷ comma ∷ literal value ∷ closing ∷ r) are) i),
+      (fit, all_early),
+    )
 
 abbrev NextVertex : Command → Query → List ℕ → List Token → Type 0
 NextVertex end query label tokens = (to : ℕ) × (rest : List Token) × (tokens ≡ call (codes "V") (identifier to ∷ []) ++ closing ∷ rest)
@@ -182,8 +192,14 @@ to_first end query label [] walks = cc
 to_first end query label (t ∷ ts) (inl (inl (same, at))) =
     let (one, dots, later) = next_is end (ToAnonymous query label) (ToVertex query label) dot refl (λ u us at. only at) ts at in
     let (two, is, last) = next_is end (ToVertex query label) (OpensId query label) (word (codes "V")) refl (λ u us at. only at) one later in
-    let (to, rest, whole, more) = to_vertex end query label one two is last in
-    (to, word (codes "__") ∷ dot ∷ call (codes "V") (identifier to ∷ []) ++ closing ∷ [], rest, (λ i. same i ∷ and_then dots whole i), (word (codes "__") ∷ dot ∷ [], inr refl, refl), more)
+    let (to, rest, whole, more) = to_vertex end query label one two is last in (
+      to,
+      word (codes "__") ∷ dot ∷ call (codes "V") (identifier to ∷ []) ++ closing ∷ [],
+      rest,
+      (λ i. same i ∷ and_then dots whole i),
+      (word (codes "__") ∷ dot ∷ [], inr refl, refl),
+      more,
+    )
 to_first end query label (t ∷ ts) (inl (inr (inl (same, at)))) =
     let (to, rest, whole, more) = to_vertex end query label (t ∷ ts) ts (λ i. same i ∷ ts) at in
     (to, call (codes "V") (identifier to ∷ []) ++ closing ∷ [], rest, whole, ([], inl refl, refl), more)
@@ -202,8 +218,12 @@ edges_walk end query tokens fit early walks =
     let (to, text, six, whole, is_to, all) = to_first end query label five rest in
     let (pairs, are, ended, all_early) = all_properties end (NewEdges query label to) [] six (omega (arith, early)) all in
     let these : tokens ≡ Quoted label ∷ closing ∷ dot ∷ word (codes "to") ∷ opening ∷ (text ++ properties_of pairs) =
-    and_then is (and_then closes (and_then dots (and_then word_is (and_then opens (whole ∙ ap (λ (r : List Token). text ++ r) are))))) in
-    (mutations.AddE label to pairs, ended, (word (codes "to") ∷ opening ∷ text, is_to, (λ i. word (codes "addE") ∷ opening ∷ these i)), (fit, omega (arith, all_early)))
+    and_then is (and_then closes (and_then dots (and_then word_is (and_then opens (whole ∙ ap (λ (r : List Token). text ++ r) are))))) in (
+      mutations.AddE label to pairs,
+      ended,
+      (word (codes "to") ∷ opening ∷ text, is_to, (λ i. word (codes "addE") ∷ opening ∷ these i)),
+      (fit, omega (arith, all_early)),
+    )
 
 -- ---- steps
 
@@ -280,7 +300,15 @@ arguments_walk end query (words.Bare this) other tokens bytes from fit early wal
     inl (Does (bare_step this), closing ∷ [], rest, closes, bare_is this, (bare_takes this (items_of query) bytes ∙ fit, omega (arith, one, early)), at)
 arguments_walk end query (words.Names (of_names.Incident direction)) other tokens bytes from fit early walks =
     let (names, rest, whole, at) = next_names end (OfStep query (of_names.Incident direction)) tokens walks in
-    inl (Does (steps.Incident (record { direction = direction; labels = names })), names_of names ++ closing ∷ [], rest, whole, refl, (fit, omega (arith, early)), at)
+    inl (
+      Does (steps.Incident (record { direction = direction; labels = names })),
+      names_of names ++ closing ∷ [],
+      rest,
+      whole,
+      refl,
+      (fit, omega (arith, early)),
+      at,
+    )
 arguments_walk end query (words.Names of_names.Values) other tokens bytes from fit early walks =
     let (names, rest, whole, at) = next_names end (OfStep query of_names.Values) tokens walks in
     inl (Does (steps.Values names), names_of names ++ closing ∷ [], rest, whole, refl, (fit, omega (arith, early)), at)
@@ -328,7 +356,8 @@ loose_opened query (words.Change changes.Drop) = refl
 -- the name of a step and what follows it
 abbrev NextWritten : Command → Query → List Token → Type 0
 NextWritten end query tokens =
-    ((step : WrittenStep) × (text : List Token) × (rest : List Token) × (tokens ≡ text ++ rest) × IsWrittenStep step text × IsNext query step × Walks end (Steps (with_written query step)) rest)
+    ((step : WrittenStep) × (text : List Token) × (rest : List Token) × (tokens ≡ text ++ rest) × IsWrittenStep step text × IsNext query step × Walks end
+    (Steps (with_written query step)) rest)
     ⊎ ((mutation : Mutation) × (end ≡ commands.Mutate (Some query) mutation) × IsChange mutation tokens × Fits query mutation)
 
 name_walk : (end : Command) (query : Query) (tokens : List Token) → Walks end (StepName query) tokens → NextWritten end query tokens
@@ -341,7 +370,8 @@ name_walk end query (t ∷ ts) (inr (entry, within, same, (bytes, from, none), l
     let name : t ≡ word (step_letters entry.1) = same ∙ ap (λ (l : List ℕ). word l) (sym is.0) in
     let whole : t ∷ ts ≡ word (step_letters entry.1) ∷ opening ∷ rest = λ i. name i ∷ opens i in
     let free = faultless_name query entry.1 bytes is.1 none in
-    here (step_letters entry.1) rest whole (arguments_walk end query entry.1 is.1 rest bytes (subst (λ (l : List Token). AreFrom l bytes) whole from) free.0 free.1 at)
+    here (step_letters entry.1) rest whole (arguments_walk end query entry.1 is.1 rest bytes (subst (λ (l : List Token). AreFrom l bytes) whole from)
+    free.0 free.1 at)
   where
     here : (letters : List ℕ) (rest : List Token) → t ∷ ts ≡ word letters ∷ opening ∷ rest → Stepped end query letters rest ⊎ Changes end query letters rest
         → NextWritten end query (t ∷ ts)
@@ -353,7 +383,8 @@ name_walk end query (t ∷ ts) (inr (entry, within, same, (bytes, from, none), l
 abbrev Ended : Command → Query → List Token → Type 0
 Ended end query tokens =
     ((tokens ≡ []) × (end ≡ commands.Query (shown query)))
-    ⊎ ((mutation : Mutation) × (change : List Token) × (tokens ≡ dot ∷ change) × (end ≡ commands.Mutate (Some query) mutation) × IsChange mutation change × Fits query mutation)
+    ⊎ ((mutation : Mutation) × (change : List Token) × (tokens ≡ dot ∷ change) × (end ≡ commands.Mutate (Some query) mutation) × IsChange mutation change
+    × Fits query mutation)
 
 -- The steps fit after the query, and are at most 32 with those before.
 abbrev pub AllFit : Query → List WrittenStep → Type 0
@@ -378,7 +409,8 @@ steps_walk zero end query (t ∷ ts) within early walks = absurd (omega (arith, 
 steps_walk (suc k) end query (t ∷ ts) within early (inl (inl (same, at))) =
     here (λ step rest short soon later. steps_walk k end (with_written query step) rest (omega (arith, short, within)) soon later) (name_walk end query ts at)
   where
-    here : ((step : WrittenStep) (rest : List Token) → length rest ≤ length ts → steps_of (with_written query step) ≤ 32 → Walks end (Steps (with_written query step)) rest → Read end (with_written query step) rest) → NextWritten end query ts → Read end query (t ∷ ts)
+    here : ((step : WrittenStep) (rest : List Token) → length rest ≤ length ts → steps_of (with_written query step) ≤ 32 → Walks end
+        (Steps (with_written query step)) rest → Read end (with_written query step) rest) → NextWritten end query ts → Read end query (t ∷ ts)
     here later (inl (step, text, rest, whole, is, next, walks)) =
         let len = written_steps query step next.0 in
         let most = next.1 in
@@ -386,7 +418,22 @@ steps_walk (suc k) end query (t ∷ ts) within early (inl (inl (same, at))) =
         let (list, texts, last, cut, are, fit, ended) = later step rest (rest_within ts text rest whole) soon walks in
         let all : ts ≡ (text ++ texts) ++ last = whole ∙ ap (λ (r : List Token). text ++ r) cut ∙ sym (append_assoc text texts last) in
         (step ∷ list, dot ∷ text ++ texts, last, (λ i. same i ∷ all i), (text, texts, refl, is, are), all_fit query step list next fit, ended)
-    here later (inr (mutation, ended, is, fit)) = ([], [], t ∷ ts, refl, refl, (tt, omega (arith, early)), inr (mutation, ts, (λ i. same i ∷ ts), ended, is, fit))
+    here later (inr (mutation, ended, is, fit)) = (
+      [],
+      [],
+      t ∷ ts,
+      refl,
+      refl,
+      (tt, omega (arith, early)),
+      inr (
+        mutation,
+        ts,
+        (λ i. same i ∷ ts),
+        ended,
+        is,
+        fit,
+      ),
+    )
 steps_walk (suc k) end query (t ∷ ts) within early (inl (inr none)) = absurd none
 steps_walk (suc k) end query (t ∷ ts) within early (inr none) = absurd none
 
@@ -401,9 +448,20 @@ later_ids end edges ids [] walks = cc
 later_ids end edges ids (t ∷ []) (inl (inl (same, at))) = cc
 later_ids end edges ids (t ∷ u ∷ us) (inl (inl (same, inl none))) = absurd none
 later_ids end edges ids (t ∷ u ∷ us) (inl (inl (same, inr (id, allows, is, later)))) =
-    let (more, rest, whole, at) = later_ids end edges (ids ++ id ∷ []) us later in
-    (id ∷ more, rest, (λ i. same i ∷ is i ∷ whole i), subst (λ l. Walks end (Steps (query_from (elements_of edges l))) rest) (append_assoc ids (id ∷ []) more) at)
-later_ids end edges ids (t ∷ ts) (inl (inr (inl (same, at)))) = ([], ts, (λ i. same i ∷ ts), subst (λ l. Walks end (Steps (query_from (elements_of edges l))) ts) (sym (append-nil ids)) at)
+    let (more, rest, whole, at) = later_ids end edges (ids ++ id ∷ []) us later in (
+      id ∷ more,
+      rest,
+      (λ i. same i ∷ is i ∷ whole i),
+      subst (λ l. Walks end (Steps (query_from (elements_of edges l))) rest) (append_assoc ids (id ∷ []) more)
+          at,
+    )
+later_ids end edges ids (t ∷ ts) (inl (inr (inl (same, at)))) = (
+  [],
+  ts,
+  (λ i. same i ∷ ts),
+  subst (λ l. Walks end (Steps (query_from (elements_of edges l)))
+      ts) (sym (append-nil ids)) at,
+)
 later_ids end edges ids (t ∷ ts) (inl (inr (inr none))) = absurd none
 later_ids end edges ids (t ∷ ts) (inr none) = absurd none
 
@@ -436,8 +494,26 @@ reading_walk end source tokens rest whole walks = ended (steps_walk (length rest
         (cut ∙ ap (λ (r : List Token). text ++ r) none ∙ append-nil text) in
         let early = fit.1 in
         let most : count_all list ≤ 32 = omega (arith, early) in
-        subst (λ e. IsQueryOf e (dot ∷ tokens)) (sym is)
-        (with_all (query_from source) list, given (first_items source) list, count_all list, tokens, refl, (source, list, text, all, are, fit.0, refl, refl, refl), most, refl)
+        subst (λ e. IsQueryOf e (dot ∷ tokens)) (sym is) (
+          with_all (query_from source) list,
+          given (first_items source) list,
+          count_all list,
+          tokens,
+          refl,
+          (
+            source,
+            list,
+            text,
+            all,
+            are,
+            fit.0,
+            refl,
+            refl,
+            refl,
+          ),
+          most,
+          refl,
+        )
     ended (list, text, last, cut, are, fit, inr (mutation, change, dots, is, changes, fits_it)) =
         let all : tokens ≡ (source_of source ++ text) ++ dot ∷ change = whole
         ∙ ap (λ (r : List Token). source_of source ++ r) (cut ∙ ap (λ (r : List Token). text ++ r) dots)
@@ -445,8 +521,31 @@ reading_walk end source tokens rest whole walks = ended (steps_walk (length rest
         let last_fits = change_fits (query_from source) list mutation fit.0 fits_it in
         let early = last_fits.1 in
         let most : count_all list + change_count mutation ≤ 32 = omega (arith, early) in
-        subst (λ e. IsQueryOf e (dot ∷ tokens)) (sym is)
-        (tokens, refl, (given (first_items source) list, count_all list, source_of source ++ text, change, all, (source, list, text, refl, are, fit.0, refl, refl, refl), changes, last_fits.0, most))
+        subst (λ e. IsQueryOf e (dot ∷ tokens)) (sym is) (
+          tokens,
+          refl,
+          (
+            given (first_items source) list,
+            count_all list,
+            source_of source ++ text,
+            change,
+            all,
+            (
+              source,
+              list,
+              text,
+              refl,
+              are,
+              fit.0,
+              refl,
+              refl,
+              refl,
+            ),
+            changes,
+            last_fits.0,
+            most,
+          ),
+        )
 
 found_walk : (end : Command) (tokens : List Token) → Walks end (Quote FoundLabel) tokens → IsQueryOf end (dot ∷ word (codes "find") ∷ opening ∷ tokens)
 found_walk end tokens walks =

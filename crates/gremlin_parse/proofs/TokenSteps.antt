@@ -178,8 +178,12 @@ related end into key relation tokens walks =
     let (value, (two, is, later)) = valued one at in
     let (three, closes, last) = next_is end (ClosesValue into (relation_filter key relation value)) (ClosesFilter into (relation_filter key relation value))
     closing refl (λ t ts at. only at) two later in
-    let (four, ends, more) = closes_filter end into (relation_filter key relation value) three last in
-    (value, four, and_then {tokens = tokens} {rest = one} opens (and_then {tokens = one} {rest = two} is (and_then {tokens = two} {rest = three} closes ends)), more)
+    let (four, ends, more) = closes_filter end into (relation_filter key relation value) three last in (
+      value,
+      four,
+      and_then {tokens = tokens} {rest = one} opens (and_then {tokens = one} {rest = two} is (and_then {tokens = two} {rest = three} closes ends)),
+      more,
+    )
   where
     valued : (tokens : List Token) → Walks end (Compared into key relation) tokens → (value : Value)
         × Next end (literal value) (ClosesValue into (relation_filter key relation value)) tokens
@@ -192,8 +196,19 @@ related_after : (end : Command) (into : Into) (key : List ℕ) (letters : List �
 related_after end into key letters within tokens rest is walks =
     let (value, last, whole, at) = related end into key (relation_of letters) rest walks in
     let name : word letters ≡ word (relation_name (relation_of letters)) = ap (λ (l : List ℕ). word l) (sym (relation_named letters within)) in
-    let compared : List Token = call (relation_name (relation_of letters)) (literal value ∷ []) in
-    (filters.HasValue key (relation_of letters) value, compared ++ closing ∷ [], last, is ∙ (λ i. name i ∷ whole i), (relation_of letters, value, refl, (compared, inr (inl refl), refl)), at)
+    let compared : List Token = call (relation_name (relation_of letters)) (literal value ∷ []) in (
+      filters.HasValue key (relation_of letters) value,
+      compared ++ closing ∷ [],
+      last,
+      is ∙ (λ i. name i ∷ whole i),
+      (
+        relation_of letters,
+        value,
+        refl,
+        (compared, inr (inl refl), refl),
+      ),
+      at,
+    )
 
 value_walk : (end : Command) (into : Into) (key : List ℕ) (tokens : List Token) → Walks end (ValueOf into key) tokens
     → NextFilter end into (IsRelated key) tokens
@@ -203,8 +218,14 @@ value_walk end into key (t ∷ ts) (inl (inl (same, at))) =
     let (letters, within, (two, is, last)) = named one later in
     let (value, rest, whole, more) = related end into key (relation_of letters) two last in
     let name : word letters ≡ word (relation_name (relation_of letters)) = ap (λ (l : List ℕ). word l) (sym (relation_named letters within)) in
-    let compared : List Token = word (codes "P") ∷ dot ∷ call (relation_name (relation_of letters)) (literal value ∷ []) in
-    (filters.HasValue key (relation_of letters) value, compared ++ closing ∷ [], rest, (λ i. same i ∷ and_then dots (is ∙ (λ i. name i ∷ whole i)) i), (relation_of letters, value, refl, (compared, inr (inr refl), refl)), more)
+    let compared : List Token = word (codes "P") ∷ dot ∷ call (relation_name (relation_of letters)) (literal value ∷ []) in (
+      filters.HasValue key (relation_of letters) value,
+      compared ++ closing ∷ [],
+      rest,
+      (λ i. same i ∷ and_then dots (is ∙ (λ i. name i ∷ whole i)) i),
+      (relation_of letters, value, refl, (compared, inr (inr refl), refl)),
+      more,
+    )
   where
     named : (tokens : List Token) → Walks end (RelationName into key) tokens → (letters : List ℕ) × InTable (letters, tt) (plain relation_names)
         × Next end (word letters) (OpensValue into key (relation_of letters)) tokens
@@ -214,8 +235,23 @@ value_walk end into key (t ∷ ts) (inl (inl (same, at))) =
 value_walk end into key (t ∷ ts) (inl (inr none)) = absurd none
 value_walk end into key (t ∷ ts) (inr (inl (letters, within, same, later))) = related_after end into key letters within (t ∷ ts) ts (λ i. same i ∷ ts) later
 value_walk end into key (t ∷ ts) (inr (inr (value, allows, same, later))) =
-    let (rest, closes, at) = closes_filter end into (value_filter key value) ts later in
-    (value_filter key value, literal value ∷ closing ∷ [], rest, (λ i. same i ∷ closes i), (relations.Eq, value, refl, (literal value ∷ [], inl (refl, refl), refl)), at)
+    let (rest, closes, at) = closes_filter end into (value_filter key value) ts later in (
+      value_filter key value,
+      literal value ∷ closing ∷ [],
+      rest,
+      (λ i. same i ∷ closes i),
+      (
+        relations.Eq,
+        value,
+        refl,
+        (
+          literal value ∷ [],
+          inl (refl, refl),
+          refl,
+        ),
+      ),
+      at,
+    )
 
 -- the key of `has` and what may stand after it
 abbrev pub IsHas : Filter → List Token → Type 0
@@ -223,7 +259,12 @@ IsHas filter text = IsFilter filter (word (codes "has") ∷ opening ∷ text)
 
 has_related : (key : List ℕ) (filter : Filter) (text : List Token) → IsRelated key filter text → IsHas filter (Quoted key ∷ comma ∷ text)
 has_related key filter text (relation, value, is, (compared, are, whole)) =
-    subst (λ f. IsHas f (Quoted key ∷ comma ∷ text)) (sym is) (compared, are, ap (λ (t : List Token). word (codes "has") ∷ opening ∷ Quoted key ∷ comma ∷ t) whole)
+    subst (λ f. IsHas f (Quoted key ∷ comma ∷ text)) (sym is) (
+      compared,
+      are,
+      ap (λ (t : List Token). word (codes "has") ∷ opening ∷ Quoted key ∷ comma ∷ t)
+          whole,
+    )
 
 pub has_walk : (end : Command) (into : Into) (tokens : List Token) → Walks end (Quote (Key into)) tokens → NextFilter end into IsHas tokens
 has_walk end into tokens walks = let (key, rest, is, later) = next_name end (Key into) tokens walks in keyed key rest is later
@@ -291,8 +332,16 @@ named_step end query body t ts (entry, within, same, (bytes, from, none), later)
     (λ u us at. plain_sign 40 (opened_body (OfBody query body) this) (λ next. Walks end next us) u (loose_body (OfBody query body) this) (only at)) ts
     later in
     let (step, text, rest, whole, is, fit, last) = body_walk end (OfBody query body) this one at in
-    let name : t ≡ word (letters_of this) = same ∙ ap (λ (l : List ℕ). word l) (sym (body_letters entry within)) in
-    (step, word (letters_of this) ∷ opening ∷ text, rest, (λ i. name i ∷ and_then opens whole i), is, one_more query body step (before_33rd (count_before query body) none), last)
+    let name : t ≡ word (letters_of this) = same ∙ ap (λ (l : List ℕ). word l) (sym (body_letters entry within)) in (
+      step,
+      word (letters_of this) ∷ opening ∷ text,
+      rest,
+      (λ i. name i ∷ and_then opens whole i),
+      is,
+      one_more query body step
+          (before_33rd (count_before query body) none),
+      last,
+    )
 
 next_step : (end : Command) (query : Query) (body : List BodyStep) (tokens : List Token) → Walks end (BodyName query body) tokens
     → NamedStep end query body tokens
@@ -315,10 +364,26 @@ later_body (suc k) end query body (t ∷ ts) within early (inl (inl (same, at)))
     let short = rest_within ts text rest whole in
     let less : length rest ≤ k = omega (arith, short, within) in
     let (more, texts, last, wholes, are, all_early, final) = later_body k end query (body ++ step ∷ []) rest less next later in
-    let all : ts ≡ (text ++ texts) ++ closing ∷ last = whole ∙ ap (λ (r : List Token). text ++ r) wholes ∙ sym (append_assoc text texts (closing ∷ last)) in
-    (step ∷ more, dot ∷ text ++ texts, last, (λ i. same i ∷ all i), (text, texts, refl, is, are), subst (InTime query) (append_assoc body (step ∷ []) more) all_early, subst (λ b. Walks end (AfterBody query b) last) (append_assoc body (step ∷ []) more) final)
-later_body (suc k) end query body (t ∷ ts) within early (inl (inr (inl (same, at)))) =
-    ([], [], ts, (λ i. same i ∷ ts), refl, subst (InTime query) (sym (append-nil body)) early, subst (λ b. Walks end (AfterBody query b) ts) (sym (append-nil body)) at)
+    let all : ts ≡ (text ++ texts) ++ closing ∷ last = whole ∙ ap (λ (r : List Token). text ++ r) wholes ∙ sym (append_assoc text texts (closing ∷ last)) in (
+      step ∷ more,
+      dot ∷ text ++ texts,
+      last,
+      (λ i. same i ∷ all i),
+      (text, texts, refl, is, are),
+      subst (InTime query) (append_assoc body (step ∷ []) more)
+          all_early,
+      subst (λ b. Walks end (AfterBody query b) last) (append_assoc body (step ∷ []) more) final,
+    )
+later_body (suc k) end query body (t ∷ ts) within early (inl (inr (inl (same, at)))) = (
+  [],
+  [],
+  ts,
+  (λ i. same i ∷ ts),
+  refl,
+  subst (InTime query) (sym (append-nil body)) early,
+  subst (λ b. Walks end (AfterBody query b) ts)
+      (sym (append-nil body)) at,
+)
 later_body (suc k) end query body (t ∷ ts) within early (inl (inr (inr none))) = absurd none
 later_body (suc k) end query body (t ∷ ts) within early (inr none) = absurd none
 
@@ -406,8 +471,15 @@ direction_walk end query key t ts (inl (letters, within, same, later)) =
 direction_walk end query key t ts (inr (none, allows, same, later)) =
     let (one, dots, at) = next_is end (AfterOrderWord query key) (DirectionName query key) dot refl (λ u us at. only at) ts later in
     let (letters, within, (two, is, last)) = named one at in
-    let name : word letters ≡ word (sort_name (is_descending letters)) = ap (λ (l : List ℕ). word l) (sym (sort_named letters within)) in
-    (is_descending letters, word (codes "Order") ∷ dot ∷ word (sort_name (is_descending letters)) ∷ [], two, (λ i. same i ∷ and_then dots (is ∙ (λ j. name j ∷ two)) i), inr refl, last)
+    let name : word letters ≡ word (sort_name (is_descending letters)) = ap (λ (l : List ℕ). word l) (sym (sort_named letters within)) in (
+      is_descending letters,
+      word (codes "Order") ∷ dot ∷ word (sort_name (is_descending letters)) ∷ [],
+      two,
+      (λ i. same i ∷ and_then dots
+          (is ∙ (λ j. name j ∷ two)) i),
+      inr refl,
+      last,
+    )
   where
     named : (tokens : List Token) → Walks end (DirectionName query key) tokens → (letters : List ℕ) × InTable (letters, tt) (plain sort_names)
         × Next end (word letters) (ByCloses query key (is_descending letters)) tokens
@@ -479,5 +551,14 @@ order_walk end query tokens walks =
         let (three, opens, at) = next_is end (Opens (with_step query plain_order) words.By) (ByFirst (with_step query plain_order)) opening refl
         (λ t ts at. only at) two later in
         let (key, descending, text, rest, whole, is, last) = by_walk end (with_step query plain_order) three at in
-        let put = replace_last-append query.steps plain_order (steps.Order key descending) in
-        (key, descending, closing ∷ dot ∷ word (codes "by") ∷ opening ∷ text ++ closing ∷ [], rest, and_then closes (by ∙ (λ i. dot ∷ word (codes "by") ∷ and_then opens whole i)), inr (text, is, refl), subst (λ l. Walks end (Steps (record query { steps = l })) rest) put last)
+        let put = replace_last-append query.steps plain_order (steps.Order key descending) in (
+          key,
+          descending,
+          closing ∷ dot ∷ word (codes "by") ∷ opening ∷ text ++ closing ∷ [],
+          rest,
+          and_then closes
+              (by ∙ (λ i. dot ∷ word (codes "by") ∷ and_then opens whole i)),
+          inr (text, is, refl),
+          subst (λ l. Walks end (Steps (record query { steps = l }))
+              rest) put last,
+        )

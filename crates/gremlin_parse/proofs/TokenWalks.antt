@@ -222,8 +222,18 @@ after_sign : (end : Command) (b : ℕ) (to : Place) → IsSign b to → (rest : 
 after_sign end b (InQuotes quoted double) is rest at =
     let (name, bounded, then) = at in
     let (prefix, more, whole, part_is, loose) = then in
-    let (blanks, last, cut, are, (tokens, walks, from)) = loose in
-    (Quoted name, tokens, (name, refl, walks), (b ∷ prefix, more, ap (λ (r : List ℕ). b ∷ r) whole, (double, (λ i. is i ∷ part_is.0 i), part_is.1, bounded), (blanks, last, cut, are, from)))
+    let (blanks, last, cut, are, (tokens, walks, from)) = loose in (
+      Quoted name,
+      tokens,
+      (name, refl, walks),
+      (
+        b ∷ prefix,
+        more,
+        ap (λ (r : List ℕ). b ∷ r) whole,
+        (double, (λ i. is i ∷ part_is.0 i), part_is.1, bounded),
+        (blanks, last, cut, are, from),
+      ),
+    )
 after_sign end b (Underscore query) is rest at =
     let (prefix, more, whole, same, loose) = at in
     let (blanks, last, cut, are, (tokens, walks, from)) = loose in
@@ -310,6 +320,10 @@ end_spelled end place bytes is none = ([], is, none)
 pub leads_spelled : (end : Command) (n : ℕ) (place : Place) (bytes : List ℕ) → Leads turn is_loose IsBounded end n place bytes → Spelled end place bytes
 leads_spelled end zero place bytes (is, none) = end_spelled end place bytes is none
 leads_spelled end (suc n) place bytes (inl sign) =
-    turn_spelled end place bytes (inl (sign_map (Loosely turn is_loose (λ next rest. Leads turn is_loose IsBounded end n next rest)) (LooselySpelled end) (λ next rest. blanks_map (is_loose next) (Leads turn is_loose IsBounded end n next) (Spelled end next) (λ these leads. leads_spelled end n next these leads) rest) (turn place).signs bytes sign))
+    turn_spelled end place bytes (inl (sign_map (Loosely turn is_loose (λ next rest. Leads turn is_loose IsBounded end n next rest)) (LooselySpelled end)
+    (λ next rest. blanks_map (is_loose next) (Leads turn is_loose IsBounded end n next) (Spelled end next) (λ these leads. leads_spelled end n next these
+    leads) rest) (turn place).signs bytes sign))
 leads_spelled end (suc n) place bytes (inr other) =
-    turn_spelled end place bytes (inr (other_map IsBounded IsBounded (λ this bound. bound) (Loosely turn is_loose (λ next rest. Leads turn is_loose IsBounded end n next rest)) (LooselySpelled end) (λ next rest. blanks_map (is_loose next) (Leads turn is_loose IsBounded end n next) (Spelled end next) (λ these leads. leads_spelled end n next these leads) rest) (turn place).other bytes other))
+    turn_spelled end place bytes (inr (other_map IsBounded IsBounded (λ this bound. bound) (Loosely turn is_loose (λ next rest. Leads turn is_loose IsBounded
+    end n next rest)) (LooselySpelled end) (λ next rest. blanks_map (is_loose next) (Leads turn is_loose IsBounded end n next) (Spelled end next)
+    (λ these leads. leads_spelled end n next these leads) rest) (turn place).other bytes other))

@@ -31,7 +31,14 @@ blocks_refuse Language bytes left blocks is = blocks.none blocks.unread refl (su
 
 blocks_stop : (Language : List ℕ → Type 0) (bytes : List ℕ) (left : ℕ) → (blocks : Blocks Language bytes left) → (more : List ℕ)
     → Language (blocks.read ++ more) → StopsBefore Language bytes left
-blocks_stop Language bytes left blocks more line = record { read = blocks.read; unread = blocks.unread; bytes_are = blocks.bytes_are; left_is = blocks.left_is; viable = (more, line); none = blocks.none }
+blocks_stop Language bytes left blocks more line = record {
+  read = blocks.read;
+  unread = blocks.unread;
+  bytes_are = blocks.bytes_are;
+  left_is = blocks.left_is;
+  viable = (more, line);
+  none = blocks.none;
+}
 
 -- ---- after a minus
 
@@ -84,7 +91,14 @@ quoted_line quote bytes is (values.Text text) prefix rest (other, inside, is_oth
     let here : quote ∷ bytes ≡ other ∷ (inside ++ other ∷ rest) = whole ∙ ap (λ p. p ++ rest) prefix_is ∙ quoted_bytes other inside rest in
     let same : other ≡ quote = cc in
     let tails : bytes ≡ inside ++ other ∷ rest = cc in
-    record { text = text; inside = inside; rest = rest; bytes_are = tails ∙ ap (λ q. inside ++ q ∷ rest) same; pieces = subst (λ q. ArePieces q text inside) same pieces }
+    record {
+      text = text;
+      inside = inside;
+      rest = rest;
+      bytes_are = tails ∙ ap (λ q. inside ++ q ∷ rest) same;
+      pieces = subst (λ q. ArePieces q text inside)
+          same pieces;
+    }
 
 not_nothing : (left : List ℕ) (b : ℕ) (rest more : List ℕ) → more ≡ left ++ b ∷ rest → more ≡ [] → ⊥
 not_nothing [] b rest more whole none = cc
@@ -140,7 +154,17 @@ module _ (After : List ℕ → Type 0) (quote : ℕ) (is : is_quote quote ≡ tr
 
   -- a text that goes on after the pieces that were read, and ends
   text_line : (text inside line : List ℕ) → ArePieces quote text inside → After line → One AnyValue After (quote ∷ (inside ++ quote ∷ line))
-  text_line text inside line pieces some = (values.Text text, tt, (quote ∷ (inside ++ quote ∷ []), line, sym (quoted_bytes quote inside line), (quote, inside, is, refl, pieces), some))
+  text_line text inside line pieces some = (
+    values.Text text,
+    tt,
+    (
+      quote ∷ (inside ++ quote ∷ []),
+      line,
+      sym (quoted_bytes quote inside line),
+      (quote, inside, is, refl, pieces),
+      some,
+    ),
+  )
 
   quoted_stops : (line : List ℕ) → After line → LeavesPiece leaves.rest left → StopsBefore (One AnyValue After) (quote ∷ after) left
   unfolding quoted_blocks
@@ -203,7 +227,8 @@ module _ (After : List ℕ → Type 0) (ends : Halts is_name_byte After) where
   truth_stops line bytes left some (no_number, quoteless, leaves) =
       stops_of_same (One AnyValue After) (ThenWord truth_words (λ _. After)) bytes left
       (value_of_word After)
-      (λ more same one. word_of_value After more (EndsRun-first_byte is_integer_start bytes more same no_number) (EndsRun-first_byte is_quote bytes more same quoteless) one)
+      (λ more same one. word_of_value After more (EndsRun-first_byte is_integer_start bytes more same no_number) (EndsRun-first_byte is_quote bytes more same
+      quoteless) one)
       (stops_in_table _ _ truth_table (λ _. After) (λ _. ends) (λ _. (line, some)) bytes left leaves)
 
   -- where reading stops in a value

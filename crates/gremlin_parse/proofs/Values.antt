@@ -117,7 +117,14 @@ quoted_bytes quote inside rest = ap (λ b. quote ∷ b) (append_assoc inside (qu
 pub text_view : (text bytes rest : List ℕ) → Takes AnyValue (values.Text text) bytes rest → TextView text bytes rest
 text_view text bytes rest takes =
     let (quote, inside, is, prefix_is, pieces) = takes.is in
-    record { quote = quote; inside = inside; is = is; bytes_are = takes.bytes_are ∙ ap (λ p. p ++ rest) prefix_is ∙ quoted_bytes quote inside rest; pieces = pieces }
+    record {
+      quote = quote;
+      inside = inside;
+      is = is;
+      bytes_are = takes.bytes_are ∙ ap (λ p. p ++ rest) prefix_is ∙ quoted_bytes quote inside rest;
+      pieces =
+          pieces;
+    }
 
 -- the text that was read
 pub takes_text : (quote : ℕ) (inside : List ℕ) (len : ℕ) (after rest : List ℕ) → is_quote quote ≡ true → ReadsQuoted quote inside len after rest

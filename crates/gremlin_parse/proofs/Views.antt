@@ -208,14 +208,55 @@ spelled_by viewed bytes made =
     let (blank, a, whole, blank_is, (run, b, a_is, run_is, after)) = found.made in
     let contents = contents_of found.word found.id in
     let last = then_parts_map IsEnd (Numbered viewed found.word contents) (λ rest end. (found.is ∙ id_again found.word found.id, end))
-    (after_parts found.word found.id) b (made_ends (after_parts found.word found.id) b after) in
-    (tt, tt, (blank, a, whole, blank_is, ((view_word found.word, found.word), in_views found.word, (run, b, a_is, run_is, follows_of_parts (after_view found.word) contents (Numbered viewed found.word) (allowed found.word found.id) b last))))
+    (after_parts found.word found.id) b (made_ends (after_parts found.word found.id) b after) in (
+      tt,
+      tt,
+      (
+        blank,
+        a,
+        whole,
+        blank_is,
+        (
+          (view_word found.word, found.word),
+          in_views found.word,
+          (
+            run,
+            b,
+            a_is,
+            run_is,
+            follows_of_parts
+                (after_view found.word) contents (Numbered viewed found.word) (allowed found.word found.id) b last,
+          ),
+        ),
+      ),
+    )
 
 views_of : (bytes : List ℕ) → IsOneOf viewed_to_end bytes → Views bytes
 views_of bytes (viewed, made) =
     let found = by_word viewed bytes made in
-    let (blank, a, whole, blank_is, (run, b, a_is, run_is, after)) = found.made in
-    (tt, tt, (blank, a, whole, blank_is, ((view_word found.word, found.word), in_views found.word, (run, b, a_is, run_is, follows_of_parts (after_view found.word) (contents_of found.word found.id) (λ _. IsEnd) (allowed found.word found.id) b (made_ends (after_parts found.word found.id) b after)))))
+    let (blank, a, whole, blank_is, (run, b, a_is, run_is, after)) = found.made in (
+      tt,
+      tt,
+      (
+        blank,
+        a,
+        whole,
+        blank_is,
+        (
+          (view_word found.word, found.word),
+          in_views found.word,
+          (
+            run,
+            b,
+            a_is,
+            run_is,
+            follows_of_parts
+                (after_view found.word) (contents_of found.word found.id) (λ _. IsEnd) (allowed found.word found.id) b (made_ends (after_parts found.word found.id)
+                b after),
+          ),
+        ),
+      ),
+    )
 
 of_views : (bytes : List ℕ) → Views bytes → IsOneOf viewed_to_end bytes
 of_views bytes (content, allows, (blank, a, whole, blank_is, (entry, within, (run, b, a_is, run_is, after)))) =
@@ -230,15 +271,26 @@ of_views bytes (content, allows, (blank, a, whole, blank_is, (entry, within, (ru
 bad_word : (word : ViewWord) (id : ℕ) (kind : BadToken) (left : ℕ) (bytes : List ℕ) → BadParts (Exactly (view_word word) ∷ after_parts word id) kind left bytes
     → BadWord kind left bytes
 bad_word word id kind left bytes (inl (token, rest, whole, is, ends, out, place)) = absurd out
-bad_word word id kind left bytes (inr (run, rest, whole, run_is, later)) =
-    ((view_word word, word), in_views word, (run, rest, whole, run_is, bad_follows_of_then (after_view word) (contents_of word id) (allowed word id) NoBad kind left rest later))
+bad_word word id kind left bytes (inr (run, rest, whole, run_is, later)) = (
+  (view_word word, word),
+  in_views word,
+  (
+    run,
+    rest,
+    whole,
+    run_is,
+    bad_follows_of_then (after_view word) (contents_of word id) (allowed word id)
+        NoBad kind left rest later,
+  ),
+)
 
 bads_of : (kind : BadToken) (left : ℕ) (bytes : List ℕ) → BadInOne viewed_to_end kind left bytes → BadViews kind left bytes
 bads_of kind left bytes (viewed, bad) =
     let (word, id, is) = named viewed in
     let parts : viewed_to_end viewed ≡ (Gap ∷ []) ++ (Exactly (view_word word) ∷ after_parts word id) = ap viewed_to_end is ∙ view_parts word id in
     let here = subst (λ (p : List Part). BadParts p kind left bytes) parts bad in
-    bad_follows_of_then gap (tt, tt) (tt, tt) BadWord kind left bytes (bad_then_map (BadParts (Exactly (view_word word) ∷ after_parts word id)) BadWord kind left (bad_word word id kind left) (Gap ∷ []) bytes (bad_then_of_parts (Gap ∷ []) (Exactly (view_word word) ∷ after_parts word id) kind left bytes here))
+    bad_follows_of_then gap (tt, tt) (tt, tt) BadWord kind left bytes (bad_then_map (BadParts (Exactly (view_word word) ∷ after_parts word id)) BadWord kind
+    left (bad_word word id kind left) (Gap ∷ []) bytes (bad_then_of_parts (Gap ∷ []) (Exactly (view_word word) ∷ after_parts word id) kind left bytes here))
 
 of_bads : (kind : BadToken) (left : ℕ) (bytes : List ℕ) → BadViews kind left bytes → BadInOne viewed_to_end kind left bytes
 of_bads kind left bytes (inl here) = absurd here.1
@@ -279,7 +331,8 @@ OfWord word id other bytes = (other ≡ word) × IsMadeOf (after_parts word id) 
 
 of_word_halts : (word : ViewWord) (id : ℕ) (other : ViewWord) → Halts is_name_byte (OfWord word id other)
 of_word_halts word id other = λ bytes (same, made).
-    after_halts word bytes (follows_of_parts (after_view word) (contents_of word id) (λ _. IsEnd) (allowed word id) bytes (made_ends (after_parts word id) bytes made))
+    after_halts word bytes (follows_of_parts (after_view word) (contents_of word id) (λ _. IsEnd) (allowed word id) bytes (made_ends (after_parts word id)
+    bytes made))
 
 word_no_bad : (word : ViewWord) (id : ℕ) → AllByRecursion IsBounded (after_parts word id) → (kind : BadToken) (left : ℕ) (bytes : List ℕ)
     → ThenWord view_words (OfWord word id) bytes → ¬ BadWord kind left bytes
@@ -317,17 +370,20 @@ stop_of_views Lack bytes stop at =
 after_gap : (Lack : Type 0) (bytes at_word : List ℕ) (stop : Stop) → Reads AnyGap tt bytes at_word
     → IsStop (ThenWord view_words After) BadWord Lack at_word stop → IsStop (IsOneOf viewed_to_end) (BadInOne viewed_to_end) Lack bytes stop
 after_gap Lack bytes at_word stop blank at =
-    stop_of_views Lack bytes stop (stop_after_all blanks gap refl (ThenWord view_words After) BadWord words_close Lack (tt, tt) bytes at_word stop (at_word, blank, refl) at)
+    stop_of_views Lack bytes stop (stop_after_all blanks gap refl (ThenWord view_words After) BadWord words_close Lack (tt, tt) bytes at_word stop
+    (at_word, blank, refl) at)
 
 after_word : (Lack : Type 0) (bytes at_word after : List ℕ) (word : ViewWord) (stop : Stop) → Reads AnyGap tt bytes at_word
     → (takes : TakesWord view_words at_word word after) → IsStop (After word) (BadAfter word) Lack after stop
     → IsStop (IsOneOf viewed_to_end) (BadInOne viewed_to_end) Lack bytes stop
 after_word Lack bytes at_word after word stop blank takes at =
-    after_gap Lack bytes at_word stop blank (stop_after (ThenWord view_words After) BadWord Lack (After word) (BadAfter word) Lack at_word takes.0 after stop takes.1.bytes_are (λ lack. lack) (goes_word _ _ view_table After BadAfter after_halts bad_after_halts word at_word after takes) at)
+    after_gap Lack bytes at_word stop blank (stop_after (ThenWord view_words After) BadWord Lack (After word) (BadAfter word) Lack at_word takes.0 after stop
+    takes.1.bytes_are (λ lack. lack) (goes_word _ _ view_table After BadAfter after_halts bad_after_halts word at_word after takes) at)
 
 pub stop_at_gap : (Lack : Type 0) (bytes : List ℕ) (stop : Stop) → Leaves AnyGap bytes stop
     → IsStop (IsOneOf viewed_to_end) (BadInOne viewed_to_end) Lack bytes stop
-stop_at_gap Lack bytes stop leaves = stop_of_views Lack bytes stop (stop_among blanks gap refl (ThenWord view_words After) BadWord words_close Lack bytes stop (inl leaves))
+stop_at_gap Lack bytes stop leaves = stop_of_views Lack bytes stop (stop_among blanks gap refl (ThenWord view_words After) BadWord words_close Lack bytes stop
+    (inl leaves))
 
 pub stop_at_view_word : (Lack : Type 0) (bytes at_word : List ℕ) (stop : Stop) → Reads AnyGap tt bytes at_word → StopsWith (LeavesTable view_words at_word) stop
     → IsStop (IsOneOf viewed_to_end) (BadInOne viewed_to_end) Lack bytes stop
@@ -338,14 +394,17 @@ pub stop_in_number : (Lack : Type 0) (bytes at_word after : List ℕ) (word : Vi
     → TakesWord view_words at_word word after → LeavesOne (spaced (view_arguments word)) after stop
     → IsStop (IsOneOf viewed_to_end) (BadInOne viewed_to_end) Lack bytes stop
 stop_in_number Lack bytes at_word after word stop blank takes leaves =
-    after_word Lack bytes at_word after word stop blank takes (stop_among every (after_view word) (after_is word) IsEnd NoBad line_closes Lack after stop (leaves_first (spaced (view_arguments word)) (AnyBlanks ∷ []) after stop leaves))
+    after_word Lack bytes at_word after word stop blank takes (stop_among every (after_view word) (after_is word) IsEnd NoBad line_closes Lack after stop
+    (leaves_first (spaced (view_arguments word)) (AnyBlanks ∷ []) after stop leaves))
 
 pub stop_at_view_end : (Lack : Type 0) (bytes at_word after rest end : List ℕ) (word : ViewWord) (givens : Givens) (stop : Stop) → Reads AnyGap tt bytes at_word
     → TakesWord view_words at_word word after → ReadsAll (spaced (view_arguments word)) (contents_in (view_arguments word) (listed givens)) after rest
     → Reads AnyBlanks tt rest end → StopsWith (line_end.AtEnd end) stop → IsStop (IsOneOf viewed_to_end) (BadInOne viewed_to_end) Lack bytes stop
 stop_at_view_end Lack bytes at_word after rest end word givens stop blank takes reads skips at =
     let contents = contents_in (view_arguments word) (listed givens) in
-    after_word Lack bytes at_word after word stop blank takes (stop_after_all every (after_view word) (after_is word) IsEnd NoBad line_closes Lack (joined (spaced (view_arguments word)) (AnyBlanks ∷ []) contents (tt, tt)) after end stop (reads_after (spaced (view_arguments word)) (AnyBlanks ∷ []) contents (tt, tt) after rest end reads (end, skips, refl)) (stop_at_end Lack end stop at))
+    after_word Lack bytes at_word after word stop blank takes (stop_after_all every (after_view word) (after_is word) IsEnd NoBad line_closes Lack
+    (joined (spaced (view_arguments word)) (AnyBlanks ∷ []) contents (tt, tt)) after end stop (reads_after (spaced (view_arguments word)) (AnyBlanks ∷ [])
+    contents (tt, tt) after rest end reads (end, skips, refl)) (stop_at_end Lack end stop at))
 
 -- ---- what was read
 
@@ -360,15 +419,30 @@ reads_to_end : (word : ViewWord) (givens : Givens) (after rest end : List ℕ)
     → ReadsAll (after_view word) (contents_of word (number_in givens.first)) after end
 reads_to_end word givens after rest end reads skips =
     subst (λ (contents : Contents (after_view word)). ReadsAll (after_view word) contents after end) (read_contents word givens)
-    (reads_after (spaced (view_arguments word)) (AnyBlanks ∷ []) (contents_in (view_arguments word) (listed givens)) (tt, tt) after rest end reads (end, skips, refl))
+    (reads_after (spaced (view_arguments word)) (AnyBlanks ∷ []) (contents_in (view_arguments word) (listed givens)) (tt, tt) after rest end reads
+    (end, skips, refl))
 
 pub view_read : (bytes at_word after rest end : List ℕ) (word : ViewWord) (givens : Givens) → Reads AnyGap tt bytes at_word
     → TakesWord view_words at_word word after → ReadsAll (spaced (view_arguments word)) (contents_in (view_arguments word) (listed givens)) after rest
     → Reads AnyBlanks tt rest end → end ≡ [] → IsMadeOf (viewed_to_end (viewed_of word (number_in givens.first))) bytes
 view_read bytes at_word after rest end word givens blank (run, cut, is) reads skips none =
     let id : ℕ = number_in givens.first in
-    let made = ends_made (after_parts word id) after (read_parts (after_view word) (contents_of word id) IsEnd after end (reads_to_end word givens after rest end reads skips) none) in
-    of_word word id bytes (blank.takes.prefix, at_word, blank.takes.bytes_are, blank.takes.is, (run, after, cut.bytes_are, entry_word (run, word) (lookup_in view_words run word is), made))
+    let made = ends_made (after_parts word id) after (read_parts (after_view word) (contents_of word id) IsEnd after end (reads_to_end word givens after rest
+    end reads skips) none) in
+    of_word word id bytes (
+      blank.takes.prefix,
+      at_word,
+      blank.takes.bytes_are,
+      blank.takes.is,
+      (
+        run,
+        after,
+        cut.bytes_are,
+        entry_word (run, word)
+            (lookup_in view_words run word is),
+        made,
+      ),
+    )
 
 pub view_bounded : (after rest end : List ℕ) (word : ViewWord) (givens : Givens)
     → ReadsAll (spaced (view_arguments word)) (contents_in (view_arguments word) (listed givens)) after rest → Reads AnyBlanks tt rest end

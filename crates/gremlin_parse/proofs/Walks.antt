@@ -39,7 +39,8 @@ stop_skips true At Bad ends bads bytes rest stop reads at =
     let goes : Goes (WithBlanks true At) (λ kind left. WithBlanks true (Bad kind left)) takes.prefix At Bad rest = record {
       line = record {
         onto = λ more after. (takes.prefix, more, refl, takes.is, after);
-        back = λ more same then. (after_symbol AnyBlanks refl At ends tt tt tt (takes.prefix ++ more) more (takes_again AnyBlanks tt bytes rest more takes same) then).1;
+        back = λ more same then. (after_symbol AnyBlanks refl At ends tt tt tt (takes.prefix ++ more) more (takes_again AnyBlanks tt bytes rest more takes same)
+            then).1;
       };
       onto = λ kind left bad. (takes.prefix, rest, refl, takes.is, bad);
       back = λ kind left then. (after_symbol AnyBlanks refl (Bad kind left) (bads kind left) tt tt tt (takes.prefix ++ rest) rest here then).1;
@@ -127,16 +128,20 @@ module _ {Word Place End : Type 0} (turn : Place → Turn Word Place End) (is_lo
   goes_took place bytes next rest took = record {
     line = record {
       onto = λ more line. line_join turn is_loose place (took.prefix ++ more)
-          (took_join IsBounded (Any turn is_loose) (λ this bound. tt) (LooseLine turn is_loose) (turn place) bytes next rest more (λ word fault bound. tt) took line);
+          (took_join IsBounded (Any turn is_loose) (λ this bound. tt) (LooseLine turn is_loose) (turn place) bytes next rest more (λ word fault bound. tt)
+          took line);
       back = λ more same line. ⊎_elim
           (λ (end : AtEnd turn is_loose place (took.prefix ++ more)). absurd (end_alone place took.prefix next rest more took.how end))
-          (λ (at : AtTurn (Any turn is_loose) (turn place) (LooseLine turn is_loose) (took.prefix ++ more)). after_took turn is_loose (Any turn is_loose) (Any turn is_loose) (turn place) (are place).apart (are place).ended (LooseLine turn is_loose) lines_end (took.prefix ++ more) next more (took_again IsBounded (Any turn is_loose) (λ this bound. tt) (turn place) bytes next rest more (λ word fault bound. tt) took same) at)
+          (λ (at : AtTurn (Any turn is_loose) (turn place) (LooseLine turn is_loose) (took.prefix ++ more)). after_took turn is_loose (Any turn is_loose)
+          (Any turn is_loose) (turn place) (are place).apart (are place).ended (LooseLine turn is_loose) lines_end (took.prefix ++ more) next more
+          (took_again IsBounded (Any turn is_loose) (λ this bound. tt) (turn place) bytes next rest more (λ word fault bound. tt) took same) at)
           (line_split turn is_loose place (took.prefix ++ more) line);
     };
     onto = λ kind left bad. bad_join turn is_loose place kind left (took.prefix ++ rest)
         (took_bad_join IsBounded kind left (LooseBad turn is_loose kind left) (turn place) bytes next rest rest took bad);
     back = λ kind left bad. after_took_bad turn is_loose (turn place) (are place).apart (are place).ended kind left (LooseBad turn is_loose kind left)
-        (bads_end kind left) (took.prefix ++ rest) next rest (took_again IsBounded IsBounded (λ this bound. bound) (turn place) bytes next rest rest (λ word fault bound. bound) took refl) (bad_split turn is_loose place kind left (took.prefix ++ rest) bad);
+        (bads_end kind left) (took.prefix ++ rest) next rest (took_again IsBounded IsBounded (λ this bound. bound) (turn place) bytes next rest rest
+        (λ word fault bound. bound) took refl) (bad_split turn is_loose place kind left (took.prefix ++ rest) bad);
   }
 
   -- A token leads from its place to the next one.
@@ -146,9 +151,15 @@ module _ {Word Place End : Type 0} (turn : Place → Turn Word Place End) (is_lo
     stops = λ stop at.
         stop_after (LineFrom turn is_loose place) (BadFrom turn is_loose place) (Unit {0}) (LooseLine turn is_loose next) (BadLoosely turn is_loose next)
         (Unit {0}) bytes took.prefix middle stop took.bytes_are (λ lack. lack) (goes_took place bytes next middle took)
-        (stop_skips (is_loose next) (Line turn is_loose next) (BadFrom turn is_loose next) (line_ending turn is_loose Blank next (are next).no_blank) (λ kind left. bad_ending turn is_loose kind left Blank next (are next).no_blank) middle rest stop skips at);
-    kept = λ end (n, leads).
-        (suc n, subst (λ b. AtTurn IsBounded (turn place) (Loosely turn is_loose (λ next rest. Leads turn is_loose IsBounded end n next rest)) b) (sym took.bytes_are) (took_join IsBounded IsBounded (λ this bound. bound) (Loosely turn is_loose (λ next rest. Leads turn is_loose IsBounded end n next rest)) (turn place) bytes next middle middle (λ word fault bound. bound) took (skip_blanks (is_loose next) (Leads turn is_loose IsBounded end n next) middle rest skips leads)));
+        (stop_skips (is_loose next) (Line turn is_loose next) (BadFrom turn is_loose next) (line_ending turn is_loose Blank next (are next).no_blank)
+        (λ kind left. bad_ending turn is_loose kind left Blank next (are next).no_blank) middle rest stop skips at);
+    kept = λ end (n, leads). (
+      suc n,
+      subst (λ b. AtTurn IsBounded (turn place) (Loosely turn is_loose (λ next rest. Leads turn is_loose IsBounded end n next rest)) b)
+          (sym took.bytes_are) (took_join IsBounded IsBounded (λ this bound. bound) (Loosely turn is_loose (λ next rest. Leads turn is_loose IsBounded end n
+          next rest)) (turn place) bytes next middle middle (λ word fault bound. bound) took (skip_blanks (is_loose next) (Leads turn is_loose IsBounded end n
+          next) middle rest skips leads)),
+    );
   }
 
   -- a stop after the blanks before a place
@@ -212,13 +223,15 @@ module _ {Word Place End : Type 0} (turn : Place → Turn Word Place End) (is_lo
           nothing : (these : List ℕ) → first_byte [] ≡ first_byte these → these ≡ []
           nothing [] same = refl
           nothing (b ∷ these) same = cc
-      pick (inr (inl sign)) = absurd (sign_refuses (turn place).signs (LooseLine turn is_loose) more (NoSign-first_byte (turn place).signs bytes more same no_sign) sign)
+      pick (inr (inl sign)) = absurd (sign_refuses (turn place).signs (LooseLine turn is_loose) more (NoSign-first_byte (turn place).signs bytes more same
+          no_sign) sign)
       pick (inr (inr other)) = other
 
   only_bad_other : (place : Place) (kind : BadToken) (left : ℕ) (bytes : List ℕ) → NoSign (turn place).signs bytes → BadFrom turn is_loose place kind left bytes
       → BadBeside place kind left bytes
   only_bad_other place kind left bytes no_sign bad = ⊎_elim
-      (λ (sign : ThenSign (turn place).signs (LooseBad turn is_loose kind left) bytes). absurd (sign_refuses (turn place).signs (LooseBad turn is_loose kind left) bytes no_sign sign))
+      (λ (sign : ThenSign (turn place).signs (LooseBad turn is_loose kind left) bytes). absurd (sign_refuses (turn place).signs
+      (LooseBad turn is_loose kind left) bytes no_sign sign))
       (λ (other : BadBeside place kind left bytes). other)
       (bad_split turn is_loose place kind left bytes bad)
 
@@ -234,7 +247,8 @@ module _ {Word Place End : Type 0} (turn : Place → Turn Word Place End) (is_lo
       bytes_are = stop.bytes_are;
       left_is = stop.left_is;
       viable = (stop.viable.0, line_join turn is_loose place (stop.read ++ stop.viable.0) (inr stop.viable.1));
-      none = λ more same line. stop.none more same (only_other place bytes (stop.read ++ more) no_end no_sign (first_byte-append stop.read more stop.unread same ∙ ap first_byte (sym stop.bytes_are)) line);
+      none = λ more same line. stop.none more same (only_other place bytes (stop.read ++ more) no_end no_sign (first_byte-append stop.read more stop.unread same
+          ∙ ap first_byte (sym stop.bytes_are)) line);
     },
     λ kind left bad. none kind left (only_bad_other place kind left bytes no_sign bad),
   )
@@ -300,7 +314,8 @@ module _ {Word Place End : Type 0} (turn : Place → Turn Word Place End) (is_lo
     stops_of_same (ThenOther (Any turn is_loose) (Words (first ∷ table) fault to) (LooseLine turn is_loose)) _ bytes left
         (λ more (entry, within, then). (entry, within, tt, then))
         (λ more same (entry, within, any, then). (entry, within, then))
-        (stops_in_table first table ended.0 (λ w. LooseLine turn is_loose (to w)) (λ w. lines_end NameByte (to w) (ended.1 w)) (λ w. loose_some (to w)) bytes left leaves),
+        (stops_in_table first table ended.0 (λ w. LooseLine turn is_loose (to w)) (λ w. lines_end NameByte (to w) (ended.1 w)) (λ w. loose_some (to w))
+        bytes left leaves),
     λ kind place bad. ⊎_elim
         (λ (here : IsBadWord (first ∷ table) fault kind place bytes). no_bad kind place here)
         (λ (then : ThenWord (first ∷ table) (λ w. LooseBad turn is_loose kind place (to w)) bytes).
@@ -396,7 +411,8 @@ module _ {Word Place End : Type 0} (turn : Place → Turn Word Place End) (is_lo
       no_other stops.Memory is at = tt
       no_other (stops.Syntax left) is at = (
         subst (StopsBefore (LineFrom turn is_loose place) bytes) (sym at)
-            (stops_here (LineFrom turn is_loose place) bytes (some place).0 (some place).1 (λ more same line. subst (λ o. ThenOther (Any turn is_loose) o (LooseLine turn is_loose) more) is (only_other place bytes more leaves.no_end leaves.no_sign same line))),
+            (stops_here (LineFrom turn is_loose place) bytes (some place).0 (some place).1 (λ more same line. subst (λ o. ThenOther (Any turn is_loose) o
+            (LooseLine turn is_loose) more) is (only_other place bytes more leaves.no_end leaves.no_sign same line))),
         λ kind where_at bad. subst (λ o. BadOther o kind where_at (LooseBad turn is_loose kind where_at) bytes) is
             (only_bad_other place kind where_at bytes leaves.no_sign bad),
       )
@@ -419,14 +435,16 @@ module _ {Word Place End : Type 0} (turn : Place → Turn Word Place End) (is_lo
   nothing_taken : (Bound : Part → Type 0) (place : Place) (After : Place → Language) (bytes : List ℕ) → AtEnd turn is_loose place bytes
       → ¬ AtTurn Bound (turn place) After bytes
   nothing_taken Bound place After bytes (end, ends, none) = λ at. ⊎_elim
-      (λ ((b, next, is, (prefix, rest, bytes_are, same, after)) : ThenSign (turn place).signs After bytes). let clash : [] ≡ b ∷ rest = sym none ∙ bytes_are ∙ ap (λ p. p ++ rest) same in cc)
+      (λ ((b, next, is, (prefix, rest, bytes_are, same, after)) : ThenSign (turn place).signs After bytes). let clash : [] ≡ b ∷ rest = sym none ∙ bytes_are
+      ∙ ap (λ p. p ++ rest) same in cc)
       (λ (other : ThenOther Bound (turn place).other After bytes). subst (λ o. ThenOther Bound o After bytes) ((are place).alone end ends) other)
       at
 
   nothing_bad : (place : Place) (kind : BadToken) (left : ℕ) (After : Place → Language) (bytes : List ℕ) → AtEnd turn is_loose place bytes
       → ¬ BadTurn (turn place) kind left After bytes
   nothing_bad place kind left After bytes (end, ends, none) = λ at. ⊎_elim
-      (λ ((b, next, is, (prefix, rest, bytes_are, same, after)) : ThenSign (turn place).signs After bytes). let clash : [] ≡ b ∷ rest = sym none ∙ bytes_are ∙ ap (λ p. p ++ rest) same in cc)
+      (λ ((b, next, is, (prefix, rest, bytes_are, same, after)) : ThenSign (turn place).signs After bytes). let clash : [] ≡ b ∷ rest = sym none ∙ bytes_are
+      ∙ ap (λ p. p ++ rest) same in cc)
       (λ (other : BadOther (turn place).other kind left After bytes). subst (λ o. BadOther o kind left After bytes) ((are place).alone end ends) other)
       at
 

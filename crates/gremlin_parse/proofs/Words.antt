@@ -18,7 +18,8 @@ module _ {K : Type 0} (name : K → List ℕ) where
 
   -- by a test that computes over the table
   pub are_named : (table : List (Entry K)) → all_pass (λ (e : Entry K). pointwise nat_eq e.0 (name e.1)) table ≡ true → AreNamed table
-  are_named table all = all_of (λ (e : Entry K). e.0 ≡ name e.1) table (λ entry within. same_text entry.0 (name entry.1) (sym (passes_in (λ (e : Entry K). pointwise nat_eq e.0 (name e.1)) table all entry within)))
+  are_named table all = all_of (λ (e : Entry K). e.0 ≡ name e.1) table (λ entry within. same_text entry.0 (name entry.1)
+      (sym (passes_in (λ (e : Entry K). pointwise nat_eq e.0 (name e.1)) table all entry within)))
 
   pub entry_named : (table : List (Entry K)) → AreNamed table → (entry : Entry K) → InTable entry table → entry.0 ≡ name entry.1
   entry_named [] named entry within = absurd within

@@ -108,18 +108,25 @@ pub has_added : (r : Result OwnGroup Fault) (s l t : State) (node label : ℕ) �
     → IfOk r (λ own. (free xs : List ℕ) → CanMake l node label free xs → HasMade l.records t.records node label own.row free xs)
     → IfOk r (λ own. own.first ≡ first_link l.records node)
     → ((meta_of l format.groups_file).live ≡ room l format.groups_file → IsErr r) → t.shape ≡ l.shape
-    → IfOk r (λ own. (groups free : List ℕ) → IsDense s.records node → IsGroupChain s.records node groups → CanTakeEach s free → HasFound s t label groups own ⊎ HasAdded s t node label groups free own)
+    → IfOk r (λ own. (groups free : List ℕ) → IsDense s.records node → IsGroupChain s.records node groups → CanTakeEach s free → HasFound s t label groups own
+    ⊎ HasAdded s t node label groups free own)
 has_added (Err fault) s l t node label same lacks made first full shape = tt
 has_added (Ok own) s l t node label same lacks made first full shape = λ groups free dense chain can.
     let none : LacksType s.records label groups = λ g i. lacks dense groups chain g (chain.only g i) in
     let is : HasMade s.records t.records node label own.row free groups
     = subst (λ (q : State). HasMade q.records t.records node label own.row free groups) same
-    (made free groups (subst (λ (q : State). CanMake q node label free groups) (sym same) (record { chain = chain; lacks = none; take = can_read s l.reads free can.take }))) in
+    (made free groups (subst (λ (q : State). CanMake q node label free groups) (sym same) (record {
+      chain = chain;
+      lacks = none;
+      take = can_read s l.reads free
+          can.take;
+    }))) in
     let shaped : t.shape ≡ s.shape = shape ∙ ap (λ (q : State). q.shape) same in
     inr (record {
       lacks = none;
       made = is;
-      take = take_rest s t node label own.row groups free is shaped (λ e. no_error own (full (ap (λ (q : State). (meta_of q format.groups_file).live) same ∙ e ∙ sym (ap (λ (q : State). room q format.groups_file) same)))) can;
+      take = take_rest s t node label own.row groups free is shaped (λ e. no_error own (full (ap (λ (q : State). (meta_of q format.groups_file).live) same ∙ e
+          ∙ sym (ap (λ (q : State). room q format.groups_file) same)))) can;
       before = first ∙ ap (λ (q : State). first_link q.records node) same;
       shape = shaped;
     })
@@ -226,9 +233,11 @@ module _ (s m : State) (node label : ℕ) (own : OwnGroup) (came groups free : L
       number k 4 (place_of side) i (omega arith) (inr (omega arith)) in
       side_by m.records node came k side was.members (added.made.chain.only k (inr i))
       (subst (λ f. IsChainFrom m.records node f was.members) (sym first)
-      (chain_stays (next_of s.records node) (prev_of s.records node) (next_of m.records node) (prev_of m.records node) format.nil (rules.first_of s.records (group_head k side)) was.members
+      (chain_stays (next_of s.records node) (prev_of s.records node) (next_of m.records node) (prev_of m.records node) format.nil (rules.first_of s.records
+      (group_head k side)) was.members
       (λ x j. ap (λ r. next_in r node) (rels x)) (λ x j. ap (λ r. prev_in r node) (rels x)) was.list.chain))
-      (λ x j. let a = was.are x j in (a.0, member_m k side x i a.1)) (λ x j a. was.all x j (member_s (type_of m.records k) (type_of s.records k) side x (type_m k i) a))
+      (λ x j. let a = was.are x j in (a.0, member_m k side x i a.1)) (λ x j a. was.all x j (member_s (type_of m.records k) (type_of s.records k) side x
+      (type_m k i) a))
       (number k 4 (count_place (place_of side)) i (omega arith) (inr (omega arith)) ∙ was.count)
 
   none_here : (side : Side) → rules.first_of m.records (group_head own.row.id side) ≡ format.nil
@@ -248,7 +257,8 @@ module _ (s m : State) (node label : ℕ) (own : OwnGroup) (came groups free : L
   new_side side = side_by m.records node came own.row.id side [] (added.made.chain.only own.row.id (inl refl)) (none_here side) (λ x j. elim j [ ])
       (λ x j a.
       let at = spread.placed x j in
-      absurd (added.lacks at.0 at.2.0 (one_place s.records node (type_of s.records at.0) label at.1 side x at.2.1 (member_s (type_of m.records own.row.id) label side x type_here a)).0)) (no_count side)
+      absurd (added.lacks at.0 at.2.0 (one_place s.records node (type_of s.records at.0) label at.1 side x at.2.1 (member_s (type_of m.records own.row.id)
+      label side x type_here a)).0)) (no_count side)
 
   -- the identifier wasn't in use
   pub added_fresh : CanTakeEach s free → kind_at s.records format.groups_file own.row.id ≡ format.free_kind
@@ -307,4 +317,11 @@ make_read s l node label groups free same chain lacks can = subst (λ (q : State
 
 pub can_walk : (s : State) (node : ℕ) (groups free : List ℕ) → IsGroupChain s.records node groups → CanTakeEach s free
     → IsWalkable s node (first_link s.records node) groups
-can_walk s node groups free chain can = record { mark = can.take.mark; list = record { walk = walk_of_chain _ _ format.nil (first_link s.records node) groups chain.chain; only = chain.only } }
+can_walk s node groups free chain can = record {
+  mark = can.take.mark;
+  list = record {
+    walk = walk_of_chain _ _ format.nil (first_link s.records node)
+        groups chain.chain;
+    only = chain.only;
+  };
+}

@@ -130,7 +130,8 @@ module _ (s t : State) (n : ℕ) (alike : AreAlike s t n) where
       let at : kind_at t.records format.groups_file g ≡ k = kind_low (group_mark t) r g low in
       let was : kind_at s.records format.groups_file g ≡ field 1 q format.kind = kind_low (group_mark s) q g (subst (λ m. g < m) alike.group_mark low) in
       layout-other q (field 1 q format.kind)
-      (eq_false (field 1 q format.kind) format.free_kind (λ e. free r k none (sym at ∙ not_live (kind_at t.records format.groups_file g) (alike.live g ∙ live_false (kind_at s.records format.groups_file g) (was ∙ e)))))
+      (eq_false (field 1 q format.kind) format.free_kind (λ e. free r k none (sym at ∙ not_live (kind_at t.records format.groups_file g)
+      (alike.live g ∙ live_false (kind_at s.records format.groups_file g) (was ∙ e)))))
       (ap is_group_kind (sym was) ∙ sym (alike.used g) ∙ ap is_group_kind at ∙ known r k none (is_group_kind k) refl)
     where
       free_known : (r : Rec) → (layout : Layout) × (layout_by format.groups_file r 0 ≡ Some layout)
@@ -174,7 +175,11 @@ module _ (s t : State) (n : ℕ) (alike : AreAlike s t n) where
   -- ---- a group on a group chain was on it
 
   pub owned_as : (g : ℕ) → IsOwnedBy t.records n g → IsOwnedBy s.records n g
-  owned_as g own = record { used = used_of_live s.records format.groups_file g (sym (alike.live g) ∙ live_true (kind_at t.records format.groups_file g) own.used); owner = sym (owner_as g) ∙ own.owner }
+  owned_as g own = record {
+    used = used_of_live s.records format.groups_file g (sym (alike.live g) ∙ live_true (kind_at t.records format.groups_file g)
+        own.used);
+    owner = sym (owner_as g) ∙ own.owner;
+  }
 
   pub on_as : (g : ℕ) → IsOnChain t.records n g → IsOnChain s.records n g
   on_as g (First _ dense first own) = First g (dense_as dense) (sym first_as ∙ first) (owned_as g own)
@@ -186,7 +191,14 @@ module _ (s t : State) (n : ℕ) (alike : AreAlike s t n) where
   pub chain_head_as : (h : Head) → IsChainHead t.records h n → IsChainHead s.records h n
   chain_head_as h (inl o) = inl (record { sparse = sym kind_same ∙ o.sparse; is = o.is })
   chain_head_as h (inr c) = inr (record {
-    own = record { dense = dense_as c.own.dense; row = c.own.row; group = sym (group_row c.own.row.id) ∙ c.own.group; owner = c.own.owner; key = c.own.key; field = c.own.field };
+    own = record {
+      dense = dense_as c.own.dense;
+      row = c.own.row;
+      group = sym (group_row c.own.row.id) ∙ c.own.group;
+      owner = c.own.owner;
+      key = c.own.key;
+      field = c.own.field;
+    };
     on = on_as c.own.row.id c.on;
   })
 

@@ -62,13 +62,19 @@ leaves_then s t u node xs ys gs hs more grown a b = record {
   others = λ x n at some absent inside. b.others x n at some absent inside ∙ a.others x n at some (λ i. absent (more x i)) inside;
   links = λ x n at inside beside.
       let place : place_of (rec_at t format.relationships_file x) node ≡ place_of (rec_at s format.relationships_file x) node
-      = ap (λ v. cond (nat_eq v node) 16 24) (a.links x 4 format.relationship_source (omega arith) (inl (let low = place_low (rec_at s format.relationships_file x) node in omega arith))) in
+      = ap (λ v. cond (nat_eq v node) 16 24) (a.links x 4 format.relationship_source (omega arith)
+      (inl (let low = place_low (rec_at s format.relationships_file x) node in omega arith))) in
       b.links x n at inside (subst (λ q. (at + n ≤ q) ⊎ (q + 8 ≤ at)) (sym place) beside) ∙ a.links x n at inside beside;
   groups_stay = λ g n at some absent inside. b.groups_stay g n at some absent inside ∙ a.groups_stay g n at some (λ i. absent (grown g i)) inside;
 }
 
 leaves_none : (s : Records) (node : ℕ) (xs gs : List ℕ) → LeavesApart s s node xs gs
-leaves_none s node xs gs = record { others = λ x n at some absent inside. refl; links = λ x n at inside beside. refl; groups_stay = λ g n at some absent inside. refl }
+leaves_none s node xs gs = record {
+  others = λ x n at some absent inside. refl;
+  links = λ x n at inside beside. refl;
+  groups_stay = λ g n at some absent inside.
+      refl;
+}
 
 -- ---- one that has its group
 
@@ -117,10 +123,16 @@ module _ (s m : State) (node rel group : ℕ) (row : RelRow) (came rest groups f
       spread = spread_now;
       take = g.take_e m node rel group row groups came ready.chain ready.here ready.counted ready.sides live_m end (sym ready.named) out small free ready.take;
       walk = walk_stays (next_of s.records node) (next_of now.records node) next rest
-          (λ y i. g.next_e m node rel group row groups came ready.chain ready.here ready.counted ready.sides live_m end (sym ready.named) out small y (not_rel y i) (apart y (inr i))
+          (λ y i. g.next_e m node rel group row groups came ready.chain ready.here ready.counted ready.sides live_m end (sym ready.named) out small y
+          (not_rel y i) (apart y (inr i))
           (λ e. nil_out (next_of s.records node) rel (rel ∷ rest) walk (subst (λ z. In z (rel ∷ rest)) e (inr i))) ∙ ap (λ r. next_in r node) (ready.rels y))
           (subst (λ z. IsWalk (next_of s.records node) z rest) (sym next_is) walk.2);
-      ends = λ x i. let a = ends x (inr i) in (a.0, g.rows_e m node rel group row groups came ready.chain ready.here ready.counted ready.sides live_m end (sym ready.named) out small x ∙ ready.rows x ∙ a.1, a.2);
+      ends = λ x i. let a = ends x (inr i) in (
+        a.0,
+        g.rows_e m node rel group row groups came ready.chain ready.here ready.counted ready.sides live_m end
+            (sym ready.named) out small x ∙ ready.rows x ∙ a.1,
+        a.2,
+      );
       apart = λ x i j. ⊎_elim (not_rel x i) (apart x (inr i)) j;
     }
 
@@ -129,10 +141,12 @@ module _ (s m : State) (node rel group : ℕ) (row : RelRow) (came rest groups f
     first_now = g.first_known m node rel group row groups came ready.chain ready.here ready.counted ready.sides live_m end (sym ready.named) out small
 
     pub live_now : (meta_of now format.groups_file).live ≤ (meta_of s format.groups_file).live + 1
-    live_now = let e = ap (λ (q : Meta). q.live) (g.meta_e m node rel group row groups came ready.chain ready.here ready.counted ready.sides live_m end (sym ready.named) out small) in let le = ready.live in omega arith
+    live_now = let e = ap (λ (q : Meta). q.live) (g.meta_e m node rel group row groups came ready.chain ready.here ready.counted ready.sides live_m end
+        (sym ready.named) out small) in let le = ready.live in omega arith
 
     pub mark_now : high s.records format.groups_file ≤ high now.records format.groups_file
-    mark_now = let e = ap (λ (q : Meta). q.high) (g.meta_e m node rel group row groups came ready.chain ready.here ready.counted ready.sides live_m end (sym ready.named) out small) in let le = ready.marks in omega arith
+    mark_now = let e = ap (λ (q : Meta). q.high) (g.meta_e m node rel group row groups came ready.chain ready.here ready.counted ready.sides live_m end
+        (sym ready.named) out small) in let le = ready.marks in omega arith
 
     pub leaves_now : LeavesApart s.records now.records node (rel ∷ came) groups
     leaves_now = leaves_then s.records m.records now.records node came (rel ∷ came) groups groups (λ x i. inr i) (λ k i. i) ready.leaves
@@ -151,7 +165,8 @@ left_there s node rel came rest groups free spreading none = let a = spreading.e
 
 -- the group was found or made after a load, told by the space as it was
 module _ (s l m : State) (node rel : ℕ) (row : loaded.RelRow) (own : OwnGroup) (same : SameButReads s l) (is : Some row ≡ loading.row_at s.records rel)
-    (opens : (groups free : List ℕ) → IsDense l.records node → IsGroupChain l.records node groups → CanTakeEach l free → HasFound l m row.label groups own ⊎ HasAdded l m node row.label groups free own)
+    (opens : (groups free : List ℕ) → IsDense l.records node → IsGroupChain l.records node groups → CanTakeEach l free → HasFound l m row.label groups own
+    ⊎ HasAdded l m node row.label groups free own)
     (stays : IsDense l.records node → IsDense m.records node) (small : rel < 2 ^ 25) (came rest groups free : List ℕ)
     (spreading : IsSpreading s node rel came (rel ∷ rest) groups free) where
   pub spread_l : HasSpread l.records node groups came
@@ -183,7 +198,8 @@ module _ (s l m : State) (node rel : ℕ) (row : loaded.RelRow) (own : OwnGroup)
   comes_in t end h first next freed head put first_is links = by (opens groups free spread_l.dense spread_l.chain take_l)
     where
       end_of : tallied one_more (pushed (prev_set m node rel format.nil) own_head node rel) own_head ≡ end
-      end_of = sym (put ∙ ap (λ (q : State). tallied one_more (pushed q h node rel) h) freed ∙ ap (λ (q : Head). tallied one_more (pushed (prev_set m node rel format.nil) q node rel) q) head)
+      end_of = sym (put ∙ ap (λ (q : State). tallied one_more (pushed q h node rel) h) freed ∙ ap (λ (q : Head). tallied one_more
+          (pushed (prev_set m node rel format.nil) q node rel) q) head)
 
       first_of_l : first ≡ first_of (prev_set m node rel format.nil).records own_head
       first_of_l = first_is ∙ ap (λ (q : State). first_of q.records h) freed ∙ ap (λ (q : Head). first_of (prev_set m node rel format.nil).records q) head
@@ -209,7 +225,8 @@ module _ (s l m : State) (node rel : ℕ) (row : loaded.RelRow) (own : OwnGroup)
         groups_now = gs;
         free_now = left;
         spreading = subst (λ (q : State). IsSpreading q node next (rel ∷ came) rest gs left) end_of
-            (spreading_now l m node rel own.row.id (rule_row row) came rest gs left ready (stays spread_l.dense) live_l end_l small walk_l ends_l spreading.apart next next_l);
+            (spreading_now l m node rel own.row.id (rule_row row) came rest gs left ready (stays spread_l.dense) live_l end_l small walk_l ends_l
+            spreading.apart next next_l);
         grows = grows;
         stay = stay;
         fresh = subst (λ (q : State). (k : ℕ) → In k gs → In k groups ⊎ ((¬ In k groups) × (kind_at q.records format.groups_file k ≡ format.free_kind))) same
@@ -219,14 +236,16 @@ module _ (s l m : State) (node rel : ℕ) (row : loaded.RelRow) (own : OwnGroup)
             (mark_now l m node rel own.row.id (rule_row row) came rest gs left ready (stays spread_l.dense) live_l end_l small walk_l ends_l spreading.apart));
         leaves = subst (λ (q : State). LeavesApart q.records end.records node (rel ∷ came) gs) same
             (subst (λ (q : State). LeavesApart l.records q.records node (rel ∷ came) gs) end_of
-            (leaves_now l m node rel own.row.id (rule_row row) came rest gs left ready (stays spread_l.dense) live_l end_l small walk_l ends_l spreading.apart));
+            (leaves_now l m node rel own.row.id (rule_row row) came rest gs left ready (stays spread_l.dense) live_l end_l small walk_l ends_l
+            spreading.apart));
         before = before;
         first = subst (λ z. (z ≡ format.nil) ⊎ In z came) (sym first_of_l)
             (first_now l m node rel own.row.id (rule_row row) came rest gs left ready (stays spread_l.dense) live_l end_l small walk_l ends_l spreading.apart);
         live = let le = subst (λ (q : State). (meta_of q format.groups_file).live ≤ (meta_of l format.groups_file).live + 1) end_of
             (live_now l m node rel own.row.id (rule_row row) came rest gs left ready (stays spread_l.dense) live_l end_l small walk_l ends_l spreading.apart) in
             let as_it_was = live_is in omega arith;
-        shape = subst (λ (q : State). q.shape ≡ l.shape) end_of (shape_now l m node rel own.row.id (rule_row row) came rest gs left ready (stays spread_l.dense) live_l end_l small walk_l ends_l spreading.apart) ∙ shape_is;
+        shape = subst (λ (q : State). q.shape ≡ l.shape) end_of (shape_now l m node rel own.row.id (rule_row row) came rest gs left ready (stays spread_l.dense)
+            live_l end_l small walk_l ends_l spreading.apart) ∙ shape_is;
       }
 
       by : HasFound l m row.label groups own ⊎ HasAdded l m node row.label groups free own
@@ -235,10 +254,15 @@ module _ (s l m : State) (node rel : ℕ) (row : loaded.RelRow) (own : OwnGroup)
           (inl found.before)
       by (inr added) = done (own.row.id ∷ groups) (rest_of free) (ready_added l m node row.label own came groups free spread_l added) (λ k i. i) (λ k i. inr i)
           (λ k i. ⊎_elim
-          (λ e. inr (subst (λ z. (¬ In z groups) × (kind_at l.records format.groups_file z ≡ format.free_kind)) (sym e) (added_off l m node row.label own came groups free spread_l added, added_fresh l m node row.label own came groups free spread_l added take_l)))
+          (λ e. inr (subst (λ z. (¬ In z groups) × (kind_at l.records format.groups_file z ≡ format.free_kind)) (sym e) (
+            added_off l m node row.label own came
+                groups free spread_l added,
+            added_fresh l m node row.label own came groups free spread_l added take_l,
+          )))
           (λ j. inl j) i)
           (subst (λ z. (z ≡ format.nil) ⊎ In z groups) (sym added.before)
-          (first_in (next_group l.records) (first_link l.records node) groups (walk_of_chain _ _ format.nil (first_link l.records node) groups spread_l.chain.chain)))
+          (first_in (next_group l.records) (first_link l.records node) groups (walk_of_chain _ _ format.nil (first_link l.records node)
+          groups spread_l.chain.chain)))
 
   -- a push at its head finds a right link
   pub push_finds : (t : State) (h : Head) → t ≡ prev_set m node rel format.nil → h ≡ group_head own.row.id (side_at node row.from row.to)
@@ -261,8 +285,10 @@ module _ (s l m : State) (node rel : ℕ) (row : loaded.RelRow) (own : OwnGroup)
             low = ⊎_elim (λ none. inl none)
                 (λ i. let a = ready.placed first i in
                 let lt = kind_below (high m.records format.relationships_file) (rec_at m.records format.relationships_file first) first
-                (some_row (kind_at m.records format.relationships_file first) (rel_in (rec_at m.records format.relationships_file first) first) a.2.1.row a.2.1.live).0 in inr (omega arith))
-                (first_now l m node rel own.row.id (rule_row row) came rest gs left ready (stays spread_l.dense) live_l end_l small walk_l ends_l spreading.apart);
+                (some_row (kind_at m.records format.relationships_file first) (rel_in (rec_at m.records format.relationships_file first) first)
+                a.2.1.row a.2.1.live).0 in inr (omega arith))
+                (first_now l m node rel own.row.id (rule_row row) came rest gs left ready (stays spread_l.dense) live_l end_l small walk_l ends_l
+                spreading.apart);
             mark = omega arith;
           }
 
@@ -299,7 +325,8 @@ member_end : (records : Records) (node x : ℕ) → StandsAt (rel_at records) (g
     × IsEnd node row
 member_end records node x a = (a.row, a.live, by a.on)
   where
-    by : ((format.nodes_file ≡ format.nodes_file) × IsEnd node a.row) ⊎ ((format.nodes_file ≡ format.groups_file) × IsInGroup (group_at records) (node_head node) a.row) → IsEnd node a.row
+    by : ((format.nodes_file ≡ format.nodes_file) × IsEnd node a.row) ⊎ ((format.nodes_file ≡ format.groups_file) × IsInGroup (group_at records)
+        (node_head node) a.row) → IsEnd node a.row
     by (inl k) = k.1
     by (inr k) = absurd (let z = k.0 in omega arith)
 
@@ -313,13 +340,29 @@ spreading_cleared l node members free can =
     record {
       spread = record {
         dense = dense_cleared l node (λ e. let k = can.sparse in let z = sym e ∙ k in omega arith);
-        chain = record { chain = first; only = λ g i. elim i [ ]; all = λ g is. absurd (can.none g (record { kind = is.kind; owner = is.owner })); once = λ g k i j same. elim i [ ] };
+        chain = record {
+          chain = first;
+          only = λ g i. elim i [ ];
+          all = λ g is. absurd (can.none g (record { kind = is.kind; owner = is.owner }));
+          once =
+              λ g k i j same. elim i [ ];
+        };
         counted = λ g i. elim i [ ];
         typed = λ g i. elim i [ ];
         placed = λ x i. elim i [ ];
         sides = λ g i side. elim i [ ];
       };
-      take = record { take = record { list = can.take.take.list; low = can.take.take.low; unused = can.take.take.unused; count = can.take.take.count; mark = can.take.take.mark }; exact = can.take.exact };
+      take = record {
+        take = record {
+          list = can.take.take.list;
+          low = can.take.take.low;
+          unused = can.take.take.unused;
+          count = can.take.take.count;
+          mark =
+              can.take.take.mark;
+        };
+        exact = can.take.exact;
+      };
       walk = walk_of_chain _ _ format.nil (first_link l.records node) members can.chain.chain;
       ends = λ x i. member_end l.records node x (can.chain.only x i);
       apart = λ x i j. j;
@@ -364,18 +407,21 @@ part_all s l t node row members free came groups same is clear came_is groups_is
 -- where some are left the next one is the first of them
 module _ (s now : State) (node at count : ℕ) (members came groups : List ℕ) (there : at ≢ format.nil) (part : HasPart s now node at count members came groups)
   where
-    pub part_first : {P : Type 0} → ((rest : List ℕ) → IsSpreading now node at part.moved (at ∷ rest) part.own part.free → ((x : ℕ) → In x (at ∷ rest) → In x part.rest) → ((x : ℕ) → In x part.rest → In x (at ∷ rest)) → length rest + (count + 1) ≡ length members → P) → P
+    pub part_first : {P : Type 0} → ((rest : List ℕ) → IsSpreading now node at part.moved (at ∷ rest) part.own part.free → ((x : ℕ) → In x (at ∷ rest)
+        → In x part.rest) → ((x : ℕ) → In x part.rest → In x (at ∷ rest)) → length rest + (count + 1) ≡ length members → P) → P
     part_first {P} found = by part.rest part.spreading (λ x i. i) (λ x i. i) part.many
       where
         by : (later : List ℕ) → IsSpreading now node at part.moved later part.own part.free → ((x : ℕ) → In x later → In x part.rest)
             → ((x : ℕ) → In x part.rest → In x later) → length later + count ≡ length members → P
         by [] spreading from into many = absurd (there spreading.walk)
-        by (y ∷ later) spreading from into many = found later (subst (λ z. IsSpreading now node at part.moved (z ∷ later) part.own part.free) (sym spreading.walk.0) spreading)
+        by (y ∷ later) spreading from into many = found later (subst (λ z. IsSpreading now node at part.moved (z ∷ later) part.own part.free)
+            (sym spreading.walk.0) spreading)
             (λ x i. from x (subst (λ z. In x (z ∷ later)) spreading.walk.0 i)) (λ x i. subst (λ z. In x (z ∷ later)) (sym spreading.walk.0) (into x i))
             (omega arith)
 
     -- what isn't in use and none of its groups wasn't in use
-    was_free : (g : ℕ) → ¬ In g part.own → kind_at now.records format.groups_file g ≡ format.free_kind → kind_at s.records format.groups_file g ≡ format.free_kind
+    was_free : (g : ℕ) → ¬ In g part.own → kind_at now.records format.groups_file g ≡ format.free_kind → kind_at s.records format.groups_file g ≡
+        format.free_kind
     was_free g absent free =
         let mark = high s.records format.groups_file in
         let le = part.mark in
@@ -401,21 +447,25 @@ module _ (s now : State) (node at count : ℕ) (members came groups : List ℕ) 
           parts = λ x i. ⊎_elim (λ j. inl (inr j)) (λ j. ⊎_elim (λ e. inl (inl e)) inr (into x j)) (part.parts x i);
           members_moved = λ x i. ⊎_elim (λ e. part.members_left x (from x (inl e))) (part.members_moved x) i;
           members_left = λ x i. part.members_left x (from x (inr i));
-          rels = λ x i. subst (λ zs. In x zs) (sym xs_is) (⊎_elim (λ e. subst (λ z. In z (came ++ at ∷ [])) (sym e) (in_last at came)) (λ j. in_before x at came (part.rels x j)) i);
-          owned = λ g i. subst (λ zs. In g zs) (sym ys_is) (⊎_elim (λ e. subst (λ z. In z (groups ++ turn.group ∷ [])) (sym e) (in_last turn.group groups)) (λ j. in_before g turn.group groups (part.owned g j)) (comes.grows g i));
+          rels = λ x i. subst (λ zs. In x zs) (sym xs_is) (⊎_elim (λ e. subst (λ z. In z (came ++ at ∷ [])) (sym e) (in_last at came)) (λ j. in_before x at came
+              (part.rels x j)) i);
+          owned = λ g i. subst (λ zs. In g zs) (sym ys_is) (⊎_elim (λ e. subst (λ z. In z (groups ++ turn.group ∷ [])) (sym e) (in_last turn.group groups))
+              (λ j. in_before g turn.group groups (part.owned g j)) (comes.grows g i));
           no_rel = subst (λ zs. In format.nil zs) (sym xs_is) (in_before format.nil at came part.no_rel);
           no_group = subst (λ zs. In format.nil zs) (sym ys_is) (in_before format.nil turn.group groups part.no_group);
           many = many;
           live = let a = comes.live in let b = part.live in omega arith;
           mark = let a = comes.mark in let b = part.mark in omega arith;
           fresh = λ g i. ⊎_elim (part.fresh g) (λ k. was_free g k.0 k.1) (comes.fresh g i);
-          leaves = leaves_then s.records now.records end.records node part.moved (at ∷ part.moved) part.own comes.groups_now (λ x i. inr i) comes.stay part.leaves
+          leaves = leaves_then s.records now.records end.records node part.moved (at ∷ part.moved) part.own comes.groups_now (λ x i. inr i)
+              comes.stay part.leaves
               comes.leaves;
           shape = comes.shape ∙ part.shape;
         })
 
     -- what stood first came there, or is none
-    pub part_known : (end : State) (turn : Turn) → ((came rest groups free : List ℕ) → IsSpreading now node at came (at ∷ rest) groups free → ComesIn now end node at came rest groups turn) → In turn.first came × In turn.before groups
+    pub part_known : (end : State) (turn : Turn) → ((came rest groups free : List ℕ) → IsSpreading now node at came (at ∷ rest) groups free → ComesIn now end
+        node at came rest groups turn) → In turn.first came × In turn.before groups
     part_known end turn move = part_first (λ rest spreading from into many.
         let comes = move part.moved rest part.own part.free spreading in (
           ⊎_elim (λ e. subst (λ z. In z came) (sym e) part.no_rel) (part.rels turn.first) comes.first,
@@ -431,7 +481,14 @@ spread_again records node groups xs ys there back h = record {
   counted = h.counted;
   typed = λ g i. let a = h.typed g i in (a.0, a.1, (there a.0 a.2.0, a.2.1));
   placed = λ x i. h.placed x (back x i);
-  sides = λ g i side. let a = h.sides g i side in record { members = a.members; list = a.list; are = λ x j. let b = a.are x j in (there x b.0, b.1); all = λ x j b. a.all x (back x j) b; count = a.count };
+  sides = λ g i side. let a = h.sides g i side in record {
+    members = a.members;
+    list = a.list;
+    are = λ x j. let b = a.are x j in (there x b.0, b.1);
+    all =
+        λ x j b. a.all x (back x j) b;
+    count = a.count;
+  };
 }
 
 -- none is left
@@ -458,7 +515,8 @@ kind_read : (file : ℕ) (s : State) (x kind : ℕ) → high s.records file ≤ 
     → ((r : Rec) → layout_by file r kind ≡ None → ⊥) → rows.IsReadable file s x
 kind_read file s x kind le is known = record {
   mark = le;
-  kind = λ low none. known (rec_at s.records file x) (ap (layout_by file (rec_at s.records file x)) (sym is ∙ kind_low (high s.records file) (rec_at s.records file x) x low) ∙ none);
+  kind = λ low none. known (rec_at s.records file x) (ap (layout_by file (rec_at s.records file x)) (sym is ∙ kind_low (high s.records file)
+      (rec_at s.records file x) x low) ∙ none);
 }
 
 pub sparse_read : (s : State) (node threshold : ℕ) (members free : List ℕ) → CanSpread s node members free → HasSpreadRoom s node threshold members
@@ -475,7 +533,8 @@ readable_after s l members same can = subst (λ (q : State). AreReadable q membe
 module _ (s now : State) (node at count threshold : ℕ) (members came groups : List ℕ) (there : at ≢ format.nil)
     (part : HasPart s now node at count members came groups) (room : HasSpreadRoom s node threshold members) where
   pub turn_sound : {P : Type 0} → LeavesBeside s.records now.records node
-      → ((came rest groups free : List ℕ) → IsSpreading now node at came (at ∷ rest) groups free → nodes.IsReadable now node → loading.IsReadable now at → (meta_of now format.groups_file).live ≢ room_of now.shape format.groups_file → P) → P
+      → ((came rest groups free : List ℕ) → IsSpreading now node at came (at ∷ rest) groups free → nodes.IsReadable now node → loading.IsReadable now at →
+      (meta_of now format.groups_file).live ≢ room_of now.shape format.groups_file → P) → P
   turn_sound {P} beside found = part_first s now node at count members came groups there part (λ rest spreading from into many.
       let size : (file : ℕ) → room_of now.shape file ≡ room_of s.shape file = λ file. ap (λ (q : Shape). room_of q file) part.shape in
       let node_high = beside_high s.records now.records node format.nodes_file beside (λ e. omega arith) in
@@ -486,7 +545,8 @@ module _ (s now : State) (node at count threshold : ℕ) (members came groups : 
       let rel_size = size format.relationships_file in
       found part.moved rest part.own part.free spreading
       (kind_read format.nodes_file now node format.dense (omega arith) spreading.spread.dense (λ r e. cc))
-      (kind_read format.relationships_file now at format.related (omega arith) (beside_kind s.records now.records node at beside ∙ room.known at (part.members_left at (from at (inl refl)))) (λ r e. cc))
+      (kind_read format.relationships_file now at format.related (omega arith) (beside_kind s.records now.records node at beside ∙ room.known at
+      (part.members_left at (from at (inl refl)))) (λ r e. cc))
       (λ full. let a = part.live in let b = room.room in let c = size format.groups_file in omega arith))
 
   -- none is left once as many came as the degree says

@@ -222,8 +222,10 @@ close_breaks s head n (inr o) file fault told = drop_breaks s n head.key.id o.ro
 pub no_group_breaks : (s : State) (n rel label : ℕ) (row : RelRow) → rel_at s.records rel ≡ Some row → IsEnd n row → row.label ≡ label
     → LacksGroupOn s.records n label → Breaks s.records s.shape (end_damage rel)
 no_group_breaks s n rel label row live end typed lacks =
-    RelEnds rel (kind_below (high s.records format.relationships_file) (rec_at s.records format.relationships_file rel) rel (some_row (kind_at s.records format.relationships_file rel) (rel_in (rec_at s.records format.relationships_file rel) rel) row live).0)
-    (λ keeps. ⊎_elim (λ (e : row.from ≡ n). none (subst (λ m. breaking.EndKeeps s.records m rel) e (keeps.from row live))) (λ (e : row.to ≡ n). none (subst (λ m. breaking.EndKeeps s.records m rel) e (keeps.to row live))) end)
+    RelEnds rel (kind_below (high s.records format.relationships_file) (rec_at s.records format.relationships_file rel) rel
+    (some_row (kind_at s.records format.relationships_file rel) (rel_in (rec_at s.records format.relationships_file rel) rel) row live).0)
+    (λ keeps. ⊎_elim (λ (e : row.from ≡ n). none (subst (λ m. breaking.EndKeeps s.records m rel) e (keeps.from row live))) (λ (e : row.to ≡ n). none
+    (subst (λ m. breaking.EndKeeps s.records m rel) e (keeps.to row live))) end)
   where
     none : breaking.EndKeeps s.records n rel → ⊥
     none keeps =
@@ -233,7 +235,8 @@ no_group_breaks s n rel label row live end typed lacks =
         by : (head : Head) → breaking.IsChainHead s.records head n → StandsAt (rel_at s.records) (group_at s.records) head rel → ⊥
         by head (inl o) stands = let a = o.sparse in let b = lacks.dense in omega arith
         by head (inr o) stands =
-            let row_is = (some_row (kind_at s.records format.groups_file o.own.row.id) (group_in (rec_at s.records format.groups_file o.own.row.id) o.own.row.id) o.own.row o.own.group).1 in
+            let row_is = (some_row (kind_at s.records format.groups_file o.own.row.id) (group_in (rec_at s.records format.groups_file o.own.row.id)
+            o.own.row.id) o.own.row o.own.group).1 in
             let live_row : stands.row ≡ row = same_rel s.records rel stands.row row stands.live live in
             let here = (on_group (kind_at s.records format.nodes_file) (group_at s.records) head n o.own stands.row stands.on).0 in
             lacks.lacks o.own.row.id (on_walk s.records n lacks.members lacks.list.walk o.own.row.id o.on)
@@ -269,7 +272,11 @@ pub find_only : (s z : State) (n rel label : ℕ) → SameButReads s z → IsDen
 find_only s z n rel label same dense Memory told = tt
 find_only s z n rel label same dense Disk told = tt
 find_only s z n rel label same dense (Damaged damage) told =
-    inl (subst (λ (q : State). Breaks q.records q.shape damage) same (find_breaks z n dense (Damaged damage) told), search_read s z n damage same (⊎_elim (λ k. BadNode damage k) (λ k. BadGroups damage dense k) told))
+    inl (
+      subst (λ (q : State). Breaks q.records q.shape damage) same (find_breaks z n dense (Damaged damage) told),
+      search_read s z n damage same
+          (⊎_elim (λ k. BadNode damage k) (λ k. BadGroups damage dense k) told),
+    )
 
 pub count_only : (s z : State) (n rel label g : ℕ) → SameButReads s z → (fault : Fault) → IsCountFault n g fault → IsBreakFault z fault
     → IsHeadFault s n rel label fault

@@ -111,21 +111,36 @@ module _ (s : Records) (n g label : ℕ) (side : Side) (row : RelRow) (member : 
   aside false true same leaves =
       let f = is_eq row.from n leaves in
       inl (refl, f ∙ sym member.owner, λ t. differ row.from row.to same (f ∙ sym member.owner ∙ sym t))
-  aside false false same leaves = inr (inl (refl, (λ f. differ row.from n leaves (f ∙ member.owner)), ⊎_elim (λ f. absurd (differ row.from n leaves f)) (λ t. t) at.end ∙ sym member.owner))
+  aside false false same leaves = inr (inl (
+    refl,
+    (λ f. differ row.from n leaves (f ∙ member.owner)),
+    ⊎_elim (λ f. absurd (differ row.from n leaves f)) (λ t. t)
+        at.end ∙ sym member.owner,
+  ))
 
   pub group_end : IsEndHead s (group_head g side) n row
   unfolding owner
   group_end = record {
-    owns = inr (record { dense = dense; row = group_in (rec_at s format.groups_file g) g; group = there; owner = member.owner; key = refl; field = place side });
+    owns = inr (record {
+      dense = dense;
+      row = group_in (rec_at s format.groups_file g) g;
+      group = there;
+      owner = member.owner;
+      key = refl;
+      field = place side;
+    });
     on = inr (
       refl,
       record {
         row = group_in (rec_at s format.groups_file g) g;
         group = there;
         label = at.typed ∙ sym typed;
-        side = subst (λ z. ((place_of z ≡ format.group_first_out) × (row.from ≡ field 4 (rec_at s format.groups_file g) format.group_owner) × (row.to ≢ field 4 (rec_at s format.groups_file g) format.group_owner))
-            ⊎ (((place_of z ≡ format.group_first_in) × (row.from ≢ field 4 (rec_at s format.groups_file g) format.group_owner) × (row.to ≡ field 4 (rec_at s format.groups_file g) format.group_owner))
-            ⊎ ((place_of z ≡ format.group_first_loop) × (row.from ≡ field 4 (rec_at s format.groups_file g) format.group_owner) × (row.to ≡ field 4 (rec_at s format.groups_file g) format.group_owner)))) (sym at.aside)
+        side = subst (λ z. ((place_of z ≡ format.group_first_out) × (row.from ≡ field 4 (rec_at s format.groups_file g) format.group_owner) ×
+            (row.to ≢ field 4 (rec_at s format.groups_file g) format.group_owner))
+            ⊎ (((place_of z ≡ format.group_first_in) × (row.from ≢ field 4 (rec_at s format.groups_file g) format.group_owner) ×
+            (row.to ≡ field 4 (rec_at s format.groups_file g) format.group_owner))
+            ⊎ ((place_of z ≡ format.group_first_loop) × (row.from ≡ field 4 (rec_at s format.groups_file g) format.group_owner) ×
+            (row.to ≡ field 4 (rec_at s format.groups_file g) format.group_owner)))) (sym at.aside)
             (aside (nat_eq row.from row.to) (nat_eq row.from n) refl refl);
       },
     );
@@ -141,7 +156,8 @@ module _ (s : Records) (shape : Shape) {most : ℕ} {empty : List ℕ} (well : K
       → IsAt n label side row → IsEndHead s (group_head g side) n row
   at_group g label side row member typed at = group_end s n g label side row member typed at
       (subst (λ m. kind_at s format.nodes_file m ≡ format.dense) member.owner
-      (well.grouped.owned g (group_in (rec_at s format.groups_file g) g) (row_some (kind_at s format.groups_file g) (group_in (rec_at s format.groups_file g) g) (group_used (kind_at s format.groups_file g) member.kind))))
+      (well.grouped.owned g (group_in (rec_at s format.groups_file g) g) (row_some (kind_at s format.groups_file g) (group_in (rec_at s format.groups_file g) g)
+      (group_used (kind_at s format.groups_file g) member.kind))))
 
   -- the chain of a dense node's groups
   pub chain_of : IsDense s n → List ℕ

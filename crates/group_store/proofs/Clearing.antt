@@ -39,7 +39,17 @@ use Rattle.group_store.proofs.Regrouping.{IsFrame, others_stay, regroups_of}
 -- ---- the rules, in the words of what is left
 
 pub others_of : (records : Records) (shape : Shape) (most : ℕ) (empty : List ℕ) → KeepsRules records shape most empty → KeepsOthers records shape most
-others_of records shape most empty keeps = record { ranges = keeps.ranges; split = keeps.split; kept = keeps.kept; properties = keeps.properties; named = keeps.named; defined = keeps.defined; names = keeps.names; degrees = keeps.degrees }
+others_of records shape most empty keeps = record {
+  ranges = keeps.ranges;
+  split = keeps.split;
+  kept = keeps.kept;
+  properties = keeps.properties;
+  named =
+      keeps.named;
+  defined = keeps.defined;
+  names = keeps.names;
+  degrees = keeps.degrees;
+}
 
 -- ---- the record of the node
 
@@ -145,10 +155,15 @@ module _ (s : State) (node most : ℕ) (empty : List ℕ) (keeps : KeepsRules s.
   frame = record {
     others = λ key a b c d. put_other_file s.records (node_key node) (clear_of old) key a;
     nodes = λ x n at inside one apart. ⊎_elim
-        (λ (e : x ≡ node). subst (λ z. field n (rec_at t.records format.nodes_file z) at ≡ field n (rec_at s.records format.nodes_file z) at) (sym e) (ap (λ r. field n r at) here ∙ clear_other old n at inside one apart))
+        (λ (e : x ≡ node). subst (λ z. field n (rec_at t.records format.nodes_file z) at ≡ field n (rec_at s.records format.nodes_file z) at) (sym e)
+        (ap (λ r. field n r at) here ∙ clear_other old n at inside one apart))
         (λ (ne : x ≢ node). ap (λ r. field n r at) (other x ne)) (nat_cases x node);
     kinds = λ x ne. ap (λ r. kind_in (high s.records format.nodes_file) r x) (other x ne);
-    here = inr (sparse, kind_low (high s.records format.nodes_file) (rec_at t.records format.nodes_file node) node low ∙ ap (λ r. field 1 r format.kind) here ∙ clear_kind old);
+    here = inr (
+      sparse,
+      kind_low (high s.records format.nodes_file) (rec_at t.records format.nodes_file node) node low ∙ ap (λ r. field 1 r format.kind) here
+          ∙ clear_kind old,
+    );
     rels = λ x n at inside apart. refl;
   }
 
@@ -178,7 +193,8 @@ module _ (s : State) (node most : ℕ) (empty : List ℕ) (keeps : KeepsRules s.
           all = λ g row is owner. absurd (no_group g row is owner);
           once = λ g k i j same. elim i [ ];
         }))
-        (λ (ne : n ≢ node). subst (λ f. HasGroups f n (rec_at s.records format.groups_file) groups empty) (sym (first_same n ne)) (keeps.grouped.each n (dense_was n ne d))) (nat_cases n node);
+        (λ (ne : n ≢ node). subst (λ f. HasGroups f n (rec_at s.records format.groups_file) groups empty) (sym (first_same n ne))
+        (keeps.grouped.each n (dense_was n ne d))) (nat_cases n node);
   }
 
   -- what is left
@@ -201,7 +217,14 @@ module _ (s : State) (node most : ℕ) (empty : List ℕ) (keeps : KeepsRules s.
 
       was : Owns (kind_at t.records format.nodes_file) groups h n → Owns kind groups h n
       was (inl o) = inl (record { sparse = re.sparse_was s.records t.records node frame n o.sparse; is = o.is })
-      was (inr o) = inr (record { dense = ap kind (sym o.owner) ∙ keeps.grouped.owned o.row.id o.row o.group; row = o.row; group = o.group; owner = o.owner; key = o.key; field = o.field })
+      was (inr o) = inr (record {
+        dense = ap kind (sym o.owner) ∙ keeps.grouped.owned o.row.id o.row o.group;
+        row = o.row;
+        group = o.group;
+        owner = o.owner;
+        key = o.key;
+        field = o.field;
+      })
 
       first_is : Owns (kind_at t.records format.nodes_file) groups h n → first_of t.records h ≡ first_of s.records h
       first_is (inl o) = ap (first_of t.records) o.is ∙ first_same n (not_node o.sparse) ∙ sym (ap (first_of s.records) o.is)
@@ -209,7 +232,11 @@ module _ (s : State) (node most : ℕ) (empty : List ℕ) (keeps : KeepsRules s.
 
   linked : IsLinkedBut t.records (kind_at t.records format.nodes_file) rels groups node rest
   linked = record {
-    ends = λ x q e. let k = keeps.linked.ends x q e in record { from = re.used_same s.records t.records node frame q.from k.from; to = re.used_same s.records t.records node frame q.to k.to };
+    ends = λ x q e. let k = keeps.linked.ends x q e in record {
+      from = re.used_same s.records t.records node frame q.from k.from;
+      to = re.used_same s.records
+          t.records node frame q.to k.to;
+    };
     typed = λ x n q e end d left. ⊎_elim
         (λ (m : n ≡ node). absurd (left m (at_node x q e (subst (λ z. IsEnd z q) m end))))
         (λ (ne : n ≢ node). keeps.linked.typed x n q e end (dense_was n ne d)) (nat_cases n node);
@@ -221,8 +248,10 @@ module _ (s : State) (node most : ℕ) (empty : List ℕ) (keeps : KeepsRules s.
   spread_cleared = record {
     keeps = record {
       others = others_stay s.records t.records node frame s.shape most (others_of s.records s.shape most empty keeps)
-          (range_put s.records s.shape format.nodes_file node (clear_of old) refl (λ lt. clear_fits (high s.records) old (sym (kind_low (high s.records format.nodes_file) old node low) ∙ sparse) (keeps.ranges.fit format.nodes_file node refl lt)) keeps.ranges)
-          (keeps.split format.groups_file refl).0 (split_same s.records t.records format.groups_file (keeps.split format.groups_file refl).0 (record { meta = refl; each = λ y. refl }) (keeps.split format.groups_file refl).1);
+          (range_put s.records s.shape format.nodes_file node (clear_of old) refl (λ lt. clear_fits (high s.records) old
+          (sym (kind_low (high s.records format.nodes_file) old node low) ∙ sparse) (keeps.ranges.fit format.nodes_file node refl lt)) keeps.ranges)
+          (keeps.split format.groups_file refl).0 (split_same s.records t.records format.groups_file (keeps.split format.groups_file refl).0
+          (record { meta = refl; each = λ y. refl }) (keeps.split format.groups_file refl).1);
       linked = linked;
       grouped = grouped;
     };
@@ -257,7 +286,9 @@ module _ (s : State) (node most : ℕ) (empty : List ℕ) (keeps : KeepsRules s.
   unfolding rest
   few_left = subst (λ d. length node_list.members ≤ d) (sym (keeps.degrees.each node (λ e. let k = sym e ∙ sparse in omega arith)))
       (length_once node_list.members (ids (λ x. stands_in node (rels x)) (high s.records format.relationships_file))
-      (once_walk (next_of s.records node) (first_link s.records node) node_list.members (walk_of_chain _ _ format.nil (first_link s.records node) node_list.members node_list.chain))
+      (once_walk (next_of s.records node) (first_link s.records node) node_list.members (walk_of_chain _ _ format.nil (first_link s.records node)
+      node_list.members node_list.chain))
       (λ x i. let e = spread_cleared.ends x i in in_ids (λ y. stands_in node (rels y)) (high s.records format.relationships_file) x
-      (kind_below (high s.records format.relationships_file) (rec_at s.records format.relationships_file x) x (some_row (kind_at s.records format.relationships_file x) (rel_in (rec_at s.records format.relationships_file x) x) e.0 e.1).0)
+      (kind_below (high s.records format.relationships_file) (rec_at s.records format.relationships_file x) x
+      (some_row (kind_at s.records format.relationships_file x) (rel_in (rec_at s.records format.relationships_file x) x) e.0 e.1).0)
       (ap (stands_in node) e.1 ∙ stands_true node e.0 e.2)))

@@ -21,7 +21,8 @@ head_at file id place = record { key = record { file = file; id = id }; field = 
 module _ (s : State) (file id place node most : ℕ) (empty : List ℕ) (is : file ≡ format.groups_file) (can : CanClose s (head_at file id place) node most empty)
   where
     in_group : GroupHead (kind_at s.records format.nodes_file) (group_at s.records) (head_at file id place) node
-    in_group = ⊎_elim (λ (k : SparseHead (kind_at s.records format.nodes_file) (head_at file id place) node). absurd (let f = ap (λ (h : Head). h.key.file) k.is in omega arith)) (λ k. k) can.owns
+    in_group = ⊎_elim (λ (k : SparseHead (kind_at s.records format.nodes_file) (head_at file id place) node). absurd (let f = ap (λ (h : Head). h.key.file)
+        k.is in omega arith)) (λ k. k) can.owns
 
     keeps : KeepsRules s.records s.shape most (id ∷ empty)
     keeps = subst (λ (gs : List ℕ). KeepsRules s.records s.shape most (gs ++ empty)) (ap (λ f. cond (nat_eq f format.groups_file) (id ∷ []) []) is) can.keeps
@@ -32,21 +33,30 @@ module _ (s : State) (file id place node most : ℕ) (empty : List ℕ) (is : fi
 
     pub closable : (xs : List ℕ) × IsOnChain s node id xs
     closable =
-        let chain = is_chain s.records s.shape keeps node in_group.dense in
-        (chain_of s.records s.shape keeps node in_group.dense, record { chain = chain; member = chain.all id member; mark = (keeps.ranges.metas format.groups_file refl).high })
+        let chain = is_chain s.records s.shape keeps node in_group.dense in (
+          chain_of s.records s.shape keeps node in_group.dense,
+          record {
+            chain = chain;
+            member = chain.all id member;
+            mark =
+                (keeps.ranges.metas format.groups_file refl).high;
+          },
+        )
 
     pub closed_by : (t : State) (dropped_is : Bool) → dropped_is ≡ not (is_filled (rec_at s.records format.groups_file id))
         → (dropped_is ≡ false → SameButReads s t) → (dropped_is ≡ true → t ≡ dropped s node id)
         → t.shape ≡ s.shape → HasClosed s t node most empty
     closed_by t true told kept made shape =
-        let r = dropped_rules s node id most empty keeps member (is_false (is_filled (rec_at s.records format.groups_file id)) (sym told)) t (made refl) shape in
+        let r = dropped_rules s node id most empty keeps member (is_false (is_filled (rec_at s.records format.groups_file id)) (sym told)) t (made refl)
+        shape in
         record { keeps = r.0; regroups = r.1; group_kinds = r.3; kind = r.2 }
       where
         is_false : (b : Bool) → not b ≡ true → b ≡ false
         is_false true e = cc
         is_false false e = refl
     closed_by t false told kept made shape = record {
-      keeps = keeps_read s t (kept refl) most empty (is_not s.records s.shape most id empty (is_true (is_filled (rec_at s.records format.groups_file id)) (sym told)) keeps);
+      keeps = keeps_read s t (kept refl) most empty (is_not s.records s.shape most id empty (is_true (is_filled (rec_at s.records format.groups_file id))
+          (sym told)) keeps);
       regroups = regroups_read s t (kept refl) node;
       kind = ap (λ (z : State). kind_at z.records format.nodes_file node) (kept refl);
       group_kinds = λ g group is ne. ap (λ (z : State). kind_at z.records format.groups_file g) (kept refl);

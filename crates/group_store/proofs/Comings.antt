@@ -64,7 +64,9 @@ module _ (node : ℕ) (came groups : List ℕ) where
 -- nothing came
 pub come_none : (s l t : State) (node : ℕ) (came groups : List ℕ) → SameButReads s l → WritesOnly l t (node_key node ∷ []) → WritesCome s t node came groups
 come_none s l t node came groups same w = record {
-  only = record { each = λ q k. ⊎_elim (λ old. inl (subst (λ (z : State). z.written q ≡ true) same old)) (λ i. inr (⊎_elim inl (λ j. absurd j) i)) (w.each q k) };
+  only = record {
+    each = λ q k. ⊎_elim (λ old. inl (subst (λ (z : State). z.written q ≡ true) same old)) (λ i. inr (⊎_elim inl (λ j. absurd j) i)) (w.each q k);
+  };
 }
 
 -- one more came
@@ -75,7 +77,8 @@ come_next s now end node rel turn came groups xs ys was w known xs_is ys_is =
     subst (λ zs. WritesCome s end node zs ys) (sym xs_is) (subst (λ zs. WritesCome s end node (came ++ rel ∷ []) zs) (sym ys_is) (record {
       only = record {
         each = λ q k. ⊎_elim (λ old. ⊎_elim inl (λ i. inr (is_more node came groups rel turn.group q i)) (was.only.each q old))
-            (λ i. inr (is_turn node (came ++ rel ∷ []) (groups ++ turn.group ∷ []) rel turn (in_last rel came) (in_before turn.first rel came known.0) (in_last turn.group groups) (in_before turn.before turn.group groups known.1) q i)) (w.each q k);
+            (λ i. inr (is_turn node (came ++ rel ∷ []) (groups ++ turn.group ∷ []) rel turn (in_last rel came) (in_before turn.first rel came known.0)
+            (in_last turn.group groups) (in_before turn.before turn.group groups known.1) q i)) (w.each q k);
       };
     }))
 

@@ -53,7 +53,8 @@ sparse_undamaged s node count most empty is can (Damaged damage) told = no_spars
 -- a relationship that can't be read
 pub unread : (s l : State) (node rel : ℕ) → SameButReads s l → (fault : RowFault) → rels.IsRelFault s rel fault → IsMoveFault s l node rel (of_row fault)
 unread s l node rel same rows.Disk told = tt
-unread s l node rel same (rows.Damaged damage) told = inl (inl (subst (λ (q : State). Breaks q.records q.shape damage) (sym same) (rel_breaks s rel damage told)))
+unread s l node rel same (rows.Damaged damage) told = inl (inl (subst (λ (q : State). Breaks q.records q.shape damage) (sym same)
+    (rel_breaks s rel damage told)))
 
 -- no group for it
 pub no_own : (s l m : State) (node rel : ℕ) (fault : Fault) → IsOpenFault l fault → IfSome (damage_of fault) (λ _. SameButReads l m)

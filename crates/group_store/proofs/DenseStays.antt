@@ -64,8 +64,10 @@ module _ (u : State) (node first id : ℕ) (rec : Rec) where
       let t = after_put u (group_key id) rec in
       field-set_other (backed t first id).records (record { key = node_key node; field = format.node_first_link }) id (node_key node) 1 format.kind
       (omega arith) (λ _. inl (omega arith))
-      ∙ ap (λ r. field 1 r format.kind) (on_test (λ (q : State). q.records (node_key node) ≡ u.records (node_key node)) first format.nil t (after_set t (group_key first) 4 format.group_previous id) (λ _. put_node)
-      (λ _. put_other t.records (group_key first) (with_field 4 (t.records (group_key first)) format.group_previous id) (node_key node) (no_group first) ∙ put_node))
+      ∙ ap (λ r. field 1 r format.kind) (on_test (λ (q : State). q.records (node_key node) ≡ u.records (node_key node)) first format.nil t
+      (after_set t (group_key first) 4 format.group_previous id) (λ _. put_node)
+      (λ _. put_other t.records (group_key first) (with_field 4 (t.records (group_key first)) format.group_previous id) (node_key node) (no_group first)
+      ∙ put_node))
 
 -- a dense node gets a group
 pub dense_made : (s : State) (node label : ℕ) → IsDense s.records node → IsDense (made s node label).records node
@@ -77,9 +79,11 @@ dense_made s node label dense =
     let u = taken (after_get s) format.groups_file in
     let meta = meta_key_of format.nodes_file in
     dense_by s.records (led u node first id rec).records node
-    (ap (λ r. (metas.meta_of r).high) (led_stays u node first id rec meta (λ e. let f = ap (λ (k : Key). k.file) e in absurd (omega arith)) (λ e. let f = ap (λ (k : Key). k.file) e in absurd (omega arith)) (λ e. let f = ap (λ (k : Key). k.file) e in absurd (omega arith))
+    (ap (λ r. (metas.meta_of r).high) (led_stays u node first id rec meta (λ e. let f = ap (λ (k : Key). k.file) e in absurd (omega arith))
+    (λ e. let f = ap (λ (k : Key). k.file) e in absurd (omega arith)) (λ e. let f = ap (λ (k : Key). k.file) e in absurd (omega arith))
     ∙ taken_other (after_get s) meta (λ e. let f = ap (λ (k : Key). k.id) e in absurd (omega arith))))
-    (led_kind u node first id rec ∙ ap (λ r. field 1 r format.kind) (taken_other (after_get s) (node_key node) (λ e. let f = ap (λ (k : Key). k.file) e in absurd (omega arith)))) dense
+    (led_kind u node first id rec ∙ ap (λ r. field 1 r format.kind) (taken_other (after_get s) (node_key node) (λ e. let f = ap (λ (k : Key). k.file)
+    e in absurd (omega arith)))) dense
 
 -- ---- a relationship that comes into a group
 

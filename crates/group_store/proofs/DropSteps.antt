@@ -85,7 +85,8 @@ pub dropped_has : (s now b f end : State) (node before after g : ℕ) (free xs :
     → CanDrop s node g free xs → HasDropped s.records end.records node g free xs
 dropped_has s now b f end node before after g free xs read back is before_is after_is gives can =
     let f_is = linked_is s now b f node before after g read back is before_is after_is in
-    has_dropped s end node g free xs can (subst (λ (t : State). CanGive t format.groups_file g free → HasGiven t.records end.records format.groups_file g free) f_is gives)
+    has_dropped s end node g free xs can (subst (λ (t : State). CanGive t format.groups_file g free → HasGiven t.records end.records format.groups_file g free)
+    f_is gives)
 
 -- ---- a chain that is right
 

@@ -46,7 +46,8 @@ behind_loose s t node g before after (Damaged damage) read b a told = (
   told.0,
   λ linked.
       told.1.1 (subst (λ (z : State). IsBehind z.records g before after) (sym read)
-      (subst (λ x. IsBehind s.records g x after) (sym b) (subst (λ x. IsBehind s.records g (previous_group s.records g) x) (sym a) (linked.behind (λ none. told.1.0 (a ∙ none)))))),
+      (subst (λ x. IsBehind s.records g x after) (sym b) (subst (λ x. IsBehind s.records g (previous_group s.records g) x) (sym a)
+      (linked.behind (λ none. told.1.0 (a ∙ none)))))),
 )
 
 pub lead_loose : (s t : State) (node g before : ℕ) (fault : Fault) → t.records ≡ s.records → before ≡ previous_group s.records g
@@ -87,20 +88,23 @@ same_three s t u v after first then last = same_then s u v (same_then s t u (sam
 pub lead_writes : (s now b f : State) (after lead group meta : Key) → SameButReads s now → WritesOnly now b (after ∷ []) → WritesOnly b f (lead ∷ [])
     → WritesOnly s f (after ∷ lead ∷ group ∷ meta ∷ [])
 lead_writes s now b f after lead group meta same one two =
-    writes_then s f f (after ∷ lead ∷ []) (group ∷ meta ∷ []) (writes_then s b f (after ∷ []) (lead ∷ []) (writes_then s now b [] (after ∷ []) (same_writes s now [] same) one) two) (same_writes f f _ refl)
+    writes_then s f f (after ∷ lead ∷ []) (group ∷ meta ∷ []) (writes_then s b f (after ∷ []) (lead ∷ []) (writes_then s now b [] (after ∷ [])
+    (same_writes s now [] same) one) two) (same_writes f f _ refl)
 
 pub all_writes : (s now b f end : State) (after lead group meta : Key) → SameButReads s now → WritesOnly now b (after ∷ []) → WritesOnly b f (lead ∷ [])
     → WritesOnly f end (group ∷ meta ∷ [])
     → WritesOnly s end (after ∷ lead ∷ group ∷ meta ∷ [])
 all_writes s now b f end after lead group meta same one two three =
-    writes_then s f end (after ∷ lead ∷ []) (group ∷ meta ∷ []) (writes_then s b f (after ∷ []) (lead ∷ []) (writes_then s now b [] (after ∷ []) (same_writes s now [] same) one) two) three
+    writes_then s f end (after ∷ lead ∷ []) (group ∷ meta ∷ []) (writes_then s b f (after ∷ []) (lead ∷ []) (writes_then s now b [] (after ∷ [])
+    (same_writes s now [] same) one) two) three
 
 -- ---- the state
 back_is : (t : State) (x to : ℕ) (r : Rec) → (x ≢ format.nil → r ≡ t.records (group_key x)) → put_back (after_get (seen t x)) x to r ≡ after_get (backed t x to)
 unfolding put_back seen backed
 back_is t x to r got = ⊎_elim
     (λ (e : (x ≡ format.nil) × (nat_eq x format.nil ≡ true)). rw e.1 refl)
-    (λ (e : (x ≢ format.nil) × (nat_eq x format.nil ≡ false)). rw e.1 (ap (λ q. after_put (after_get (after_get t)) (group_key x) (with_field 4 q format.group_previous to)) (got e.0)))
+    (λ (e : (x ≢ format.nil) × (nat_eq x format.nil ≡ false)). rw e.1 (ap (λ q. after_put (after_get (after_get t)) (group_key x)
+    (with_field 4 q format.group_previous to)) (got e.0)))
     (eq_cases x format.nil)
 
 led_is : (t : State) (node before after : ℕ) (r : Rec) → (before ≡ format.nil → r ≡ t.records (node_key node))
@@ -108,8 +112,10 @@ led_is : (t : State) (node before after : ℕ) (r : Rec) → (before ≡ format.
     → put_led (after_get t) node before after r ≡ follows t node before after
 unfolding put_led follows
 led_is t node before after r none some = ⊎_elim
-    (λ (e : (before ≡ format.nil) × (nat_eq before format.nil ≡ true)). rw e.1 (ap (λ q. after_put (after_get t) (node_key node) (with_field 4 q format.node_first_link after)) (none e.0)))
-    (λ (e : (before ≢ format.nil) × (nat_eq before format.nil ≡ false)). rw e.1 (ap (λ q. after_put (after_get t) (group_key before) (with_field 4 q format.group_next after)) (some e.0)))
+    (λ (e : (before ≡ format.nil) × (nat_eq before format.nil ≡ true)). rw e.1 (ap (λ q. after_put (after_get t) (node_key node)
+    (with_field 4 q format.node_first_link after)) (none e.0)))
+    (λ (e : (before ≢ format.nil) × (nat_eq before format.nil ≡ false)). rw e.1 (ap (λ q. after_put (after_get t) (group_key before)
+    (with_field 4 q format.group_next after)) (some e.0)))
     (eq_cases before format.nil)
 
 backed_other : (t : State) (x to : ℕ) (key : Key) → (x ≢ format.nil → key ≢ group_key x) → (backed t x to).records key ≡ t.records key
@@ -133,7 +139,8 @@ follows_is s1 s2 s3 s4 s5 node g before after behind lead two three four five go
     five ∙ ap (λ (z : State). put_led z node before after lead) e4
     ∙ led_is (backed s1 after before) node before after lead
     (λ none. got_node none ∙ ap (λ (r : Records). r (node_key node)) same ∙ sym (backed_other s1 after before (node_key node) (λ _. no_node node after)))
-    (λ some. got_before some ∙ ap (λ (r : Records). r (group_key before)) same ∙ sym (backed_other s1 after before (group_key before) (λ there e. (tested there).apart (sym (ap (λ (k : Key). k.id) e)))))
+    (λ some. got_before some ∙ ap (λ (r : Records). r (group_key before)) same ∙ sym (backed_other s1 after before (group_key before)
+    (λ there e. (tested there).apart (sym (ap (λ (k : Key). k.id) e)))))
 
 pub linked_is : (s s1 s2 : State) (node g before after : ℕ) → s1 ≡ after_get s → s2 ≡ seen s1 after → before ≡ previous_group s.records g
     → after ≡ next_group s.records g

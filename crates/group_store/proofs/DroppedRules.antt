@@ -95,7 +95,13 @@ module _ (s : State) (node g most : ℕ) (empty : List ℕ) (well : KeepsRules s
   split = (well.split format.groups_file refl).1
 
   can : CanDrop s node g free xs
-  can = record { chain = chain; member = chain.all g member; list = split.walk; unused = λ x i. not_live (kind_at s.records format.groups_file x) (split.only x i) }
+  can = record {
+    chain = chain;
+    member = chain.all g member;
+    list = split.walk;
+    unused = λ x i. not_live (kind_at s.records format.groups_file x)
+        (split.only x i);
+  }
 
   small : g < format.most_ids
   small = let a = group_below s.records node g member in let b = (well.ranges.metas format.groups_file refl).high in let c =
@@ -154,14 +160,17 @@ module _ (s : State) (node g most : ℕ) (empty : List ℕ) (well : KeepsRules s
   unfolding b backed after before
   b_kind x = on_test (λ (z : State). kind_at z.records format.groups_file x ≡ kind_at s.records format.groups_file x) after format.nil (after_get s)
       (link_set (after_get s) after format.group_previous before) (λ _. refl)
-      (λ _. kind_by (high s.records format.groups_file) (rec_at (set_at s.records (steps.number_at format.groups_file after format.group_previous) before) format.groups_file x) (rec_at s.records format.groups_file x) x
-      (field-set_other s.records (steps.number_at format.groups_file after format.group_previous) before (key_in format.groups_file x) 1 format.kind (omega arith) (λ _. inl (omega arith))))
+      (λ _. kind_by (high s.records format.groups_file) (rec_at (set_at s.records (steps.number_at format.groups_file after format.group_previous) before)
+      format.groups_file x) (rec_at s.records format.groups_file x) x
+      (field-set_other s.records (steps.number_at format.groups_file after format.group_previous) before (key_in format.groups_file x) 1 format.kind
+      (omega arith) (λ _. inl (omega arith))))
 
   b_mark : (f : ℕ) → high b.records f ≡ high s.records f
   unfolding b backed after before
   b_mark f = on_test (λ (z : State). high z.records f ≡ high s.records f) after format.nil (after_get s)
       (link_set (after_get s) after format.group_previous before) (λ _. refl)
-      (λ _. ap (λ r. (metas.meta_of r).high) (put_other s.records (group_key after) (with_field 4 (s.records (group_key after)) format.group_previous before) (meta_key_of f) (λ e. let k = ap (λ (q : Key). q.file) e in omega arith)))
+      (λ _. ap (λ r. (metas.meta_of r).high) (put_other s.records (group_key after) (with_field 4 (s.records (group_key after)) format.group_previous before)
+      (meta_key_of f) (λ e. let k = ap (λ (q : Key). q.file) e in omega arith)))
 
   b_dense : kind_at b.records format.nodes_file node ≡ format.dense
   b_dense = fr.dense_same s.records b.records node backs.frame node dense
@@ -175,16 +184,22 @@ module _ (s : State) (node g most : ℕ) (empty : List ℕ) (well : KeepsRules s
   links = on_test (λ (z : State). HasStepped s.records z.records s.shape node) before format.nil (after_set b (node_key node) 4 format.node_first_link after)
       (link_set b before format.group_next after)
       (λ _. steps.step_first s.records b.records s.shape node backs after b_dense (subst (λ m. IsLow m after) (sym (b_mark format.groups_file)) after_low))
-      (λ some. steps.step_next s.records b.records s.shape node backs before after (ap is_group_kind (b_kind before) ∙ before_kind some) (subst (λ m. IsLow m after) (sym (b_mark format.groups_file)) after_low))
+      (λ some. steps.step_next s.records b.records s.shape node backs before after (ap is_group_kind (b_kind before) ∙ before_kind some)
+      (subst (λ m. IsLow m after) (sym (b_mark format.groups_file)) after_low))
 
   kind_u : is_group_kind (kind_at u.records format.groups_file g) ≡ true
   unfolding u b before after d.linked
-  kind_u = ap is_group_kind (kind_by (high u.records format.groups_file) (rec_at u.records format.groups_file g) (rec_at s.records format.groups_file g) g (d.group_stays s node before after g 1 format.kind (omega arith) (λ _. inl (omega arith)) (λ _. inl (omega arith)))
+  kind_u = ap is_group_kind (kind_by (high u.records format.groups_file) (rec_at u.records format.groups_file g) (rec_at s.records format.groups_file g) g
+      (d.group_stays s node before after g 1 format.kind (omega arith) (λ _. inl (omega arith)) (λ _. inl (omega arith)))
       ∙ ap (λ r. kind_in ((metas.meta_of r).high) (rec_at s.records format.groups_file g) g) (d.meta_stays s node before after)) ∙ member.kind
 
   given_has : HasGiven u.records t.records format.groups_file g links.free
   unfolding u b before after t dropped d.linked
-  given_has = has_given u format.groups_file g links.free refl small (record { list = links.split.walk; fresh = not_free_id u.records format.groups_file g links.free links.split (group_used (kind_at u.records format.groups_file g) kind_u) })
+  given_has = has_given u format.groups_file g links.free refl small (record {
+    list = links.split.walk;
+    fresh = not_free_id u.records format.groups_file g
+        links.free links.split (group_used (kind_at u.records format.groups_file g) kind_u);
+  })
 
   lost : IsGone u.records t.records s.shape format.groups_file g
   lost = is_gone u.records t.records s.shape format.groups_file g links.free refl links.split (group_used (kind_at u.records format.groups_file g) kind_u)
@@ -193,14 +208,17 @@ module _ (s : State) (node g most : ℕ) (empty : List ℕ) (well : KeepsRules s
   lost_frame : IsFrame u.records t.records node
   lost_frame = record {
     others = λ key a b c e. lost.change.others key e (λ k. c (ap (λ (q : Key). q.file) k));
-    nodes = λ x n at inside one aside. ap (λ r. field n r at) (ch.other_record u.records t.records format.groups_file g lost.change format.nodes_file x refl (λ k. absurd (let z : 1 ≡ 3 = k in omega arith)));
+    nodes = λ x n at inside one aside. ap (λ r. field n r at) (ch.other_record u.records t.records format.groups_file g lost.change format.nodes_file x refl
+        (λ k. absurd (let z : 1 ≡ 3 = k in omega arith)));
     kinds = λ x ne. node_kind x;
     here = inl (node_kind node);
-    rels = λ x n at inside aside. ap (λ r. field n r at) (ch.other_record u.records t.records format.groups_file g lost.change format.relationships_file x refl (λ k. absurd (let z : 2 ≡ 3 = k in omega arith)));
+    rels = λ x n at inside aside. ap (λ r. field n r at) (ch.other_record u.records t.records format.groups_file g lost.change format.relationships_file x refl
+        (λ k. absurd (let z : 2 ≡ 3 = k in omega arith)));
   }
     where
       node_kind : (x : ℕ) → kind_at t.records format.nodes_file x ≡ kind_at u.records format.nodes_file x
-      node_kind = kind_same u.records t.records format.nodes_file (ch.same_file u.records t.records format.groups_file g lost.change format.nodes_file refl (λ e. omega arith))
+      node_kind = kind_same u.records t.records format.nodes_file (ch.same_file u.records t.records format.groups_file g lost.change format.nodes_file refl
+          (λ e. omega arith))
 
   stepped : HasStepped s.records t.records s.shape node
   stepped = record {
@@ -238,7 +256,8 @@ module _ (s : State) (node g most : ℕ) (empty : List ℕ) (well : KeepsRules s
       (λ e. let f = ap (λ (k : Key). k.file) e in absurd (omega arith)) (λ e. let f = ap (λ (k : Key). k.file) e in absurd (omega arith))
 
   first_stays : (n : ℕ) → n ≢ node → first_link t.records n ≡ first_link s.records n
-  first_stays n ne = ap (λ r. field 4 r format.node_first_link) (apart_file (key_in format.nodes_file n) (λ e. let z : 1 ≡ 3 = e in omega arith) (λ e. let f = ap (λ (k : Key). k.file) e in absurd (omega arith)) (λ e. ne (ap (λ (k : Key). k.id) e)))
+  first_stays n ne = ap (λ r. field 4 r format.node_first_link) (apart_file (key_in format.nodes_file n) (λ e. let z : 1 ≡ 3 = e in omega arith)
+      (λ e. let f = ap (λ (k : Key). k.file) e in absurd (omega arith)) (λ e. ne (ap (λ (k : Key). k.id) e)))
 
   -- ---- the third rule
   abbrev rels : ℕ → Option RelRow
@@ -249,7 +268,16 @@ module _ (s : State) (node g most : ℕ) (empty : List ℕ) (well : KeepsRules s
   stands_again groups now h x same a = record {
     row = a.row;
     live = a.live;
-    on = ⊎_elim (λ k. inl k) (λ (k : (h.key.file ≡ format.groups_file) × IsInGroup groups h a.row). inr (k.0, record { row = k.1.row; group = same k.0 ∙ k.1.group; label = k.1.label; side = k.1.side })) a.on;
+    on = ⊎_elim (λ k. inl k) (λ (k : (h.key.file ≡ format.groups_file) × IsInGroup groups h a.row). inr (
+      k.0,
+      record {
+        row = k.1.row;
+        group = same k.0
+            ∙ k.1.group;
+        label = k.1.label;
+        side = k.1.side;
+      },
+    )) a.on;
   }
 
   listed_old : (h : Head) (n : ℕ) → Owns (kind_at s.records format.nodes_file) (group_at s.records) h n → first_of t.records h ≡ first_of s.records h
@@ -269,8 +297,17 @@ module _ (s : State) (node g most : ℕ) (empty : List ℕ) (well : KeepsRules s
       (λ f. let k = ap (λ (z : Head). z.key.file) o.is in absurd (omega arith))
   listed h n (inr o) =
       let ne = not_g o.row.id o.row o.group in
-      listed_old h n (inr (record { dense = fr.dense_was s.records t.records node stepped.frame dense n o.dense; row = o.row; group = sym (group_stays_at o.row.id ne) ∙ o.group; owner = o.owner; key = o.key; field = o.field }))
-      (ap (λ (k : Key). field 4 (t.records k) h.field) o.key ∙ first_same o.row.id h.field ne o.field ∙ ap (λ (k : Key). field 4 (s.records k) h.field) (sym o.key)) (λ _ e. ne (sym (ap (λ (k : Key). k.id) o.key) ∙ e))
+      listed_old h n (inr (record {
+        dense = fr.dense_was s.records t.records node stepped.frame dense n o.dense;
+        row = o.row;
+        group = sym
+            (group_stays_at o.row.id ne) ∙ o.group;
+        owner = o.owner;
+        key = o.key;
+        field = o.field;
+      }))
+      (ap (λ (k : Key). field 4 (t.records k) h.field) o.key ∙ first_same o.row.id h.field ne o.field ∙ ap (λ (k : Key). field 4 (s.records k) h.field)
+      (sym o.key)) (λ _ e. ne (sym (ap (λ (k : Key). k.id) o.key) ∙ e))
     where
       first_same : (k at : ℕ) → k ≢ g → IsFirstPlace at → field 4 (rec_at t.records format.groups_file k) at ≡ field 4 (rec_at s.records format.groups_file k)
           at
@@ -297,7 +334,11 @@ module _ (s : State) (node g most : ℕ) (empty : List ℕ) (well : KeepsRules s
 
   linked_now : IsLinked t.records (kind_at t.records format.nodes_file) rels (group_at t.records)
   linked_now = record {
-    ends = λ x q e. let k = well.linked.ends x q e in record { from = fr.used_same s.records t.records node stepped.frame q.from k.from; to = fr.used_same s.records t.records node stepped.frame q.to k.to };
+    ends = λ x q e. let k = well.linked.ends x q e in record {
+      from = fr.used_same s.records t.records node stepped.frame q.from k.from;
+      to = fr.used_same
+          s.records t.records node stepped.frame q.to k.to;
+    };
     typed = λ x n q e end dn. let k = well.linked.typed x n q e end (fr.dense_was s.records t.records node stepped.frame dense n dn) in
         record { row = k.row; group = group_stays_at k.row.id (kept x n q e end k) ∙ k.group; owner = k.owner; label = k.label };
     listed = record { each = listed };
@@ -308,7 +349,8 @@ module _ (s : State) (node g most : ℕ) (empty : List ℕ) (well : KeepsRules s
           let row = some_row (kind_at s.records format.groups_file k.row.id) (group_in (rec_at s.records format.groups_file k.row.id) k.row.id) k.row k.group in
           let at_g : n ≡ node = sym k.owner ∙ sym (ap (λ (r : GroupRow). r.owner) row.1)
           ∙ ap (λ z. field 4 (rec_at s.records format.groups_file z) format.group_owner) is ∙ member.owner in
-          none_typed x q e (subst (λ z. IsEnd z q) at_g end) (sym k.label ∙ sym (ap (λ (r : GroupRow). r.label) row.1) ∙ ap (λ z. field 4 (rec_at s.records format.groups_file z) format.group_type) is)
+          none_typed x q e (subst (λ z. IsEnd z q) at_g end) (sym k.label ∙ sym (ap (λ (r : GroupRow). r.label) row.1) ∙ ap
+          (λ z. field 4 (rec_at s.records format.groups_file z) format.group_type) is)
 
   -- ---- the fourth
   filled_stays : (h : ℕ) → h ≢ g → is_filled (rec_at t.records format.groups_file h) ≡ is_filled (rec_at s.records format.groups_file h)
@@ -334,7 +376,8 @@ module _ (s : State) (node g most : ℕ) (empty : List ℕ) (well : KeepsRules s
         let old = well.grouped.each n (fr.dense_was s.records t.records node stepped.frame dense n dn) in
         let other = IsGroupChain-HasGroups s.records s.shape n well.ranges old in
         HasGroups-IsGroupChain t.records s.shape n old.members empty stepped.ranges (has.others n old.members ne other)
-        (λ h i. still n h old (λ e. ne (sym (other.only h i).owner ∙ ap (λ z. field 4 (rec_at s.records format.groups_file z) format.group_owner) e ∙ member.owner)) i)) (nat_cases n node);
+        (λ h i. still n h old (λ e. ne (sym (other.only h i).owner ∙ ap (λ z. field 4 (rec_at s.records format.groups_file z) format.group_owner) e
+        ∙ member.owner)) i)) (nat_cases n node);
   }
     where
       none_left : (h : ℕ) → IsGroupOf t.records node h → h ≢ g
@@ -350,7 +393,16 @@ module _ (s : State) (node g most : ℕ) (empty : List ℕ) (well : KeepsRules s
       (well.exact h q (sym (group_stays_at h ne) ∙ is) (sym (d.kind_stays s t node g free xs can gives h ne) ∙ kind))
 
   others : KeepsOthers s.records s.shape most
-  others = record { ranges = well.ranges; split = well.split; kept = well.kept; properties = well.properties; named = well.named; defined = well.defined; names = well.names; degrees = well.degrees }
+  others = record {
+    ranges = well.ranges;
+    split = well.split;
+    kept = well.kept;
+    properties = well.properties;
+    named = well.named;
+    defined = well.defined;
+    names = well.names;
+    degrees = well.degrees;
+  }
 
   -- ---- all of it
   keeps_now : KeepsRules t.records s.shape most empty
@@ -373,15 +425,19 @@ module _ (s : State) (node g most : ℕ) (empty : List ℕ) (well : KeepsRules s
 
   pub dropped_rules : (z : State) → z ≡ dropped s node g → z.shape ≡ s.shape → KeepsRules z.records z.shape most empty × Regroups s z node
       × (kind_at z.records format.nodes_file node ≡ kind_at s.records format.nodes_file node)
-      × ((h : ℕ) (row : GroupRow) → group_at s.records h ≡ Some row → row.owner ≢ node → kind_at z.records format.groups_file h ≡ kind_at s.records format.groups_file h)
+      × ((h : ℕ) (row : GroupRow) → group_at s.records h ≡ Some row → row.owner ≢ node → kind_at z.records format.groups_file h ≡ kind_at s.records
+      format.groups_file h)
   unfolding t
   dropped_rules z is shape = (
     subst (λ (q : Shape). KeepsRules z.records q most empty) (sym shape) (subst (λ (w : State). KeepsRules w.records s.shape most empty) (sym is) keeps_now),
     fr.regroups_of s z node (subst (λ (w : State). IsFrame s.records w.records node) (sym is) stepped.frame) shape
-        (λ h row q ne. ap (λ (w : State). group_at w.records h) is ∙ group_stays_at h (λ e. ne (sym (ap (λ (r : GroupRow). r.owner) (some_row (kind_at s.records format.groups_file h) (group_in (rec_at s.records format.groups_file h) h) row q).1)
+        (λ h row q ne. ap (λ (w : State). group_at w.records h) is ∙ group_stays_at h
+        (λ e. ne (sym (ap (λ (r : GroupRow). r.owner) (some_row (kind_at s.records format.groups_file h) (group_in (rec_at s.records format.groups_file h)
+        h) row q).1)
         ∙ ap (λ k. field 4 (rec_at s.records format.groups_file k) format.group_owner) e ∙ member.owner)) ∙ q),
     ap (λ (w : State). kind_at w.records format.nodes_file node) is ∙ fr.dense_same s.records t.records node stepped.frame node dense ∙ sym dense,
     λ h row q ne. ap (λ (w : State). kind_at w.records format.groups_file h) is
-        ∙ d.kind_stays s t node g free xs can gives h (λ e. ne (sym (ap (λ (r : GroupRow). r.owner) (some_row (kind_at s.records format.groups_file h) (group_in (rec_at s.records format.groups_file h) h) row q).1)
+        ∙ d.kind_stays s t node g free xs can gives h (λ e. ne (sym (ap (λ (r : GroupRow). r.owner) (some_row (kind_at s.records format.groups_file h)
+        (group_in (rec_at s.records format.groups_file h) h) row q).1)
         ∙ ap (λ k. field 4 (rec_at s.records format.groups_file k) format.group_owner) e ∙ member.owner)),
   )

@@ -64,8 +64,10 @@ module _ (s : State) (node before after : ℕ) where
   unfolding b linked follows
   field_follow g n at fits apart = on_test (λ (q : State). field n (rec_at q.records 3 g) at ≡ field n (rec_at b.records 3 g) at) before format.nil
       (after_set b (node_key node) 4 format.node_first_link after) (link_set b before format.group_next after)
-      (λ _. ap (λ r. field n r at) (put_other b.records (node_key node) (with_field 4 (b.records (node_key node)) format.node_first_link after) (group_key g) (no_node g)))
-      (λ _. field-set_other b.records (record { key = group_key before; field = format.group_next }) after (group_key g) n at fits (λ e. apart (same_group g before e)))
+      (λ _. ap (λ r. field n r at) (put_other b.records (node_key node) (with_field 4 (b.records (node_key node)) format.node_first_link after) (group_key g)
+      (no_node g)))
+      (λ _. field-set_other b.records (record { key = group_key before; field = format.group_next }) after (group_key g) n at fits
+      (λ e. apart (same_group g before e)))
 
   -- numbers of groups
   pub group_stays : (g n at : ℕ) → at + n ≤ 64 → (g ≡ after → (at + n ≤ 12) ⊎ (16 ≤ at)) → (g ≡ before → (at + n ≤ 16) ⊎ (20 ≤ at))
@@ -103,7 +105,8 @@ module _ (s : State) (node before after : ℕ) where
   unfolding b linked follows
   first_some some = on_test (λ (q : State). first_link q.records node ≡ first_link b.records node) before format.nil
       (after_set b (node_key node) 4 format.node_first_link after) (link_set b before format.group_next after)
-      (λ none. absurd (some none)) (λ _. ap (λ r. field 4 r format.node_first_link) (put_other b.records (group_key before) (with_field 4 (b.records (group_key before)) format.group_next after) (node_key node) (no_group before node)))
+      (λ none. absurd (some none)) (λ _. ap (λ r. field 4 r format.node_first_link) (put_other b.records (group_key before)
+      (with_field 4 (b.records (group_key before)) format.group_next after) (node_key node) (no_group before node)))
       ∙ ap (λ r. field 4 r format.node_first_link) (other_back (node_key node) (no_group after node))
 
   pub first_other : (m : ℕ) → m ≢ node → first_link linked.records m ≡ first_link s.records m
@@ -182,7 +185,8 @@ module _ (s end : State) (node g : ℕ) (free xs : List ℕ) (can : CanDrop s no
   unfolding u before after
   has = gives (record {
     list = subst (λ z. IsWalk (next_free u.records 3) z free) (sym (ap (λ r. (metas.meta_of r).free) (meta_stays s node before after)))
-        (walk_stays (next_free s.records 3) (next_free u.records 3) (meta_in s.records 3).free free (λ x i. group_stays s node before after x 4 4 (omega arith) (λ _. inl (omega arith)) (λ _. inl (omega arith))) can.list);
+        (walk_stays (next_free s.records 3) (next_free u.records 3) (meta_in s.records 3).free free (λ x i. group_stays s node before after x 4 4 (omega arith)
+        (λ _. inl (omega arith)) (λ _. inl (omega arith))) can.list);
     fresh = λ i. out g i refl;
   })
 
@@ -190,7 +194,8 @@ module _ (s end : State) (node g : ℕ) (free xs : List ℕ) (can : CanDrop s no
   rec_end h ne = has.others (group_key h) (λ e. let f = ap (λ (k : Key). k.file) e in absurd (omega arith)) (λ e. ne (same_group h g e))
 
   node_end : (m : ℕ) → first_link end.records m ≡ first_link u.records m
-  node_end m = ap (λ r. field 4 r format.node_first_link) (has.others (node_key m) (λ e. let f = ap (λ (k : Key). k.file) e in absurd (omega arith)) (λ e. let f = ap (λ (k : Key). k.file) e in absurd (omega arith)))
+  node_end m = ap (λ r. field 4 r format.node_first_link) (has.others (node_key m) (λ e. let f = ap (λ (k : Key). k.file) e in absurd (omega arith))
+      (λ e. let f = ap (λ (k : Key). k.file) e in absurd (omega arith)))
 
   pub number : (h n at : ℕ) → at + n ≤ 64 → h ≢ g → (h ≡ after → (at + n ≤ 12) ⊎ (16 ≤ at)) → (h ≡ before → (at + n ≤ 16) ⊎ (20 ≤ at))
       → field n (rec_at end.records 3 h) at ≡ field n (rec_at s.records 3 h) at
@@ -212,10 +217,18 @@ module _ (s end : State) (node g : ℕ) (free xs : List ℕ) (can : CanDrop s no
       ∙ free_is_free (meta_in u.records format.groups_file).free
 
   member_now : (m h : ℕ) → h ≢ g → IsGroupOf s.records m h → IsGroupOf end.records m h
-  member_now m h ne is = record { kind = ap is_group_kind (kind_stays h ne) ∙ is.kind; owner = number h 4 8 (omega arith) ne (λ _. inl (omega arith)) (λ _. inl (omega arith)) ∙ is.owner }
+  member_now m h ne is = record {
+    kind = ap is_group_kind (kind_stays h ne) ∙ is.kind;
+    owner = number h 4 8 (omega arith) ne (λ _. inl (omega arith))
+        (λ _. inl (omega arith)) ∙ is.owner;
+  }
 
   member_was : (m h : ℕ) → h ≢ g → IsGroupOf end.records m h → IsGroupOf s.records m h
-  member_was m h ne is = record { kind = ap is_group_kind (sym (kind_stays h ne)) ∙ is.kind; owner = sym (number h 4 8 (omega arith) ne (λ _. inl (omega arith)) (λ _. inl (omega arith))) ∙ is.owner }
+  member_was m h ne is = record {
+    kind = ap is_group_kind (sym (kind_stays h ne)) ∙ is.kind;
+    owner = sym (number h 4 8 (omega arith) ne (λ _. inl (omega arith))
+        (λ _. inl (omega arith))) ∙ is.owner;
+  }
 
   -- the group is none any more
   none_here : (m h : ℕ) → IsGroupOf end.records m h → h ≢ g
@@ -268,7 +281,8 @@ module _ (s end : State) (node g : ℕ) (free xs : List ℕ) (can : CanDrop s no
       record {
         chain = subst (λ z. IsChain (next_group end.records) (previous_group end.records) format.nil z ys)
             (sym (node_end m ∙ first_other s node before after m ne))
-            (chain_stays (next_group s.records) (previous_group s.records) (next_group end.records) (previous_group end.records) format.nil (first_link s.records m) ys
+            (chain_stays (next_group s.records) (previous_group s.records) (next_group end.records) (previous_group end.records) format.nil
+            (first_link s.records m) ys
             (λ x i. number x 4 16 (omega arith) (off x i) (λ _. inr (omega arith)) (λ e. absurd (off_before x i e)))
             (λ x i. number x 4 12 (omega arith) (off x i) (λ e. absurd (off_after x i e)) (λ _. inl (omega arith))) other.chain);
         only = λ h i. member_now m h (off h i) (other.only h i);

@@ -34,7 +34,11 @@ count_small test rels mark = length-ids (λ x. passes test (rels x)) mark
 -- a number of an exact group is no more than there are relationships
 pub side_small : (at : ℕ) (r : Rec) (group : GroupRow) (row : RelRow) (rels : ℕ → Option RelRow) (mark : ℕ) → IsSide at group row → HasCounts r group rels mark
     → (field 4 r (at + 12) ≤ mark) × IsCountPlace (at + 12) × (count_place at ≡ at + 12)
-side_small at r group row rels mark (inl k) h = subst Is (sym k.0) ((let c = count_small (is_out_of group) rels mark in let e = h.out in omega arith), inl refl, refl)
+side_small at r group row rels mark (inl k) h = subst Is (sym k.0) (
+  (let c = count_small (is_out_of group) rels mark in let e = h.out in omega arith),
+  inl refl,
+  refl,
+)
   where
     Is : ℕ → Type 0
     Is a = (field 4 r (a + 12) ≤ mark) × IsCountPlace (a + 12) × (count_place a ≡ a + 12)
@@ -108,7 +112,8 @@ module _ (u : State) (node rel g at : ℕ) (row : RelRow) (rest : List ℕ) (mos
   rec = with_field 4 r (at + 12) v
 
   within : (32 ≤ at + 12) × (at + 16 ≤ 44)
-  within = ⊎_elim (λ (e : at + 12 ≡ 32). (omega arith, omega arith)) (λ k. ⊎_elim (λ (e : at + 12 ≡ 36). (omega arith, omega arith)) (λ (e : at + 12 ≡ 40). (omega arith, omega arith)) k) of_side.1
+  within = ⊎_elim (λ (e : at + 12 ≡ 32). (omega arith, omega arith)) (λ k. ⊎_elim (λ (e : at + 12 ≡ 36). (omega arith, omega arith)) (λ (e : at + 12 ≡ 40).
+      (omega arith, omega arith)) k) of_side.1
 
   now_is : now.records ≡ put u.records (group_key g) rec
   unfolding tallied rec v
@@ -151,7 +156,8 @@ module _ (u : State) (node rel g at : ℕ) (row : RelRow) (rest : List ℕ) (mos
 
   kind_t : (k : ℕ) → kind_at t format.groups_file k ≡ kind_at u.records format.groups_file k
   kind_t k = ⊎_elim
-      (λ (e : k ≡ g). subst (λ z. kind_at t format.groups_file z ≡ kind_at u.records format.groups_file z) (sym e) (puts.kind_here u.records u.shape node g rec used (ap is_group_kind kind_now) same fits ∙ kind_now ∙ sym kind_g))
+      (λ (e : k ≡ g). subst (λ z. kind_at t format.groups_file z ≡ kind_at u.records format.groups_file z) (sym e) (puts.kind_here u.records u.shape node g rec
+      used (ap is_group_kind kind_now) same fits ∙ kind_now ∙ sym kind_g))
       (λ (ne : k ≢ g). puts.kind_other u.records u.shape node g rec used (ap is_group_kind kind_now) same fits k ne) (nat_cases k g)
 
   same_row : (a b : GroupRow) → Some a ≡ Some b → a ≡ b
@@ -173,7 +179,8 @@ module _ (u : State) (node rel g at : ℕ) (row : RelRow) (rest : List ℕ) (mos
       let row_is : group_row ≡ q = same_row group_row q (sym group ∙ ap (group_at u.records) (sym e) ∙ sym (group_t k) ∙ is) in
       subst (λ (z : GroupRow). HasCounts (rec_at t format.groups_file k) z (counted_rels node rest rels z.owner) mark) row_is
       (subst (λ (f : ℕ → Option RelRow). HasCounts (rec_at t format.groups_file k) group_row f mark) (sym (counted_here node node rest rels refl))
-      (subst (λ (z : Rec). HasCounts z group_row (left_out rest rels) mark) (sym (ap (rec_at t format.groups_file) e ∙ puts.here u.records u.shape node g rec used (ap is_group_kind kind_now) same fits)) counts_here)))
+      (subst (λ (z : Rec). HasCounts z group_row (left_out rest rels) mark) (sym (ap (rec_at t format.groups_file) e ∙ puts.here u.records u.shape node g rec
+      used (ap is_group_kind kind_now) same fits)) counts_here)))
       (λ (ne : k ≢ g).
       let was = exact k q (sym (group_t k) ∙ is) (sym (kind_t k) ∙ kind) in
       let rec_is : rec_at t format.groups_file k ≡ rec_at u.records format.groups_file k =
@@ -181,7 +188,8 @@ module _ (u : State) (node rel g at : ℕ) (row : RelRow) (rest : List ℕ) (mos
       subst (λ (z : Rec). HasCounts z q (counted_rels node rest rels q.owner) mark) (sym rec_is) (⊎_elim
       (λ (own : q.owner ≡ node).
       subst (λ (f : ℕ → Option RelRow). HasCounts (rec_at u.records format.groups_file k) q f mark) (sym (counted_here node q.owner rest rels own))
-      (more q (rec_at u.records format.groups_file k) (rec_at u.records format.groups_file k) (counts_untyped (rec_at u.records format.groups_file k) (rec_at u.records format.groups_file k) q row (λ place inside. refl) (untyped k q ne (sym (group_t k) ∙ is) own))
+      (more q (rec_at u.records format.groups_file k) (rec_at u.records format.groups_file k) (counts_untyped (rec_at u.records format.groups_file k)
+      (rec_at u.records format.groups_file k) q row (λ place inside. refl) (untyped k q ne (sym (group_t k) ∙ is) own))
       (subst (λ (f : ℕ → Option RelRow). HasCounts (rec_at u.records format.groups_file k) q f mark) (counted_here node q.owner (rel ∷ rest) rels own) was)))
       (λ (else : q.owner ≢ node).
       subst (λ (f : ℕ → Option RelRow). HasCounts (rec_at u.records format.groups_file k) q f mark)
@@ -192,7 +200,8 @@ module _ (u : State) (node rel g at : ℕ) (row : RelRow) (rest : List ℕ) (mos
       untyped k q ne is own typed =
           let has = keeps.grouped.each node dense in
           let label : (j : ℕ) (p : GroupRow) → group_at u.records j ≡ Some p → field 4 (rec_at u.records format.groups_file j) format.group_type ≡ p.label
-          = λ j p e. ap (λ (z : GroupRow). z.label) (some_row (kind_at u.records format.groups_file j) (group_in (rec_at u.records format.groups_file j) j) p e).1 in
+          = λ j p e. ap (λ (z : GroupRow). z.label) (some_row (kind_at u.records format.groups_file j) (group_in (rec_at u.records format.groups_file j) j)
+          p e).1 in
           ne (has.once k g (has.all k q is own) (has.all g group_row group refl) (label k q is ∙ sym typed ∙ sym (label g group_row group)))
 
   -- ---- all of it
@@ -211,7 +220,8 @@ module _ (u : State) (node rel g at : ℕ) (row : RelRow) (rest : List ℕ) (mos
   tally_put = (v, now_is)
 
   pub tally_regroups : Regroups u now node
-  tally_regroups = regroups_of u now node (subst (λ (z : Records). IsFrame u.records z node) (sym now_is) (puts.frame u.records u.shape node g rec used (ap is_group_kind kind_now) same fits)) shape_is
+  tally_regroups = regroups_of u now node (subst (λ (z : Records). IsFrame u.records z node) (sym now_is) (puts.frame u.records u.shape node g rec used
+      (ap is_group_kind kind_now) same fits)) shape_is
       (λ k q is ne. ap (λ (z : Records). group_at z k) now_is ∙ group_t k ∙ is)
 
   pub tally_groups : (k : ℕ) → IsGroupOf now.records node k → IsGroupOf u.records node k

@@ -78,7 +78,8 @@ walkable_then s now node first xs reads is can =
     let le = can.mark in
     record {
       mark = omega arith;
-      list = subst (λ z. IsGroupList now.records node z xs) (sym is) (subst (λ (r : Records). IsGroupList r node (first_link s.records node) xs) (sym (records_then s now reads.count reads.is)) can.list);
+      list = subst (λ z. IsGroupList now.records node z xs) (sym is) (subst (λ (r : Records). IsGroupList r node (first_link s.records node) xs)
+          (sym (records_then s now reads.count reads.is)) can.list);
     }
 
 pub reads_then : (s now end : State) (label : ℕ) (xs : List ℕ) → ReadsAtMost 1 s now → ReadsAtMost (length (up_to_type now.records label xs)) now end
@@ -128,7 +129,8 @@ fault_then s now node first (Err Disk) reads is told = tt
 fault_then s now node first (Err (Damaged damage)) reads is told = inr (subst (λ z. IsWalkDamage s node z damage) is (by damage told))
   where
     by : (damage : Damage) → IsWalkDamage now node first damage → IsWalkDamage s node first damage
-    by damage (NoList none) = NoList (λ xs list. none xs (subst (λ (r : Records). IsOwnedList r node first xs) (sym (records_then s now reads.count reads.is)) list))
+    by damage (NoList none) = NoList (λ xs list. none xs (subst (λ (r : Records). IsOwnedList r node first xs) (sym (records_then s now reads.count reads.is))
+        list))
     by damage (UnknownGroup g none below unknown) = UnknownGroup g
         (λ xs list. none xs (subst (λ (r : Records). IsGroupList r node first xs) (sym (records_then s now reads.count reads.is)) list))
         (let mark = mark_then s now reads.count reads.is in omega arith)

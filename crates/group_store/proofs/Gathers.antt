@@ -48,7 +48,8 @@ use Rattle.group_store.proofs.Tallies.{apart-tallied, count-tallied, count_high,
 
 -- the mark of a file but that of the groups
 pub beside_high : (s t : Records) (node file : ℕ) → LeavesBeside s t node → file ≢ format.groups_file → high t file ≡ high s file
-beside_high s t node file b ne = ap (λ r. (metas.meta_of r).high) (b.others (meta_key_of file) (λ e. omega arith) (λ e. omega arith) (λ e. ne (ap (λ (k : Key). k.id) e)) (λ e. let f = ap (λ (k : Key). k.file) e in omega arith))
+beside_high s t node file b ne = ap (λ r. (metas.meta_of r).high) (b.others (meta_key_of file) (λ e. omega arith) (λ e. omega arith)
+    (λ e. ne (ap (λ (k : Key). k.id) e)) (λ e. let f = ap (λ (k : Key). k.file) e in omega arith))
 
 pub beside_kind : (s t : Records) (node x : ℕ) → LeavesBeside s t node → kind_at t format.relationships_file x ≡ kind_at s format.relationships_file x
 beside_kind s t node x b = ap (λ m. kind_in m (rec_at t format.relationships_file x) x) (beside_high s t node format.relationships_file b (λ e. omega arith))
@@ -87,7 +88,11 @@ member_stands records node g side x is a = record {
   row = a.row;
   live = a.live;
   on = subst (λ (z : Side). IsOn (group_at records) (group_head g z) a.row) (sym a.at.aside)
-      (inr (refl, in_group (group_at records) g node (type_of records g) a.row (row_of_group records node g is ∙ (λ i. Some (record { id = g; label = type_of records g; owner = is.owner i }))) a.at.typed a.at.end));
+      (inr (
+        refl,
+        in_group (group_at records) g node (type_of records g) a.row (row_of_group records node g is ∙
+            (λ i. Some (record { id = g; label = type_of records g; owner = is.owner i }))) a.at.typed a.at.end,
+      ));
 }
 
 -- one side of a group, from its chain
@@ -189,22 +194,35 @@ module _ (m : State) (node rel g : ℕ) (row : RelRow) (groups came : List ℕ) 
   other : (key : Key) (n at : ℕ) → key.file ≢ format.relationships_file → key.file ≢ format.groups_file → at + n ≤ 64
       → field n (e.records key) at ≡ field n (m.records key) at
   other key n at no_rel no_group inside = ap (λ r. field n r at) (file-tallied one_more p head key no_group)
-      ∙ pushes.only.same key n at inside ((λ q. absurd (no_rel (ap (λ (k : Key). k.file) q))), ((λ q. absurd (no_rel (ap (λ (k : Key). k.file) q))), ((λ q. absurd (no_group (ap (λ (k : Key). k.file) q))), tt)))
+      ∙ pushes.only.same key n at inside (
+        (λ q. absurd (no_rel (ap (λ (k : Key). k.file) q))),
+        (
+          (λ q. absurd (no_rel (ap (λ (k : Key). k.file) q))),
+          ((λ q. absurd (no_group (ap (λ (k : Key). k.file) q))), tt),
+        ),
+      )
       ∙ ap (λ r. field n r at) (elsewhere-set_prev m.records node rel format.nil key no_rel)
 
   number_p : (k n at : ℕ) → at + n ≤ 64 → (k ≡ g → (at + n ≤ sides.place_of side) ⊎ (sides.place_of side + 4 ≤ at))
       → field n (rec_at p.records format.groups_file k) at ≡ field n (rec_at m.records format.groups_file k) at
-  number_p k n at inside aside = pushes.only.same (key_in format.groups_file k) n at inside
-      ((λ q. let f = ap (λ (z : Key). z.file) q in absurd (omega arith)), ((λ q. let f = ap (λ (z : Key). z.file) q in absurd (omega arith)), ((λ q. aside (ap (λ (z : Key). z.id) q)), tt)))
+  number_p k n at inside aside = pushes.only.same (key_in format.groups_file k) n at inside (
+    (λ q. let f = ap (λ (z : Key). z.file) q in absurd (omega arith)),
+    (
+      (λ q. let f = ap (λ (z : Key). z.file) q in absurd (omega arith)),
+      ((λ q. aside (ap (λ (z : Key). z.id) q)), tt),
+    ),
+  )
       ∙ ap (λ r. field n r at) (group_t k)
 
-  number : (k n at : ℕ) → at + n ≤ 64 → (k ≡ g → ((at + n ≤ sides.place_of side) ⊎ (sides.place_of side + 4 ≤ at)) × ((at + n ≤ count_place (sides.place_of side)) ⊎ (count_place (sides.place_of side) + 4 ≤ at)))
+  number : (k n at : ℕ) → at + n ≤ 64 → (k ≡ g → ((at + n ≤ sides.place_of side) ⊎ (sides.place_of side + 4 ≤ at)) ×
+      ((at + n ≤ count_place (sides.place_of side)) ⊎ (count_place (sides.place_of side) + 4 ≤ at)))
       → field n (rec_at e.records format.groups_file k) at ≡ field n (rec_at m.records format.groups_file k) at
   number k n at inside aside = apart-tallied one_more p head (key_in format.groups_file k) n at inside (λ q. (aside (ap (λ (z : Key). z.id) q)).1)
       ∙ number_p k n at inside (λ q. (aside q).0)
 
   pub number_low : (k n at : ℕ) → at + n ≤ 20 → field n (rec_at e.records format.groups_file k) at ≡ field n (rec_at m.records format.groups_file k) at
-  number_low k n at low = number k n at (omega arith) (λ _. let a = (place_range side).0 in let b = (count_high (sides.place_of side)).0 in (inl (omega arith), inl (omega arith)))
+  number_low k n at low = number k n at (omega arith) (λ _. let a = (place_range side).0 in let b = (count_high (sides.place_of side)).0 in
+      (inl (omega arith), inl (omega arith)))
 
   pub meta_e : meta_of e format.groups_file ≡ meta_of m format.groups_file
   meta_e =
@@ -230,7 +248,8 @@ module _ (m : State) (node rel g : ℕ) (row : RelRow) (groups came : List ℕ) 
   chain_e = record {
     chain = subst (λ f. IsChain (next_group e.records) (previous_group e.records) format.nil f groups)
         (sym (other (key_in format.nodes_file node) 4 format.node_first_link (λ q. omega arith) (λ q. omega arith) (omega arith)))
-        (chain_stays (next_group m.records) (previous_group m.records) (next_group e.records) (previous_group e.records) format.nil (first_link m.records node) groups
+        (chain_stays (next_group m.records) (previous_group m.records) (next_group e.records) (previous_group e.records) format.nil (first_link m.records node)
+        groups
         (λ k i. number_low k 4 format.group_next (omega arith)) (λ k i. number_low k 4 format.group_previous (omega arith)) chain.chain);
     only = λ k i. owned_e k (chain.only k i);
     all = λ k is. chain.all k (owned_m k is);
@@ -285,14 +304,17 @@ module _ (m : State) (node rel g : ℕ) (row : RelRow) (groups came : List ℕ) 
   few =
       let mark = high m.records format.relationships_file in
       let bound : mark < 2 ^ 32 = field-lt 4 (m.records (meta_key_of format.relationships_file)) format.meta_high in
-      let le = length_once (rel ∷ xs) (ids (λ _. true) mark) (once_walk (next_of e.records node) (first_of e.records head) (rel ∷ xs) (walk_of_chain _ _ format.nil (first_of e.records head) (rel ∷ xs) own_chain_e))
-      (λ x i. in_ids (λ _. true) mark x (⊎_elim (λ q. subst (λ z. z < mark) (sym q) (below rel row live)) (λ j. let a = (xs_are x j).1 in below x a.row a.live) i) refl) in
+      let le = length_once (rel ∷ xs) (ids (λ _. true) mark) (once_walk (next_of e.records node) (first_of e.records head) (rel ∷ xs)
+      (walk_of_chain _ _ format.nil (first_of e.records head) (rel ∷ xs) own_chain_e))
+      (λ x i. in_ids (λ _. true) mark x (⊎_elim (λ q. subst (λ z. z < mark) (sym q) (below rel row live)) (λ j. let a = (xs_are x j).1 in below x a.row a.live)
+      i) refl) in
       let all = length-ids (λ _. true) mark in
       omega arith
 
   counted_p : is_counted (p.records head.key) ≡ true
   counted_p = eq_true _ _ (number_p g 1 format.kind (omega arith) (λ _. inl (let a = (place_range side).0 in omega arith))
-      ∙ sym (kind_low (high m.records format.groups_file) (rec_at m.records format.groups_file g) g (kind_below (high m.records format.groups_file) (rec_at m.records format.groups_file g) g (λ q. let z = sym q ∙ counted g here in omega arith))) ∙ counted g here)
+      ∙ sym (kind_low (high m.records format.groups_file) (rec_at m.records format.groups_file g) g (kind_below (high m.records format.groups_file)
+      (rec_at m.records format.groups_file g) g (λ q. let z = sym q ∙ counted g here in omega arith))) ∙ counted g here)
 
   own_count : field 4 (rec_at e.records format.groups_file g) (count_place (sides.place_of side)) ≡ length (rel ∷ xs)
   unfolding xs
@@ -307,7 +329,8 @@ module _ (m : State) (node rel g : ℕ) (row : RelRow) (groups came : List ℕ) 
   own_side : HasSide e.records node (rel ∷ came) g side
   unfolding xs
   own_side = side_by e.records node (rel ∷ came) g side (rel ∷ xs) (owned_e g (chain.only g here)) own_chain_e
-      (λ x i. ⊎_elim (λ q. (inl q, subst (IsMember e.records node (type_of e.records g) side) (sym q) rel_member_e)) (λ j. let a = xs_are x j in (inr a.0, member_e g side x a.1)) i)
+      (λ x i. ⊎_elim (λ q. (inl q, subst (IsMember e.records node (type_of e.records g) side) (sym q) rel_member_e)) (λ j. let a = xs_are x j in
+      (inr a.0, member_e g side x a.1)) i)
       (λ x i a. ⊎_elim (λ q. inl q) (λ j. inr ((all_sides g here side).all x j (member_m g side x a))) i) own_count
 
   -- another side
@@ -322,15 +345,21 @@ module _ (m : State) (node rel g : ℕ) (row : RelRow) (groups came : List ℕ) 
     apart_places same = ⊎_elim (λ q. absurd (ne same (sym q))) (λ z. z) (side_cases s side)
 
     other_first : first_of p.records (group_head k s) ≡ first_of t.records (group_head k s)
-    other_first = pushes.only.same (group_key k) 4 (sides.place_of s) (let b = (place_range s).1 in omega arith)
-        ((λ q. let f = ap (λ (z : Key). z.file) q in absurd (omega arith)), ((λ q. let f = ap (λ (z : Key). z.file) q in absurd (omega arith)), ((λ q. apart_places (ap (λ (z : Key). z.id) q)), tt)))
+    other_first = pushes.only.same (group_key k) 4 (sides.place_of s) (let b = (place_range s).1 in omega arith) (
+      (λ q. let f = ap (λ (z : Key). z.file) q in absurd (omega arith)),
+      (
+        (λ q. let f = ap (λ (z : Key). z.file) q in absurd (omega arith)),
+        ((λ q. apart_places (ap (λ (z : Key). z.id) q)), tt),
+      ),
+    )
 
     other_chain : IsChainAt e.records (group_head k s) node ys
     unfolding ys xs
     other_chain = subst (λ f. IsChainFrom e.records node f (all_sides k i s).members) (sym (first_pe k s ∙ other_first))
         (chain_pe (first_of t.records (group_head k s)) (all_sides k i s).members
         (pushes.others node (first_of t.records (group_head k s)) (all_sides k i s).members (chain_was k i s)
-        (λ x j l. absurd (⊎_elim (λ q. not_in k i s (subst (λ z. In z (all_sides k i s).members) q j)) (λ n. not_both x ((all_sides k i s).are x j).1 (xs_are x n).1) l))))
+        (λ x j l. absurd (⊎_elim (λ q. not_in k i s (subst (λ z. In z (all_sides k i s).members) q j)) (λ n. not_both x ((all_sides k i s).are x j).1
+        (xs_are x n).1) l))))
 
     other_count : field 4 (rec_at e.records format.groups_file k) (count_place (sides.place_of s)) ≡ length ys
     unfolding ys
@@ -345,13 +374,15 @@ module _ (m : State) (node rel g : ℕ) (row : RelRow) (groups came : List ℕ) 
     unfolding ys
     other_side = side_by e.records node (rel ∷ came) k s ys (owned_e k (chain.only k i)) other_chain
         (λ x j. let a = (all_sides k i s).are x j in (inr a.0, member_e k s x a.1))
-        (λ x j a. ⊎_elim (λ q. absurd (not_both rel (subst (IsMember m.records node (type_of m.records k) s) q (member_m k s x a)) rel_member)) (λ n. (all_sides k i s).all x n (member_m k s x a)) j) other_count
+        (λ x j a. ⊎_elim (λ q. absurd (not_both rel (subst (IsMember m.records node (type_of m.records k) s) q (member_m k s x a)) rel_member))
+        (λ n. (all_sides k i s).all x n (member_m k s x a)) j) other_count
 
   pub sides_e : (k : ℕ) → In k groups → (s : Side) → HasSide e.records node (rel ∷ came) k s
   sides_e k i s = ⊎_elim
       (λ (same : k ≡ g). ⊎_elim
       (λ (q : side ≡ s). subst (λ z. HasSide e.records node (rel ∷ came) z s) (sym same) (subst (HasSide e.records node (rel ∷ came) g) q own_side))
-      (λ apart. other_side k i s (λ _ q. ⊎_elim (λ (l : sides.place_of side + 4 ≤ sides.place_of s). let z = ap sides.place_of q in omega arith) (λ (l : sides.place_of s + 4 ≤ sides.place_of side). let z = ap sides.place_of q in omega arith) apart)) (side_cases side s))
+      (λ apart. other_side k i s (λ _ q. ⊎_elim (λ (l : sides.place_of side + 4 ≤ sides.place_of s). let z = ap sides.place_of q in omega arith)
+      (λ (l : sides.place_of s + 4 ≤ sides.place_of side). let z = ap sides.place_of q in omega arith) apart)) (side_cases side s))
       (λ (apart : k ≢ g). other_side k i s (λ q _. apart q)) (nat_cases k g)
 
   -- what stood first at its head came there
@@ -366,8 +397,13 @@ module _ (m : State) (node rel g : ℕ) (row : RelRow) (groups came : List ℕ) 
       let same : rec_at e.records format.relationships_file y ≡ rec_at p.records format.relationships_file y =
       file-tallied one_more p head (key_in format.relationships_file y) (λ q. omega arith) in
       let low : (n at : ℕ) → at + n ≤ 64 → field n (rec_at p.records format.relationships_file y) at ≡ field n (rec_at t.records format.relationships_file y) at
-      = λ n at inside. pushes.only.same (key_in format.relationships_file y) n at inside
-      ((λ q. absurd (not_first (ap (λ (k : Key). k.id) q))), ((λ q. absurd (not_rel (ap (λ (k : Key). k.id) q))), ((λ q. let f = ap (λ (k : Key). k.file) q in absurd (omega arith)), tt))) in
+      = λ n at inside. pushes.only.same (key_in format.relationships_file y) n at inside (
+        (λ q. absurd (not_first (ap (λ (k : Key). k.id) q))),
+        (
+          (λ q. absurd (not_rel (ap (λ (k : Key). k.id) q))),
+          ((λ q. let f = ap (λ (k : Key). k.file) q in absurd (omega arith)), tt),
+        ),
+      ) in
       ap (λ r. next_in r node) same
       ∙ ap (λ v. field 4 (rec_at p.records format.relationships_file y) (cond (nat_eq v node) 16 24 + 4)) (low 4 8 (omega arith))
       ∙ low 4 (place_of (rec_at t.records format.relationships_file y) node + 4)
@@ -382,15 +418,23 @@ module _ (m : State) (node rel g : ℕ) (row : RelRow) (groups came : List ℕ) 
   leaves_e = record {
     others = λ x n at some absent inside.
         rels_pe x n at
-        ∙ pushes.only.same (key_in format.relationships_file x) n at inside
-        ((λ q. absurd (⊎_elim (λ none. some (ap (λ (k : Key). k.id) q ∙ none)) (λ i. absent (inr (subst (λ z. In z came) (sym (ap (λ (k : Key). k.id) q)) i))) first_known)), ((λ q. absurd (absent (inl (ap (λ (k : Key). k.id) q)))), ((λ q. let f = ap (λ (k : Key). k.file) q in absurd (omega arith)), tt)))
+        ∙ pushes.only.same (key_in format.relationships_file x) n at inside (
+          (λ q. absurd (⊎_elim (λ none. some (ap (λ (k : Key). k.id) q ∙ none)) (λ i. absent (inr (subst (λ z. In z came) (sym (ap (λ (k : Key). k.id) q)) i)))
+              first_known)),
+          ((λ q. absurd (absent (inl (ap (λ (k : Key). k.id) q)))), ((λ q. let f = ap (λ (k : Key). k.file) q in absurd (omega arith)), tt)),
+        )
         ∙ field-set_other m.records (prev_place m.records node rel) format.nil (key_in format.relationships_file x) n at inside
         (λ q. absurd (absent (inl (ap (λ (k : Key). k.id) q))));
     links = λ x n at inside beside.
         rels_pe x n at
         ∙ pushes.only.same (key_in format.relationships_file x) n at inside (
-          (λ q. near (first_of t.records head) (place_of (rec_at t.records format.relationships_file (first_of t.records head)) node) x n at (let z = place_same (first_of t.records head) in (omega arith, omega arith)) (ap (λ (k : Key). k.id) q) beside),
-          ((λ q. near rel (place_of (rec_at t.records format.relationships_file rel) node + 4) x n at (let z = place_same rel in (omega arith, omega arith)) (ap (λ (k : Key). k.id) q) beside), ((λ q. let f = ap (λ (k : Key). k.file) q in absurd (omega arith)), tt)),
+          (λ q. near (first_of t.records head) (place_of (rec_at t.records format.relationships_file (first_of t.records head)) node) x n at
+              (let z = place_same (first_of t.records head) in (omega arith, omega arith)) (ap (λ (k : Key). k.id) q) beside),
+          (
+            (λ q. near rel (place_of (rec_at t.records format.relationships_file rel) node + 4) x n at (let z = place_same rel in (omega arith, omega arith))
+                (ap (λ (k : Key). k.id) q) beside),
+            ((λ q. let f = ap (λ (k : Key). k.file) q in absurd (omega arith)), tt),
+          ),
         )
         ∙ field-set_other m.records (prev_place m.records node rel) format.nil (key_in format.relationships_file x) n at inside
         (λ q. near rel (place_of (rec_at m.records format.relationships_file rel) node) x n at (omega arith, omega arith) (ap (λ (k : Key). k.id) q) beside);
@@ -427,7 +471,8 @@ module _ (m : State) (node rel g : ℕ) (row : RelRow) (groups came : List ℕ) 
       record {
         take = record {
           list = subst (λ f. IsWalk (next_free e.records format.groups_file) f free) (sym (ap (λ (q : Meta). q.free) meta_e))
-              (walk_stays (next_free m.records format.groups_file) (next_free e.records format.groups_file) (meta_in m.records format.groups_file).free free (λ x i. number_low x 4 format.free_next (omega arith)) can.take.list);
+              (walk_stays (next_free m.records format.groups_file) (next_free e.records format.groups_file) (meta_in m.records format.groups_file).free free
+              (λ x i. number_low x 4 format.free_next (omega arith)) can.take.list);
           low = λ x i. let lt = can.take.low x i in omega arith;
           unused = λ x i. kind_e x ∙ can.take.unused x i;
           count = subst (λ n. IsCounted free n (high e.records format.groups_file)) (sym live_is)

@@ -35,7 +35,12 @@ fewer R [] es once has apart = omega arith
 fewer R (g ∷ gs) es once has apart =
     let mine = has g (inl refl) in
     let less = fewer R gs (without mine.0 es) once.1
-    (λ k i. let its = has k (inr i) in (its.0, stays_without mine.0 es its.0 (λ same. once.0 (subst (λ z. In z gs) (apart k g mine.0 (subst (R k) same its.2) mine.2) i)) its.1, its.2)) apart in
+    (λ k i. let its = has k (inr i) in (
+      its.0,
+      stays_without mine.0 es its.0 (λ same. once.0 (subst (λ z. In z gs) (apart k g mine.0 (subst (R k) same its.2)
+          mine.2) i)) its.1,
+      its.2,
+    )) apart in
     let l = length-without mine.0 es mine.1 in omega arith
 
 -- ---- ends of relationships, and groups that may be empty, by numbers
@@ -72,11 +77,15 @@ end_code x from n = cond (nat_eq from n) (3 * x) (3 * x + 1)
 codes_same : (x y f h n m : ℕ) → end_code x f n ≡ end_code y h m → (x ≡ y) × (((f ≡ n) × (h ≡ m)) ⊎ ((f ≢ n) × (h ≢ m)))
 codes_same x y f h n m e = ⊎_elim
     (λ (a : f ≡ n). ⊎_elim
-    (λ (b : h ≡ m). let k : 3 * x ≡ 3 * y = sym (ap (λ t. cond t (3 * x) (3 * x + 1)) (eq_true f n a)) ∙ e ∙ ap (λ t. cond t (3 * y) (3 * y + 1)) (eq_true h m b) in (omega arith, inl (a, b)))
-    (λ (b : h ≢ m). let k : 3 * x ≡ 3 * y + 1 = sym (ap (λ t. cond t (3 * x) (3 * x + 1)) (eq_true f n a)) ∙ e ∙ ap (λ t. cond t (3 * y) (3 * y + 1)) (eq_false h m b) in absurd (omega arith)) (nat_cases h m))
+    (λ (b : h ≡ m). let k : 3 * x ≡ 3 * y = sym (ap (λ t. cond t (3 * x) (3 * x + 1)) (eq_true f n a)) ∙ e ∙ ap (λ t. cond t (3 * y) (3 * y + 1))
+    (eq_true h m b) in (omega arith, inl (a, b)))
+    (λ (b : h ≢ m). let k : 3 * x ≡ 3 * y + 1 = sym (ap (λ t. cond t (3 * x) (3 * x + 1)) (eq_true f n a)) ∙ e ∙ ap (λ t. cond t (3 * y) (3 * y + 1))
+    (eq_false h m b) in absurd (omega arith)) (nat_cases h m))
     (λ (a : f ≢ n). ⊎_elim
-    (λ (b : h ≡ m). let k : 3 * x + 1 ≡ 3 * y = sym (ap (λ t. cond t (3 * x) (3 * x + 1)) (eq_false f n a)) ∙ e ∙ ap (λ t. cond t (3 * y) (3 * y + 1)) (eq_true h m b) in absurd (omega arith))
-    (λ (b : h ≢ m). let k : 3 * x + 1 ≡ 3 * y + 1 = sym (ap (λ t. cond t (3 * x) (3 * x + 1)) (eq_false f n a)) ∙ e ∙ ap (λ t. cond t (3 * y) (3 * y + 1)) (eq_false h m b) in (omega arith, inr (a, b))) (nat_cases h m)) (nat_cases f n)
+    (λ (b : h ≡ m). let k : 3 * x + 1 ≡ 3 * y = sym (ap (λ t. cond t (3 * x) (3 * x + 1)) (eq_false f n a)) ∙ e ∙ ap (λ t. cond t (3 * y) (3 * y + 1))
+    (eq_true h m b) in absurd (omega arith))
+    (λ (b : h ≢ m). let k : 3 * x + 1 ≡ 3 * y + 1 = sym (ap (λ t. cond t (3 * x) (3 * x + 1)) (eq_false f n a)) ∙ e ∙ ap (λ t. cond t (3 * y) (3 * y + 1))
+    (eq_false h m b) in (omega arith, inr (a, b))) (nat_cases h m)) (nat_cases f n)
 
 module _ (s : Records) (shape : Shape) (node : ℕ) (rest : List ℕ) (most : ℕ) (empty : List ℕ) (well : KeepsBut s shape node rest most empty) where
   -- a relationship of the group's owner and of its type, which isn't apart
@@ -118,7 +127,8 @@ module _ (s : Records) (shape : Shape) (node : ℕ) (rest : List ℕ) (most : �
       let code = codes_same a.x b.x a.fills.row.from b.fills.row.from a.fills.group.owner b.fills.group.owner (sym a.code ∙ b.code) in
       let row = same_row a.fills.row b.fills.row (sym a.fills.live ∙ ap (rel_at s) code.0 ∙ b.fills.live) in
       one_of g k a.fills.group b.fills.group a.fills.is b.fills.is
-      (⊎_elim (λ (both : (a.fills.row.from ≡ a.fills.group.owner) × (b.fills.row.from ≡ b.fills.group.owner)). sym both.0 ∙ ap (λ (r : RelRow). r.from) row ∙ both.1)
+      (⊎_elim (λ (both : (a.fills.row.from ≡ a.fills.group.owner) × (b.fills.row.from ≡ b.fills.group.owner)). sym both.0 ∙ ap (λ (r : RelRow). r.from) row
+      ∙ both.1)
       (λ (none : (a.fills.row.from ≢ a.fills.group.owner) × (b.fills.row.from ≢ b.fills.group.owner)).
       sym (⊎_elim (λ f. absurd (none.0 f)) (λ f. f) a.fills.end) ∙ ap (λ (r : RelRow). r.to) row ∙ ⊎_elim (λ f. absurd (none.1 f)) (λ f. f) b.fills.end) code.1)
       (sym a.fills.typed ∙ ap (λ (r : RelRow). r.label) row ∙ b.fills.typed)
@@ -205,7 +215,11 @@ module _ (s : Records) (shape : Shape) (node : ℕ) (rest : List ℕ) (most : �
       let is = row_some (kind_at s format.groups_file g) (group_in (rec_at s format.groups_file g) g)
       (λ e. clash (sym k.1 ∙ live_false (kind_at s format.groups_file g) e)) in
       ⊎_elim
-      (λ (f : (x : ℕ) × Fills g x). (end_code f.0 f.1.row.from f.1.group.owner, in_codes f.0 f.1.row.from f.1.group.owner (rel_in_rels f.0 f.1.row f.1.live), inl (record { x = f.0; fills = f.1; code = refl })))
+      (λ (f : (x : ℕ) × Fills g x). (
+        end_code f.0 f.1.row.from f.1.group.owner,
+        in_codes f.0 f.1.row.from f.1.group.owner (rel_in_rels f.0 f.1.row f.1.live),
+        inl (record { x = f.0; fills = f.1; code = refl }),
+      ))
       (λ j. (3 * g + 2, in_right (3 * g + 2) (ends_of rels) (marks_of empty) (in_marks empty g j), inr (record { may = j; code = refl })))
       (filled g (group_in (rec_at s format.groups_file g) g) is)
     where
@@ -246,8 +260,10 @@ module _ (s : Records) (shape : Shape) (node : ℕ) (rest : List ℕ) (most : �
           let mine : Has g e = a in
           let code = codes_same a.x x a.fills.row.from row.from a.fills.group.owner node (sym a.code ∙ same) in
           let r = same_row a.fills.row row (sym a.fills.live ∙ ap (rel_at s) code.0 ∙ live) in
-          let owner : a.fills.group.owner ≡ node = ⊎_elim (λ (both : (a.fills.row.from ≡ a.fills.group.owner) × (row.from ≡ node)). sym both.0 ∙ ap (λ (z : RelRow). z.from) r ∙ both.1)
-          (λ (none : (a.fills.row.from ≢ a.fills.group.owner) × (row.from ≢ node)). sym (⊎_elim (λ q. absurd (none.0 q)) (λ q. q) a.fills.end) ∙ ap (λ (z : RelRow). z.to) r ∙ ⊎_elim (λ q. absurd (none.1 q)) (λ q. q) end) code.1 in
+          let owner : a.fills.group.owner ≡ node = ⊎_elim (λ (both : (a.fills.row.from ≡ a.fills.group.owner) × (row.from ≡ node)). sym both.0 ∙ ap
+          (λ (z : RelRow). z.from) r ∙ both.1)
+          (λ (none : (a.fills.row.from ≢ a.fills.group.owner) × (row.from ≢ node)). sym (⊎_elim (λ q. absurd (none.0 q)) (λ q. q) a.fills.end) ∙ ap
+          (λ (z : RelRow). z.to) r ∙ ⊎_elim (λ q. absurd (none.1 q)) (λ q. q) end) code.1 in
           a.fills.apart owner (subst (λ z. In z rest) (sym code.0) i)
       off g e (inr b) same = by (nat_eq row.from node) (sym same ∙ b.code)
         where

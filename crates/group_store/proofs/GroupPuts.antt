@@ -47,14 +47,25 @@ module _ (s : Records) (shape : Shape) (node g : ℕ) (rec : Rec) (used : is_gro
     -- numbers of groups
     pub number : (k at : ℕ) → (4 ≤ at) × (at + 4 ≤ 32) → field 4 (rec_at t format.groups_file k) at ≡ field 4 (rec_at s format.groups_file k) at
     number k at within = ⊎_elim
-        (λ (e : k ≡ g). subst (λ z. field 4 (rec_at t format.groups_file z) at ≡ field 4 (rec_at s format.groups_file z) at) (sym e) (ap (λ r. field 4 r at) here ∙ same at within))
+        (λ (e : k ≡ g). subst (λ z. field 4 (rec_at t format.groups_file z) at ≡ field 4 (rec_at s format.groups_file z) at) (sym e) (ap (λ r. field 4 r at)
+        here ∙ same at within))
         (λ (ne : k ≢ g). ap (λ r. field 4 r at) (other k ne)) (nat_cases k g)
 
     abbrev row_in : Records → ℕ → GroupRow
-    row_in r k = record { id = k; label = field 4 (rec_at r format.groups_file k) format.group_type; owner = field 4 (rec_at r format.groups_file k) format.group_owner }
+    row_in r k = record {
+      id = k;
+      label = field 4 (rec_at r format.groups_file k) format.group_type;
+      owner = field 4 (rec_at r format.groups_file k)
+          format.group_owner;
+    }
 
     row_same : (k : ℕ) → row_in t k ≡ row_in s k
-    row_same k = λ i. record { id = k; label = number k format.group_type (omega arith, omega arith) i; owner = number k format.group_owner (omega arith, omega arith) i }
+    row_same k = λ i. record {
+      id = k;
+      label = number k format.group_type (omega arith, omega arith) i;
+      owner = number k format.group_owner
+          (omega arith, omega arith) i;
+    }
 
     pub group_same : (k : ℕ) → group_at t k ≡ group_at s k
     group_same k = ⊎_elim
@@ -70,13 +81,16 @@ module _ (s : Records) (shape : Shape) (node g : ℕ) (rec : Rec) (used : is_gro
     live_one : (k : ℕ) → is_live t format.groups_file k ≡ is_live s format.groups_file k
     live_one k = ⊎_elim
         (λ (e : k ≡ g). subst (λ z. is_live t format.groups_file z ≡ is_live s format.groups_file z) (sym e)
-        (live_true (kind_at t format.groups_file g) kind_used ∙ sym (live_true (kind_at s format.groups_file g) (group_used (kind_at s format.groups_file g) used))))
+        (live_true (kind_at t format.groups_file g) kind_used ∙ sym (live_true (kind_at s format.groups_file g) (group_used (kind_at s format.groups_file g)
+        used))))
         (λ (ne : k ≢ g). ap (λ z. not (nat_eq z 0)) (kind_other k ne)) (nat_cases k g)
 
-    split : (free : List ℕ) → IsSplit s format.groups_file (is_live s format.groups_file) free → IsSplit t format.groups_file (is_live t format.groups_file) free
+    split : (free : List ℕ) → IsSplit s format.groups_file (is_live s format.groups_file) free → IsSplit t format.groups_file (is_live t format.groups_file)
+        free
     split free k = subst (λ v. IsSplit t format.groups_file v free) (sym (λ i y. live_one y i)) (record {
       walk = walk_stays (next_free s format.groups_file) (next_free t format.groups_file) (meta_in s format.groups_file).free free
-          (λ y i. ap (λ r. field 4 r format.free_next) (other y (λ e. group_used (kind_at s format.groups_file g) used (ap (kind_at s format.groups_file) (sym e) ∙ not_live (kind_at s format.groups_file y) (k.only y i))))) k.walk;
+          (λ y i. ap (λ r. field 4 r format.free_next) (other y (λ e. group_used (kind_at s format.groups_file g) used (ap (kind_at s format.groups_file)
+          (sym e) ∙ not_live (kind_at s format.groups_file y) (k.only y i))))) k.walk;
       low = k.low;
       only = k.only;
       all = k.all;
@@ -114,7 +128,10 @@ module _ (s : Records) (shape : Shape) (node g : ℕ) (rec : Rec) (used : is_gro
     linked rest old = record {
       ends = old.ends;
       typed = old.typed;
-      listed = record { each = λ h n o. listed_again s t h n (StandsBut (rel_at s) (group_at s) node rest h) (StandsBut (rel_at s) (group_at s) node rest h) (λ x. refl) (first_same h n o) (λ x a. a) (λ x a. a) (old.listed.each h n o) };
+      listed = record {
+        each = λ h n o. listed_again s t h n (StandsBut (rel_at s) (group_at s) node rest h) (StandsBut (rel_at s) (group_at s) node rest h)
+            (λ x. refl) (first_same h n o) (λ x a. a) (λ x a. a) (old.listed.each h n o);
+      };
     }
 
     grouped : (empty : List ℕ) → IsGrouped (kind_at s format.nodes_file) (first_link s) (rec_at s format.groups_file) (group_at s) empty
@@ -123,14 +140,16 @@ module _ (s : Records) (shape : Shape) (node g : ℕ) (rec : Rec) (used : is_gro
       owned = old.owned;
       each = λ n d. let h = old.each n d in record {
         members = h.members;
-        chain = chain_stays (λ k. field 4 (rec_at s format.groups_file k) format.group_next) (λ k. field 4 (rec_at s format.groups_file k) format.group_previous)
+        chain = chain_stays (λ k. field 4 (rec_at s format.groups_file k) format.group_next) (λ k. field 4 (rec_at s format.groups_file k)
+            format.group_previous)
             (λ k. field 4 (rec_at t format.groups_file k) format.group_next) (λ k. field 4 (rec_at t format.groups_file k) format.group_previous) format.nil
             (first_link s n) h.members
             (λ k i. number k format.group_next (omega arith, omega arith)) (λ k i. number k format.group_previous (omega arith, omega arith)) h.chain;
         only = h.only;
         filled = λ k i. ⊎_elim (λ f. inl (filled_same k ∙ f)) (λ j. inr j) (h.filled k i);
         all = h.all;
-        once = λ a b i j e. h.once a b i j (sym (number a format.group_type (omega arith, omega arith)) ∙ e ∙ number b format.group_type (omega arith, omega arith));
+        once = λ a b i j e. h.once a b i j (sym (number a format.group_type (omega arith, omega arith)) ∙ e ∙ number b format.group_type
+            (omega arith, omega arith));
       };
     }
 

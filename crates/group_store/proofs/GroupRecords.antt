@@ -45,7 +45,8 @@ pub group_is : (records : Records) (node g : ℕ) (rec : Rec) → g < high recor
 group_is records node g rec lt got test =
     let both = both_true (field 1 rec format.kind) (field 4 rec format.group_owner) node test in
     record {
-      kind = ap is_group_kind (kind_low (high records format.groups_file) (rec_at records format.groups_file g) g lt ∙ ap (λ r. field 1 r format.kind) (sym got)) ∙ both.0;
+      kind = ap is_group_kind (kind_low (high records format.groups_file) (rec_at records format.groups_file g) g lt ∙ ap (λ r. field 1 r format.kind)
+          (sym got)) ∙ both.0;
       owner = ap (λ r. field 4 r format.group_owner) (sym got) ∙ both.1;
     }
 
@@ -54,7 +55,8 @@ pub group_is_not : (records : Records) (node g : ℕ) (rec : Rec) → rec ≡ re
 group_is_not records node g rec got test is =
     let lt = group_below records node g is in
     not_both (field 1 rec format.kind) (field 4 rec format.group_owner) node test
-    (ap is_group_kind (ap (λ r. field 1 r format.kind) got ∙ sym (kind_low (high records format.groups_file) (rec_at records format.groups_file g) g lt)) ∙ is.kind)
+    (ap is_group_kind (ap (λ r. field 1 r format.kind) got ∙ sym (kind_low (high records format.groups_file) (rec_at records format.groups_file g) g lt))
+    ∙ is.kind)
     (ap (λ r. field 4 r format.group_owner) got ∙ is.owner)
 
 -- what is below the mark and no group of the node is none of its records, or of no kind
@@ -76,4 +78,5 @@ not_member s node g rec lt got test = by (nat_eq kind format.free_kind) (nat_eq 
     by true grouped counted a b c = NoMember (λ is. is.used (same ∙ eqb-true kind format.free_kind a))
     by false true counted a b c = NoMember (no_group (rw b refl))
     by false false true a b c = NoMember (no_group (rw (b, c) refl))
-    by false false false a b c = UnknownMember lt (ap (λ r. layout_by format.groups_file r (field 1 r format.kind)) (sym got) ∙ layout-other rec kind a (rw (b, c) refl))
+    by false false false a b c = UnknownMember lt (ap (λ r. layout_by format.groups_file r (field 1 r format.kind)) (sym got) ∙ layout-other rec kind a
+        (rw (b, c) refl))

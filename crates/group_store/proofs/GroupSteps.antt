@@ -46,7 +46,8 @@ range_put s shape file x rec is fits old =
       covers = λ y lt ne. let e = ap (λ (m : ℕ → ℕ). m file) marks in omega arith;
     } in
     ch.in_range s t file x change shape (subst (λ r. metas.IsMetaInRange shape file r) (sym (meta file)) (old.metas file is))
-    (λ lt. subst (Fits (high t) file) (sym (put_same s (key_in file x) rec)) (subst (λ (m : ℕ → ℕ). Fits m file rec) (sym marks) (fits (subst (λ (m : ℕ → ℕ). x < m file) marks lt)))) old
+    (λ lt. subst (Fits (high t) file) (sym (put_same s (key_in file x) rec)) (subst (λ (m : ℕ → ℕ). Fits m file rec) (sym marks)
+    (fits (subst (λ (m : ℕ → ℕ). x < m file) marks lt)))) old
 
 -- the second rule for the groups, where one in use gets another record of its kind
 pub split_put : (s : Records) (x : ℕ) (rec : Rec) (free : List ℕ) → field 1 rec format.kind ≡ field 1 (rec_at s format.groups_file x) format.kind
@@ -59,7 +60,8 @@ split_put s x rec free kind used k =
     kind_by (high s format.groups_file) (rec_at t format.groups_file y) (rec_at s format.groups_file y) y (byte y) in
     subst (λ v. IsSplit t format.groups_file v free) (sym (λ i y. not (nat_eq (kinds y i) 0))) (record {
       walk = walk_stays (next_free s format.groups_file) (next_free t format.groups_file) (meta_in s format.groups_file).free free
-          (λ y i. ap (λ r. field 4 r format.free_next) (put_other s (key_in format.groups_file x) rec (key_in format.groups_file y) (λ e. apart y i (ap (λ (q : Key). q.id) e)))) k.walk;
+          (λ y i. ap (λ r. field 4 r format.free_next) (put_other s (key_in format.groups_file x) rec (key_in format.groups_file y)
+          (λ e. apart y i (ap (λ (q : Key). q.id) e)))) k.walk;
       low = k.low;
       only = k.only;
       all = k.all;
@@ -69,9 +71,11 @@ split_put s x rec free kind used k =
     byte : (y : ℕ) → field 1 (rec_at (put s (key_in format.groups_file x) rec) format.groups_file y) format.kind ≡ field 1 (rec_at s format.groups_file y)
         format.kind
     byte y = ⊎_elim
-        (λ (e : y ≡ x). ap (λ z. field 1 (rec_at (put s (key_in format.groups_file x) rec) format.groups_file z) format.kind) e ∙ ap (λ r. field 1 r format.kind) (put_same s (key_in format.groups_file x) rec)
+        (λ (e : y ≡ x). ap (λ z. field 1 (rec_at (put s (key_in format.groups_file x) rec) format.groups_file z) format.kind) e ∙ ap
+        (λ r. field 1 r format.kind) (put_same s (key_in format.groups_file x) rec)
         ∙ kind ∙ ap (λ z. field 1 (rec_at s format.groups_file z) format.kind) (sym e))
-        (λ (ne : y ≢ x). ap (λ r. field 1 r format.kind) (put_other s (key_in format.groups_file x) rec (key_in format.groups_file y) (λ e. ne (ap (λ (q : Key). q.id) e)))) (nat_cases y x)
+        (λ (ne : y ≢ x). ap (λ r. field 1 r format.kind) (put_other s (key_in format.groups_file x) rec (key_in format.groups_file y)
+        (λ e. ne (ap (λ (q : Key). q.id) e)))) (nat_cases y x)
 
     apart : (y : ℕ) → In y free → y ≢ x
     apart y i e = used (ap (kind_at s format.groups_file) (sym e) ∙ not_live (kind_at s format.groups_file y) (k.only y i))
@@ -89,7 +93,8 @@ pub record HasStepped (s t : Records) (shape : Shape) (node : ℕ) : Type 0 wher
 module _ (s t : Records) (shape : Shape) (node : ℕ) (h : HasStepped s t shape node) where
   -- a number of a group, but its kind, its type and its owner
   step_group : (x at to : ℕ) → kind_at t format.groups_file x ≢ 0 → 1 ≤ at → at + 4 ≤ 64
-      → (x < high t format.groups_file → Fits (high t) format.groups_file (rec_at t format.groups_file x) → Fits (high t) format.groups_file (with_field 4 (rec_at t format.groups_file x) at to))
+      → (x < high t format.groups_file → Fits (high t) format.groups_file (rec_at t format.groups_file x) → Fits (high t) format.groups_file
+      (with_field 4 (rec_at t format.groups_file x) at to))
       → HasStepped s (set_at t (number_at format.groups_file x at) to) shape node
   step_group x at to used low inside fits =
       let rec : Rec = with_field 4 (rec_at t format.groups_file x) at to in
@@ -134,7 +139,8 @@ module _ (s t : Records) (shape : Shape) (node : ℕ) (h : HasStepped s t shape 
       (λ lt. fits_group_first (high t) (rec_at t format.groups_file x) at to place (small_low format.relationships_file to low) low (group_is x is lt))
     where
       within : (1 ≤ at) × (at + 4 ≤ 64)
-      within = ⊎_elim (λ (e : at ≡ 20). (omega arith, omega arith)) (λ k. ⊎_elim (λ (e : at ≡ 24). (omega arith, omega arith)) (λ (e : at ≡ 28). (omega arith, omega arith)) k) place
+      within = ⊎_elim (λ (e : at ≡ 20). (omega arith, omega arith)) (λ k. ⊎_elim (λ (e : at ≡ 24). (omega arith, omega arith))
+          (λ (e : at ≡ 28). (omega arith, omega arith)) k) place
 
   -- a link of a relationship
   pub step_link : (x at to : ℕ) → IsLink at → kind_at t format.relationships_file x ≡ format.related → IsLow (high t format.relationships_file) to
@@ -152,13 +158,15 @@ module _ (s t : Records) (shape : Shape) (node : ℕ) (h : HasStepped s t shape 
               (λ _. apart n place aside);
         });
         ranges = range_put t shape format.relationships_file x rec refl
-            (λ lt. fits_link (high t) (rec_at t format.relationships_file x) at to link (small_low format.relationships_file to low) low (kind_is format.relationships_file x format.related is lt) (h.ranges.fit format.relationships_file x refl lt)) h.ranges;
+            (λ lt. fits_link (high t) (rec_at t format.relationships_file x) at to link (small_low format.relationships_file to low) low
+            (kind_is format.relationships_file x format.related is lt) (h.ranges.fit format.relationships_file x refl lt)) h.ranges;
         free = h.free;
         split = split_same t m format.groups_file h.free (record { meta = refl; each = λ y. refl }) h.split;
       }
     where
       within : (16 ≤ at) × (at + 4 ≤ 32)
-      within = ⊎_elim (λ (e : at ≡ 16). (omega arith, omega arith)) (λ k. ⊎_elim (λ (e : at ≡ 20). (omega arith, omega arith)) (λ l. ⊎_elim (λ (e : at ≡ 24). (omega arith, omega arith)) (λ (e : at ≡ 28). (omega arith, omega arith)) l) k) link
+      within = ⊎_elim (λ (e : at ≡ 16). (omega arith, omega arith)) (λ k. ⊎_elim (λ (e : at ≡ 20). (omega arith, omega arith))
+          (λ l. ⊎_elim (λ (e : at ≡ 24). (omega arith, omega arith)) (λ (e : at ≡ 28). (omega arith, omega arith)) l) k) link
 
       apart : (n place : ℕ) → (place + n ≤ 16) ⊎ (32 ≤ place) → (place + n ≤ at) ⊎ (at + 4 ≤ place)
       apart n place k = ⊎_elim (λ (l : place + n ≤ 16). inl (let b = within.0 in omega arith)) (λ (l : 32 ≤ place). inr (let b = within.1 in omega arith)) k
@@ -181,7 +189,8 @@ module _ (s t : Records) (shape : Shape) (node : ℕ) (h : HasStepped s t shape 
           rels = λ y n place inside apart. refl;
         });
         ranges = range_put t shape format.nodes_file node rec refl
-            (λ lt. fits_dense_first (high t) (rec_at t format.nodes_file node) to (small_low format.groups_file to low) low (kind_is format.nodes_file node format.dense is lt) (h.ranges.fit format.nodes_file node refl lt)) h.ranges;
+            (λ lt. fits_dense_first (high t) (rec_at t format.nodes_file node) to (small_low format.groups_file to low) low
+            (kind_is format.nodes_file node format.dense is lt) (h.ranges.fit format.nodes_file node refl lt)) h.ranges;
         free = h.free;
         split = split_same t m format.groups_file h.free (record { meta = refl; each = λ y. refl }) h.split;
       }

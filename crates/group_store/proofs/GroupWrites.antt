@@ -16,7 +16,8 @@ pub made_writes : (s t : State) (node first id : ℕ) → WritesOnly s t (group_
     → WritesBeside (node_key node) 2 s t
 made_writes s t node first id = these_written (node_key node) s t (group_key first ∷ group_key id ∷ [])
     (group_key first ∷ group_key id ∷ node_key node ∷ meta_key_of format.groups_file ∷ []) (refl, (refl, tt))
-    (λ q i. ⊎_elim (λ e. inr (inl e)) (λ j. ⊎_elim (λ e. inr (inr (inl e))) (λ k. ⊎_elim (λ e. inl e) (λ l. ⊎_elim (λ e. inr (inr (inr (among_metas format.groups_file q refl e)))) (λ e. absurd e) l) k) j) i)
+    (λ q i. ⊎_elim (λ e. inr (inl e)) (λ j. ⊎_elim (λ e. inr (inr (inl e))) (λ k. ⊎_elim (λ e. inl e)
+    (λ l. ⊎_elim (λ e. inr (inr (inr (among_metas format.groups_file q refl e)))) (λ e. absurd e) l) k) j) i)
 
 -- a group that is found or made, by its own record
 pub opened_writes : (s t : State) (node first id : ℕ) → WritesOnly s t (group_key id ∷ group_key first ∷ node_key node ∷ meta_key_of format.groups_file ∷ [])
@@ -27,7 +28,8 @@ opened_writes s t node first id w = record {
   own = (refl, tt);
   only = writes_more s t (group_key id ∷ group_key first ∷ node_key node ∷ meta_key_of format.groups_file ∷ [])
       (node_key node ∷ group_key id ∷ group_key first ∷ meta_keys)
-      (λ q i. ⊎_elim (λ e. inr (inl e)) (λ j. ⊎_elim (λ e. inr (inr (inl e))) (λ k. ⊎_elim (λ e. inl e) (λ l. ⊎_elim (λ e. inr (inr (inr (among_metas format.groups_file q refl e)))) (λ e. absurd e) l) k) j) i) w;
+      (λ q i. ⊎_elim (λ e. inr (inl e)) (λ j. ⊎_elim (λ e. inr (inr (inl e))) (λ k. ⊎_elim (λ e. inl e)
+      (λ l. ⊎_elim (λ e. inr (inr (inr (among_metas format.groups_file q refl e)))) (λ e. absurd e) l) k) j) i) w;
 }
 
 -- a group that is found or made, and then counted
@@ -60,8 +62,11 @@ opened_then s t u node head h k = record {
   own = own_both h.keys k.keys h.own k.own;
   only = record {
     each = λ q w. ⊎_elim
-        (λ old. ⊎_elim (λ older. inl older) (λ i. inr (⊎_elim (λ e. inl e) (λ l. inr (inr (among_both q h.keys meta_keys (λ j. among_left q (h.keys ++ k.keys) meta_keys (among_left q h.keys k.keys j)) (among_right q (h.keys ++ k.keys) meta_keys) l))) i)) (h.only.each q old))
-        (λ i. inr (⊎_elim (λ e. inl e) (λ l. inr (⊎_elim (λ e. inl e) (λ p. inr (among_both q k.keys meta_keys (λ j. among_left q (h.keys ++ k.keys) meta_keys (among_right q h.keys k.keys j)) (among_right q (h.keys ++ k.keys) meta_keys) p)) l)) i)) (k.only.each q w);
+        (λ old. ⊎_elim (λ older. inl older)
+        (λ i. inr (⊎_elim (λ e. inl e) (λ l. inr (inr (among_both q h.keys meta_keys (λ j. among_left q (h.keys ++ k.keys) meta_keys
+        (among_left q h.keys k.keys j)) (among_right q (h.keys ++ k.keys) meta_keys) l))) i)) (h.only.each q old))
+        (λ i. inr (⊎_elim (λ e. inl e) (λ l. inr (⊎_elim (λ e. inl e) (λ p. inr (among_both q k.keys meta_keys (λ j. among_left q (h.keys ++ k.keys) meta_keys
+        (among_right q h.keys k.keys j)) (among_right q (h.keys ++ k.keys) meta_keys) p)) l)) i)) (k.only.each q w);
   };
 }
 
@@ -70,4 +75,12 @@ opened_more le h = record { keys = h.keys; few = let f = h.few in omega arith; o
 
 -- nothing was written
 pub opened_none : (s t : State) (node : ℕ) (head : Key) → SameButReads s t → WritesOpened s t node head 0
-opened_none s t node head same = record { keys = []; few = omega arith; own = tt; only = record { each = λ q w. inl (subst (λ (z : State). z.written q ≡ true) same w) } }
+opened_none s t node head same = record {
+  keys = [];
+  few = omega arith;
+  own = tt;
+  only = record {
+    each = λ q w. inl (subst (λ (z : State). z.written q ≡ true)
+        same w);
+  };
+}

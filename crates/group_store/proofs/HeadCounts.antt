@@ -33,7 +33,8 @@ more_from old was new group row same h = record {
 }
 
 in_places : (at : ℕ) → IsCountPlace at → (32 ≤ at) × (at + 4 ≤ 44)
-in_places at is = ⊎_elim (λ (e : at ≡ 32). (omega arith, omega arith)) (λ k. ⊎_elim (λ (e : at ≡ 36). (omega arith, omega arith)) (λ (e : at ≡ 40). (omega arith, omega arith)) k) is
+in_places at is = ⊎_elim (λ (e : at ≡ 32). (omega arith, omega arith)) (λ k. ⊎_elim (λ (e : at ≡ 36). (omega arith, omega arith))
+    (λ (e : at ≡ 40). (omega arith, omega arith)) k) is
 
 -- the head is one where the row stands, in a store that keeps the rules; the group is counted, and has its numbers still
 module _ (s : Records) (shape : Shape) {most : ℕ} {empty : List ℕ} (well : KeepsRules s shape most empty) (row : RelRow) (h : Head) (n : ℕ)
@@ -87,7 +88,8 @@ module _ (s : Records) (shape : Shape) {most : ℕ} {empty : List ℕ} (well : K
       rec_p = ap p.records key
 
       place_low : (32 ≤ h.field + 12) × (h.field + 12 + 4 ≤ 44)
-      place_low = in_places (h.field + 12) (side_small h.field (rec_at s format.groups_file g) group row (rel_at s) (high s format.relationships_file) side exact).1
+      place_low = in_places (h.field + 12) (side_small h.field (rec_at s format.groups_file g) group row (rel_at s) (high s format.relationships_file)
+          side exact).1
 
       number : field 4 (p.records h.key) (h.field + 12) ≡ field 4 (rec_at s format.groups_file g) (h.field + 12)
       number = ap (λ (r : Rec). field 4 r (h.field + 12)) rec_p ∙ same (h.field + 12) place_low
@@ -96,7 +98,8 @@ module _ (s : Records) (shape : Shape) {most : ℕ} {empty : List ℕ} (well : K
       is_counted_p = ap is_counted rec_p ∙ eq_true _ _ byte
 
       low : field 4 (p.records h.key) (h.field + 12) < 2 ^ 32 - 1
-      low = let e = number in let few = (side_small h.field (rec_at s format.groups_file g) group row (rel_at s) (high s format.relationships_file) side exact).0 in
+      low = let e = number in let few = (side_small h.field (rec_at s format.groups_file g) group row (rel_at s) (high s format.relationships_file)
+          side exact).0 in
           let mark = high_most s shape format.relationships_file well.ranges refl in omega arith
 
       more_there : HasOneMore (rec_at s format.groups_file g) (rec_at (tallied one_more p h).records format.groups_file g) group row
@@ -106,7 +109,8 @@ module _ (s : Records) (shape : Shape) {most : ℕ} {empty : List ℕ} (well : K
           let new = with_field 4 (p.records h.key) (count_place h.field) (one_more (field 4 (p.records h.key) (count_place h.field))) in
           subst (λ (k : Key). HasOneMore (rec_at s format.groups_file g) (put p.records h.key new k) group row) key
           (subst (λ (r : Rec). HasOneMore (rec_at s format.groups_file g) r group row) (sym (put_same p.records h.key new))
-          (more_from (p.records h.key) (rec_at s format.groups_file g) new group row (λ at w. ap (λ (r : Rec). field 4 r at) rec_p ∙ same at w) (more_counted (p.records h.key) h.field group row typed side low))))
+          (more_from (p.records h.key) (rec_at s format.groups_file g) new group row (λ at w. ap (λ (r : Rec). field 4 r at) rec_p ∙ same at w)
+          (more_counted (p.records h.key) h.field group row typed side low))))
           (λ _ no. absurd (true≢false (sym is_counted_p ∙ no)))
 
       -- it is counted there
@@ -118,17 +122,21 @@ module _ (s : Records) (shape : Shape) {most : ℕ} {empty : List ℕ} (well : K
         positive : (test : RelRow → Bool) → test row ≡ true → 1 ≤ count_of test (rel_at s) (high s format.relationships_file)
         positive test passed = ⊎_elim
             (λ (z : count_of test (rel_at s) (high s format.relationships_file) < 1).
-            absurd (true≢false (sym (ap (passes test) live ∙ passed) ∙ ids_empty (λ y. passes test (rel_at s y)) (high s format.relationships_file) (omega arith) x below)))
+            absurd (true≢false (sym (ap (passes test) live ∙ passed) ∙ ids_empty (λ y. passes test (rel_at s y)) (high s format.relationships_file)
+            (omega arith) x below)))
             (λ (ge : 1 ≤ count_of test (rel_at s) (high s format.relationships_file)). ge)
             (cases_lt (count_of test (rel_at s) (high s format.relationships_file)) 1)
 
         some_at : (at : ℕ) → IsSide at group row → 1 ≤ field 4 (rec_at s format.groups_file g) (at + 12)
         some_at at (inl k) = subst (λ a. 1 ≤ field 4 (rec_at s format.groups_file g) (a + 12)) (sym k.0)
-            (let c = positive (is_out_of group) (λ i. eq_true row.label group.label typed i && (eq_true row.from group.owner k.1 i && not (eq_false row.to group.owner k.2 i))) in let e = exact.out in omega (arith, c, e))
+            (let c = positive (is_out_of group) (λ i. eq_true row.label group.label typed i && (eq_true row.from group.owner k.1 i && not
+            (eq_false row.to group.owner k.2 i))) in let e = exact.out in omega (arith, c, e))
         some_at at (inr (inl k)) = subst (λ a. 1 ≤ field 4 (rec_at s format.groups_file g) (a + 12)) (sym k.0)
-            (let c = positive (is_into group) (λ i. eq_true row.label group.label typed i && (not (eq_false row.from group.owner k.1 i) && eq_true row.to group.owner k.2 i)) in let e = exact.into in omega (arith, c, e))
+            (let c = positive (is_into group) (λ i. eq_true row.label group.label typed i && (not (eq_false row.from group.owner k.1 i) && eq_true row.to
+            group.owner k.2 i)) in let e = exact.into in omega (arith, c, e))
         some_at at (inr (inr k)) = subst (λ a. 1 ≤ field 4 (rec_at s format.groups_file g) (a + 12)) (sym k.0)
-            (let c = positive (is_loop_of group) (λ i. eq_true row.label group.label typed i && (eq_true row.from group.owner k.1 i && eq_true row.to group.owner k.2 i)) in let e = exact.loops in omega (arith, c, e))
+            (let c = positive (is_loop_of group) (λ i. eq_true row.label group.label typed i && (eq_true row.from group.owner k.1 i && eq_true row.to
+            group.owner k.2 i)) in let e = exact.loops in omega (arith, c, e))
 
         less_there : HasOneMore (rec_at (tallied one_less p h).records format.groups_file g) (rec_at s format.groups_file g) group row
         less_there = tally_cases one_less p h (λ z. HasOneMore (rec_at z.records format.groups_file g) (rec_at s format.groups_file g) group row)
@@ -137,7 +145,8 @@ module _ (s : Records) (shape : Shape) {most : ℕ} {empty : List ℕ} (well : K
             let new = with_field 4 (p.records h.key) (count_place h.field) (one_less (field 4 (p.records h.key) (count_place h.field))) in
             subst (λ (k : Key). HasOneMore (put p.records h.key new k) (rec_at s format.groups_file g) group row) key
             (subst (λ (r : Rec). HasOneMore r (rec_at s format.groups_file g) group row) (sym (put_same p.records h.key new))
-            (more_like new (p.records h.key) (rec_at s format.groups_file g) group row (λ at w. sym (ap (λ (r : Rec). field 4 r at) rec_p ∙ same at (in_places at w)))
+            (more_like new (p.records h.key) (rec_at s format.groups_file g) group row (λ at w. sym (ap (λ (r : Rec). field 4 r at) rec_p ∙ same at
+            (in_places at w)))
             (less_counted (p.records h.key) h.field group row typed side (let e = number in let c = some_at h.field side in omega arith)))))
             (λ _ no. absurd (true≢false (sym is_counted_p ∙ no)))
 

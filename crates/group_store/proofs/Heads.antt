@@ -72,7 +72,8 @@ module _ (s z y : State) (same : SameButReads s z) (then : SameButReads z y) (no
         counted = λ is. h.counted;
         kinds = h.kinds;
         group_kinds = λ g other is ne. h.others g (λ e. ne (ap (λ (q : views.GroupRow). q.owner) (same_group other (row_as group.id group.label node)
-            (sym is ∙ ap (group_at s.records) e ∙ ap (λ (q : Records). group_at q group.id) (sym (same_records s y after)) ∙ group_is y node group can.group))));
+            (sym is ∙ ap (group_at s.records) e ∙ ap (λ (q : Records). group_at q group.id) (sym (same_records s y after)) ∙ group_is y node group
+            can.group))));
         regroups = h.regroups;
       }
 
@@ -95,7 +96,15 @@ pub placed_group : (s : State) (node label : ℕ) (group : GroupRow) (side : Sid
     → IsAt node label side row → IsPlaced s.records (group_head group.id side) node row
 placed_group s node label group side row here typed at = record {
   owns = inr (record {
-    own = record { dense = here.dense; row = row_as group.id group.label node; group = group_is s node group here; owner = refl; key = refl; field = place_first side };
+    own = record {
+      dense = here.dense;
+      row = row_as group.id group.label node;
+      group = group_is s node group here;
+      owner = refl;
+      key = refl;
+      field = place_first
+          side;
+    };
     on = here.on;
   });
   on = (group_end s.records node group.id label side row here.member (sym (ap (λ (q : GroupRow). q.label) here.is) ∙ typed) at here.dense).on;

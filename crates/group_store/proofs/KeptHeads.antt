@@ -47,7 +47,14 @@ pub record IsAlike (s t : Records) : Type 0 where
 
 pub heads_alike : (s t : Records) → IsAlike s t → (h : Head) (n : ℕ) → IsHeadOf s h n → IsHeadOf t h n
 heads_alike s t alike h n (inl o) = inl (record { sparse = alike.nodes n ∙ o.sparse; is = o.is })
-heads_alike s t alike h n (inr o) = inr (record { dense = alike.nodes n ∙ o.dense; row = o.row; group = alike.groups o.row.id o.row o.group; owner = o.owner; key = o.key; field = o.field })
+heads_alike s t alike h n (inr o) = inr (record {
+  dense = alike.nodes n ∙ o.dense;
+  row = o.row;
+  group = alike.groups o.row.id o.row o.group;
+  owner = o.owner;
+  key = o.key;
+  field = o.field;
+})
 
 alike_none : (s : Records) → IsAlike s s
 alike_none s = record { nodes = λ n. refl; groups = λ g row is. is }
@@ -95,7 +102,8 @@ alike_set : (s : Records) (p : Head) (to : ℕ) → p.key.file ≢ format.meta_f
     → IsAlike s (set_at s p to)
 alike_set s p to no_meta far low = alike_by s (set_at s p to) (mark format.nodes_file) (mark format.groups_file)
     (λ n. field-set_other s p to (key_in format.nodes_file n) 1 format.kind (omega arith) (λ e. inl (omega arith)))
-    (λ g n at within. field-set_other s p to (key_in format.groups_file g) n at (omega arith) (λ e. inl (let w = far (sym (ap (λ (k : Key). k.file) e)) in omega arith)))
+    (λ g n at within. field-set_other s p to (key_in format.groups_file g) n at (omega arith) (λ e. inl (let w = far (sym (ap (λ (k : Key). k.file) e)) in omega
+    arith)))
   where
     mark : (f : ℕ) → high (set_at s p to) f ≡ high s f
     mark f = ap (λ (m : Meta). m.high) (meta_in-put_other s p.key (with_field 4 (s p.key) p.field to) f (λ e. no_meta (sym (ap (λ (k : Key). k.file) e))))
@@ -110,7 +118,8 @@ alike_backed s g to = on_test (λ (z : State). IsAlike s.records z.records) g fo
 alike_follows : (s : State) (node before after : ℕ) → IsAlike s.records (follows s node before after).records
 unfolding follows
 alike_follows s node before after = on_test (λ (z : State). IsAlike s.records z.records) before format.nil _ (link_set s before format.group_next after)
-    (λ _. alike_set s.records (record { key = key_in format.nodes_file node; field = format.node_first_link }) after (λ e. omega arith) (λ e. omega arith) (omega arith))
+    (λ _. alike_set s.records (record { key = key_in format.nodes_file node; field = format.node_first_link }) after (λ e. omega arith) (λ e. omega arith)
+    (omega arith))
     (λ _. alike_set s.records (record { key = group_key before; field = format.group_next }) after (λ e. omega arith) (λ e. omega arith) (omega arith))
 
 -- its identifier is given back
@@ -129,7 +138,8 @@ module _ (l : State) (g : ℕ) (small : g < 2 ^ 32) where
       ∙ put_other l.records (key_in format.groups_file g) (free_record (meta_of l format.groups_file).free) q ne
 
   pub mark_groups : high t.records format.groups_file ≡ high l.records format.groups_file
-  mark_groups = ap (λ (k : Meta). k.high) (meta_of-after_meta freed format.groups_file counts (high_fits l.records format.groups_file) small (let b = live_fits l.records format.groups_file in omega arith))
+  mark_groups = ap (λ (k : Meta). k.high) (meta_of-after_meta freed format.groups_file counts (high_fits l.records format.groups_file) small
+      (let b = live_fits l.records format.groups_file in omega arith))
 
   mark_nodes : high t.records format.nodes_file ≡ high l.records format.nodes_file
   mark_nodes = ap (λ (k : Meta). k.high) (meta_of-after_meta_other freed format.groups_file counts format.nodes_file (λ e. omega arith)
@@ -139,7 +149,8 @@ module _ (l : State) (g : ℕ) (small : g < 2 ^ 32) where
   kind_given : (n : ℕ) → kind_at t.records format.nodes_file n ≡ kind_at l.records format.nodes_file n
   kind_given n = ap (λ m. kind_in m (rec_at t.records format.nodes_file n) n) mark_nodes
       ∙ ap (λ (r : Rec). kind_in (high l.records format.nodes_file) r n)
-      (record_given (key_in format.nodes_file n) (λ e. let f = ap (λ (k : Key). k.file) e in omega arith) (λ e. let f = ap (λ (k : Key). k.file) e in omega arith))
+      (record_given (key_in format.nodes_file n) (λ e. let f = ap (λ (k : Key). k.file) e in omega arith) (λ e. let f = ap (λ (k : Key). k.file)
+      e in omega arith))
 
   heads_given : (h : Head) (n : ℕ) → h.key ≢ group_key g → IsHeadOf l.records h n → IsHeadOf t.records h n
   heads_given h n ne (inl o) = inl (record { sparse = kind_given n ∙ o.sparse; is = o.is })
@@ -235,8 +246,10 @@ alike_raised s g counts =
           let was : s.records (group_key g) ≡ rec_at s.records format.groups_file k = ap s.records (sym e) in
           group_kept s.records t k row (marks format.groups_file)
           (λ _ z. let byte = ap (λ (r : Rec). field 1 r format.kind) (sym there) ∙ z in let c = raised_kind (s.records (group_key g)) counts in omega arith)
-          (ap (λ (r : Rec). field 4 r format.group_type) there ∙ raised_number (s.records (group_key g)) counts format.group_type (omega arith) (omega arith) ∙ ap (λ (r : Rec). field 4 r format.group_type) was)
-          (ap (λ (r : Rec). field 4 r format.group_owner) there ∙ raised_number (s.records (group_key g)) counts format.group_owner (omega arith) (omega arith) ∙ ap (λ (r : Rec). field 4 r format.group_owner) was) is)
+          (ap (λ (r : Rec). field 4 r format.group_type) there ∙ raised_number (s.records (group_key g)) counts format.group_type (omega arith) (omega arith)
+          ∙ ap (λ (r : Rec). field 4 r format.group_type) was)
+          (ap (λ (r : Rec). field 4 r format.group_owner) there ∙ raised_number (s.records (group_key g)) counts format.group_owner (omega arith) (omega arith)
+          ∙ ap (λ (r : Rec). field 4 r format.group_owner) was) is)
           (λ (ne : group_key k ≢ group_key g).
           let same = put_other s.records (group_key g) rec (group_key k) ne in
           group_kept s.records t k row (marks format.groups_file) (λ some z. some (ap (λ (r : Rec). field 1 r format.kind) (sym same) ∙ z))
@@ -249,7 +262,8 @@ heads_same s t same = subst (λ (z : State). KeepsHeads s z) (sym same) (λ h n 
 
 pub heads_raised : (s z t : State) (g : ℕ) (counts : Counts) → SameButReads s z → t ≡ raised_state z g counts → KeepsHeads s t
 heads_raised s z t g counts same is h n o =
-    subst (λ (q : State). IsHeadOf q.records h n) (sym is) (heads_alike z.records (raised_state z g counts).records (alike_raised z g counts) h n (heads_same s z same h n o))
+    subst (λ (q : State). IsHeadOf q.records h n) (sym is) (heads_alike z.records (raised_state z g counts).records (alike_raised z g counts) h n
+    (heads_same s z same h n o))
 
 pub heads_then : (s t u : State) → KeepsHeads s t → KeepsHeads t u → KeepsHeads s u
 heads_then s t u a b h n o = b h n (a h n o)
@@ -263,7 +277,15 @@ place_first Loop = inr (inr refl)
 
 -- that of a group of the node
 pub own_head : (s : State) (node : ℕ) (group : OwnRow) (side : Side) → IsGroupAt s node group → IsHeadOf s.records (group_head group.id side) node
-own_head s node group side at = inr (record { dense = at.dense; row = row_as group.id group.label node; group = group_is s node group at; owner = refl; key = refl; field = place_first side })
+own_head s node group side at = inr (record {
+  dense = at.dense;
+  row = row_as group.id group.label node;
+  group = group_is s node group at;
+  owner = refl;
+  key =
+      refl;
+  field = place_first side;
+})
 
 -- ---- a node that was read
 

@@ -68,7 +68,8 @@ taken_marks s id is small undamaged = ⊎_elim
     let same : id ≡ (meta_of s format.groups_file).high = subst (λ b. id ≡ cond b (meta_of s format.groups_file).high (meta_of s format.groups_file).free) test
     is in
     let more : high (mark_taken s format.groups_file).records format.groups_file ≡ (meta_of s format.groups_file).high + 1 = high_of _ (omega arith) in
-    subst (λ b. ((meta_of s format.groups_file).high ≤ high (cond b (mark_taken s format.groups_file) (free_taken s format.groups_file)).records format.groups_file) × (id < high (cond b (mark_taken s format.groups_file) (free_taken s format.groups_file)).records format.groups_file))
+    subst (λ b. ((meta_of s format.groups_file).high ≤ high (cond b (mark_taken s format.groups_file) (free_taken s format.groups_file)).records
+    format.groups_file) × (id < high (cond b (mark_taken s format.groups_file) (free_taken s format.groups_file)).records format.groups_file))
     (sym test) (omega arith, omega arith))
     (λ (some : (meta_of s format.groups_file).free ≢ format.nil).
     let test : nat_eq (meta_of s format.groups_file).free format.nil ≡ false = eq_false (meta_of s format.groups_file).free format.nil some in
@@ -77,13 +78,18 @@ taken_marks s id is small undamaged = ⊎_elim
     let fits : (meta_of s format.groups_file).high < 2 ^ 32 = field-lt 4 (s.records (meta_key_of format.groups_file)) format.meta_high in
     let kept : high (free_taken s format.groups_file).records format.groups_file ≡ (meta_of s format.groups_file).high = high_of _ fits in
     let low : (meta_of s format.groups_file).free < (meta_of s format.groups_file).high =
-    ⊎_elim (λ lt. lt) (λ (ge : (meta_of s format.groups_file).high ≤ (meta_of s format.groups_file).free). absurd (undamaged (meta_damage format.groups_file 1) (Unranged (λ r. ⊎_elim (λ e. some e) (λ lt. omega arith) r.first)))) (cases_lt (meta_of s format.groups_file).free (meta_of s format.groups_file).high) in
-    subst (λ b. ((meta_of s format.groups_file).high ≤ high (cond b (mark_taken s format.groups_file) (free_taken s format.groups_file)).records format.groups_file) × (id < high (cond b (mark_taken s format.groups_file) (free_taken s format.groups_file)).records format.groups_file))
+    ⊎_elim (λ lt. lt) (λ (ge : (meta_of s format.groups_file).high ≤ (meta_of s format.groups_file).free). absurd (undamaged (meta_damage format.groups_file 1)
+    (Unranged (λ r. ⊎_elim (λ e. some e) (λ lt. omega arith) r.first)))) (cases_lt (meta_of s format.groups_file).free
+    (meta_of s format.groups_file).high) in
+    subst (λ b. ((meta_of s format.groups_file).high ≤ high (cond b (mark_taken s format.groups_file) (free_taken s format.groups_file)).records
+    format.groups_file) × (id < high (cond b (mark_taken s format.groups_file) (free_taken s format.groups_file)).records format.groups_file))
     (sym test) (omega arith, omega arith))
     (nat_cases (meta_of s format.groups_file).free format.nil)
   where
-    high_of : (to : Meta) → to.high < 2 ^ 32 → field 4 (put s.records (meta_key_of format.groups_file) (metas.with_meta (s.records (meta_key_of format.groups_file)) to) (meta_key_of format.groups_file)) format.meta_high ≡ to.high
-    high_of to fits = ap (λ r. field 4 r format.meta_high) (put_same s.records (meta_key_of format.groups_file) (metas.with_meta (s.records (meta_key_of format.groups_file)) to)) ∙ high_with (s.records (meta_key_of format.groups_file)) to fits
+    high_of : (to : Meta) → to.high < 2 ^ 32 → field 4 (put s.records (meta_key_of format.groups_file)
+        (metas.with_meta (s.records (meta_key_of format.groups_file)) to) (meta_key_of format.groups_file)) format.meta_high ≡ to.high
+    high_of to fits = ap (λ r. field 4 r format.meta_high) (put_same s.records (meta_key_of format.groups_file)
+        (metas.with_meta (s.records (meta_key_of format.groups_file)) to)) ∙ high_with (s.records (meta_key_of format.groups_file)) to fits
 
 -- ---- a group that is made
 
@@ -134,26 +140,31 @@ module _ (s u : State) (node label id : ℕ) (others : (key : Key) → key ≢ m
       let lt : g < high s.records format.groups_file = kind_below (high s.records format.groups_file) (rec_at s.records format.groups_file g) g
       (h.used g i some) in
       let m = mark in
-      h.used g i some (kind_low (high s.records format.groups_file) (rec_at s.records format.groups_file g) g lt ∙ sym (number g 1 format.kind (omega arith) (off g i) (inl (omega arith)))
+      h.used g i some (kind_low (high s.records format.groups_file) (rec_at s.records format.groups_file g) g lt ∙ sym (number g 1 format.kind (omega arith)
+      (off g i) (inl (omega arith)))
       ∙ sym (kind_low (high after.records format.groups_file) (rec_at after.records format.groups_file g) g (omega arith)) ∙ is)
 
   used_here : kind_at after.records format.groups_file id ≢ format.free_kind
   used_here is =
       let m = mark in
-      let counted = sym (kind_low (high after.records format.groups_file) (rec_at after.records format.groups_file id) id (omega arith) ∙ ap (λ r. field 1 r format.kind) here ∙ kind-empty_group node label was_first small_node small_label small_first) ∙ is in
+      let counted = sym (kind_low (high after.records format.groups_file) (rec_at after.records format.groups_file id) id (omega arith) ∙ ap
+      (λ r. field 1 r format.kind) here ∙ kind-empty_group node label was_first small_node small_label small_first) ∙ is in
       omega arith
 
   leads_new : LeadsAmong after.records node came (groups ++ id ∷ [])
   leads_new = record {
     first = subst (λ z. In z (groups ++ id ∷ [])) (sym (first_here u node was_first id rec (omega arith))) (in_last id groups);
     next = λ g i some. ⊎_elim
-        (λ j. subst (λ z. In z (groups ++ id ∷ [])) (sym (number g 4 format.group_next (omega arith) (off g j) (inr (omega arith)))) (in_before (next_group s.records g) id groups (h.next g j some)))
-        (λ e. subst (λ z. In (next_group after.records z) (groups ++ id ∷ [])) (sym e) (subst (λ z. In z (groups ++ id ∷ [])) (sym (value format.group_next was_first refl)) (in_before was_first id groups h.first)))
+        (λ j. subst (λ z. In z (groups ++ id ∷ [])) (sym (number g 4 format.group_next (omega arith) (off g j) (inr (omega arith))))
+        (in_before (next_group s.records g) id groups (h.next g j some)))
+        (λ e. subst (λ z. In (next_group after.records z) (groups ++ id ∷ [])) (sym e) (subst (λ z. In z (groups ++ id ∷ []))
+        (sym (value format.group_next was_first refl)) (in_before was_first id groups h.first)))
         (in_push groups id g i);
     used = λ g i some. ⊎_elim (λ j. used_old g j some) (λ e. subst (λ z. kind_at after.records format.groups_file z ≢ format.free_kind) (sym e) used_here)
         (in_push groups id g i);
     heads = λ g i some side. let b = place_range side in ⊎_elim
-        (λ j. subst (λ z. In z came) (sym (number g 4 (place_of side) (let top = b.1 in omega arith) (off g j) (inr (let bottom = b.0 in omega arith)))) (h.heads g j some side))
+        (λ j. subst (λ z. In z came) (sym (number g 4 (place_of side) (let top = b.1 in omega arith) (off g j) (inr (let bottom = b.0 in omega arith))))
+        (h.heads g j some side))
         (λ e. subst (λ z. In (first_of after.records (group_head z side)) came) (sym e) (subst (λ z. In z came) (sym (head_here side)) h.no_rel))
         (in_push groups id g i);
     no_group = in_before format.nil id groups h.no_group;
@@ -179,7 +190,8 @@ leads_made s now u end node label first id rec read took id_is undamaged fresh f
     let marks = subst (λ (q : State). (high now.records format.groups_file ≤ high q.records format.groups_file) × (id < high q.records format.groups_file))
     (sym took) (taken_marks now id id_is small undamaged) in
     subst (λ (t : State). LeadsAmong t.records node came (groups ++ id ∷ [])) (sym end_is)
-    (leads_led now u node label id (λ key ne. ap (λ (q : State). q.records key) took ∙ taken_other now key ne) marks.0 marks.1 fresh small small_node small_label came groups
+    (leads_led now u node label id (λ key ne. ap (λ (q : State). q.records key) took ∙ taken_other now key ne) marks.0 marks.1 fresh small small_node
+    small_label came groups
     (subst (λ (r : Records). LeadsAmong r node came groups) (sym same) h))
 
 -- the relationships are as they were
@@ -217,7 +229,8 @@ leads_found s l node id same reached came groups h = (
 pub leads_own : (r : Result OwnGroup Fault) (s now end : State) (node : ℕ) → SameButReads s now
     → IfOk r (λ own. (came groups : List ℕ) → LeadsAmong now.records node came groups → LeadsAmong end.records node came (groups ++ own.row.id ∷ []))
     → IfOk r (λ own. own.first ≡ first_link now.records node)
-    → IfOk r (λ own. (came groups : List ℕ) → LeadsAmong s.records node came groups → LeadsAmong end.records node came (groups ++ own.row.id ∷ []) × In own.first groups)
+    → IfOk r (λ own. (came groups : List ℕ) → LeadsAmong s.records node came groups → LeadsAmong end.records node came (groups ++ own.row.id ∷ [])
+    × In own.first groups)
 leads_own (Err fault) s now end node same leads first = tt
 leads_own (Ok own) s now end node same leads first = λ came groups h.
     let there = subst (λ (q : State). LeadsAmong q.records node came groups) (sym same) h in
@@ -231,7 +244,8 @@ unfolding pushed
 pushed_next t h node rel y group ne =
     let first = first_of t.records h in
     let b = links.backed (after_get t) node first rel in
-    ap (λ r. next_in r node) (put_other (links.next_set b node rel first).records h.key (with_field 4 (t.records h.key) h.field rel) (key_in format.relationships_file y) (λ e. let f : format.relationships_file ≡ format.groups_file = ap (λ (k : Key). k.file) e ∙ group in omega arith))
+    ap (λ r. next_in r node) (put_other (links.next_set b node rel first).records h.key (with_field 4 (t.records h.key) h.field rel)
+    (key_in format.relationships_file y) (λ e. let f : format.relationships_file ≡ format.groups_file = ap (λ (k : Key). k.file) e ∙ group in omega arith))
     ∙ next_of-set_next_other b.records node rel first node y (λ e. absurd (ne e))
     ∙ next_of-backed (after_get t) node first rel node y
 
@@ -300,7 +314,8 @@ module _ (m : State) (node rel g : ℕ) (side : Side) (small : rel < 2 ^ 32) whe
   heads_now came k was s = ⊎_elim
       (λ (same : k ≡ g). ⊎_elim
       (λ (e : side ≡ s). subst (λ z. In (first_of moved.records (group_head z s)) (came ++ rel ∷ [])) (sym same)
-      (subst (λ z. In (first_of moved.records (group_head g z)) (came ++ rel ∷ [])) e (subst (λ z. In z (came ++ rel ∷ [])) (sym first_here_now) (in_last rel came))))
+      (subst (λ z. In (first_of moved.records (group_head g z)) (came ++ rel ∷ [])) e (subst (λ z. In z (came ++ rel ∷ [])) (sym first_here_now)
+      (in_last rel came))))
       (λ apart. kept (λ _. ⊎_elim (λ a. inr a) (λ b. inl b) apart)) (side_cases side s))
       (λ (ne : k ≢ g). kept (λ e. absurd (ne e))) (nat_cases k g)
     where
@@ -331,7 +346,8 @@ pub leads_turn : (s l m t end : State) (node rel : ℕ) (side : Side) (h : Head)
 leads_turn s l m t end node rel side h own first same opens group small freed head put first_is came groups was =
     let opened = opens came groups (subst (λ (q : State). LeadsAmong q.records node came groups) (sym same) was) in
     let end_of : moved m node rel own.row.id side (omega arith) ≡ end
-    = sym (put ∙ ap (λ (q : State). tallied one_more (pushed q h node rel) h) freed ∙ ap (λ (q : Head). tallied one_more (pushed (prev_set m node rel format.nil) q node rel) q) head) in
+    = sym (put ∙ ap (λ (q : State). tallied one_more (pushed q h node rel) h) freed ∙ ap (λ (q : Head). tallied one_more
+    (pushed (prev_set m node rel format.nil) q node rel) q) head) in
     let first_m : first ≡ first_of m.records (group_head own.row.id side)
     = first_is ∙ ap (λ (q : State). first_of q.records h) freed ∙ ap (λ (q : Head). first_of (prev_set m node rel format.nil).records q) head
     ∙ ap (λ r. field 4 r (place_of side)) (group_t m node rel own.row.id side (omega arith) own.row.id) in (
@@ -351,7 +367,8 @@ pub walk_turn : (s l m t end : State) (node rel : ℕ) (side : Side) (h : Head) 
     → (rest : List ℕ) → IsWalk (next_of s.records node) rel (rel ∷ rest) → IsWalk (next_of end.records node) next rest
 walk_turn s l m t end node rel side h g next same rels small freed head put next_is rest walk =
     let end_of : moved m node rel g side (omega arith) ≡ end
-    = sym (put ∙ ap (λ (q : State). tallied one_more (pushed q h node rel) h) freed ∙ ap (λ (q : Head). tallied one_more (pushed (prev_set m node rel format.nil) q node rel) q) head) in
+    = sym (put ∙ ap (λ (q : State). tallied one_more (pushed q h node rel) h) freed ∙ ap (λ (q : Head). tallied one_more
+    (pushed (prev_set m node rel format.nil) q node rel) q) head) in
     let stays : (y : ℕ) → In y rest → next_of end.records node y ≡ next_of s.records node y
     = λ y i. ap (λ (q : State). next_of q.records node y) (sym end_of) ∙ next_moved m node rel g side (omega arith) y
     (λ e. head_once (next_of s.records node) rel rest walk.1 walk.2 (subst (λ z. In z rest) e i))
@@ -394,13 +411,16 @@ rest_all s l v t node first said same_l same clear said_is chain =
       rest = h.members;
       walk = subst (λ (q : State). IsWalk (next_of q.records node) first h.members) (sym clear)
           (walk_stays (next_of s.records node) (next_of (cleared v node).records node) first h.members
-          (λ x i. ap (λ r. next_in r node) (put_other v.records (node_key node) (clear_of (rec_at v.records format.nodes_file node)) (key_in format.relationships_file x) (λ e. let f = ap (λ (k : Key). k.file) e in omega arith)) ∙ ap (λ (q : State). next_of q.records node x) same) h.walk);
+          (λ x i. ap (λ r. next_in r node) (put_other v.records (node_key node) (clear_of (rec_at v.records format.nodes_file node))
+          (key_in format.relationships_file x) (λ e. let f = ap (λ (k : Key). k.file) e in omega arith)) ∙ ap (λ (q : State). next_of q.records node x)
+          same) h.walk);
       live = h.live;
       few = omega arith;
     }
 
 module _ (s now : State) (node at count : ℕ) (there : at ≢ format.nil) (h : HasRest s now node at count) where
-  rest_first : {P : Type 0} → ((later : List ℕ) → IsWalk (next_of now.records node) at (at ∷ later) → ((x : ℕ) → In x (at ∷ later) → rel_at s.records x ≢ None) → length later + (count + 1) ≤ degree s.records node → P) → P
+  rest_first : {P : Type 0} → ((later : List ℕ) → IsWalk (next_of now.records node) at (at ∷ later) → ((x : ℕ) → In x (at ∷ later) → rel_at s.records x ≢ None)
+      → length later + (count + 1) ≤ degree s.records node → P) → P
   rest_first {P} found = by h.rest h.walk h.live h.few
     where
       by : (xs : List ℕ) → IsWalk (next_of now.records node) at xs → ((x : ℕ) → In x xs → rel_at s.records x ≢ None) → length xs + count ≤ degree s.records node

@@ -51,7 +51,8 @@ leaves_both s m t node regroups h k = record {
   rels = λ x n at some inside beside.
       let r = rec_at s.records format.relationships_file x in
       let q = rec_at m.records format.relationships_file x in
-      k.rels x n at some inside (beside_same r q node n at (h.rels x 4 8 some (omega arith) (ends_beside r node 8 (omega arith))) (h.rels x 4 12 some (omega arith) (ends_beside r node 12 (omega arith))) beside)
+      k.rels x n at some inside (beside_same r q node n at (h.rels x 4 8 some (omega arith) (ends_beside r node 8 (omega arith)))
+      (h.rels x 4 12 some (omega arith) (ends_beside r node 12 (omega arith))) beside)
       ∙ h.rels x n at some inside beside;
   groups = λ g group is ne n at inside. k.groups g group (regroups.groups g group is ne) ne n at inside ∙ h.groups g group is ne n at inside;
 }

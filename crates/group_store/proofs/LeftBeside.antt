@@ -60,8 +60,10 @@ beside_groups : (s t : Records) (node : ℕ) → ((key : Key) → key.file ≢ f
     → LeavesBeside s t node
 beside_groups s t node same = record {
   others = λ key a b c d. same key b c;
-  here = λ n at inside one apart. ap (λ r. field n r at) (same (key_in format.nodes_file node) (λ e. omega arith) (λ e. let f = ap (λ (k : Key). k.file) e in omega arith));
-  rels = λ x n at inside apart. ap (λ r. field n r at) (same (key_in format.relationships_file x) (λ e. omega arith) (λ e. let f = ap (λ (k : Key). k.file) e in omega arith));
+  here = λ n at inside one apart. ap (λ r. field n r at) (same (key_in format.nodes_file node) (λ e. omega arith) (λ e. let f = ap (λ (k : Key). k.file)
+      e in omega arith));
+  rels = λ x n at inside apart. ap (λ r. field n r at) (same (key_in format.relationships_file x) (λ e. omega arith) (λ e. let f = ap (λ (k : Key). k.file)
+      e in omega arith));
 }
 
 -- a group is written
@@ -70,12 +72,14 @@ beside_group s node key rec group = beside_groups s (put s key rec) node
     (λ q no_group no_meta. put_other s key rec q (λ e. no_group (ap (λ (k : Key). k.file) e ∙ group)))
 
 -- the node's record is
-beside_node : (s : Records) (node : ℕ) (rec : Rec) → ((n at : ℕ) → at + n ≤ format.record_bytes → 1 ≤ at → (at + n ≤ format.node_first_link) ⊎ (format.node_first_property ≤ at) → field n rec at ≡ field n (s (node_key node)) at)
+beside_node : (s : Records) (node : ℕ) (rec : Rec) → ((n at : ℕ) → at + n ≤ format.record_bytes → 1 ≤ at → (at + n ≤ format.node_first_link) ⊎
+    (format.node_first_property ≤ at) → field n rec at ≡ field n (s (node_key node)) at)
     → LeavesBeside s (put s (node_key node) rec) node
 beside_node s node rec stays = record {
   others = λ key a b c d. put_other s (node_key node) rec key d;
   here = λ n at inside one apart. ap (λ r. field n r at) (put_same s (node_key node) rec) ∙ stays n at inside one apart;
-  rels = λ x n at inside apart. ap (λ r. field n r at) (put_other s (node_key node) rec (key_in format.relationships_file x) (λ e. let f = ap (λ (k : Key). k.file) e in omega arith));
+  rels = λ x n at inside apart. ap (λ r. field n r at) (put_other s (node_key node) rec (key_in format.relationships_file x)
+      (λ e. let f = ap (λ (k : Key). k.file) e in omega arith));
 }
 
 -- a link of a relationship is set
@@ -83,9 +87,11 @@ beside_link : (s : Records) (node : ℕ) (p : Head) (to : ℕ) → p.key.file �
     → LeavesBeside s (set_at s p to) node
 beside_link s node p to rel low high = record {
   others = λ key a b c d. put_other s p.key (with_field 4 (s p.key) p.field to) key (λ e. a (ap (λ (k : Key). k.file) e ∙ rel));
-  here = λ n at inside one apart. ap (λ r. field n r at) (put_other s p.key (with_field 4 (s p.key) p.field to) (key_in format.nodes_file node) (λ e. let f : format.nodes_file ≡ format.relationships_file = ap (λ (k : Key). k.file) e ∙ rel in omega arith));
+  here = λ n at inside one apart. ap (λ r. field n r at) (put_other s p.key (with_field 4 (s p.key) p.field to) (key_in format.nodes_file node)
+      (λ e. let f : format.nodes_file ≡ format.relationships_file = ap (λ (k : Key). k.file) e ∙ rel in omega arith));
   rels = λ x n at inside apart. field-set_other s p to (key_in format.relationships_file x) n at inside
-      (λ e. ⊎_elim (λ (k : at + n ≤ format.relationship_source_previous). inl (omega arith)) (λ (k : format.relationship_first_property ≤ at). inr (omega arith)) apart);
+      (λ e. ⊎_elim (λ (k : at + n ≤ format.relationship_source_previous). inl (omega arith)) (λ (k : format.relationship_first_property ≤ at). inr
+      (omega arith)) apart);
 }
 
 pub beside_prev : (s : State) (node m x to : ℕ) → LeavesBeside s.records (links.prev_set s m x to).records node
@@ -107,9 +113,11 @@ beside_led u node first id rec =
     let b = backed t first id in
     beside_then u.records t.records (led u node first id rec).records node (beside_group u.records node (group_key id) rec refl)
     (beside_then t.records b.records (led u node first id rec).records node
-    (on_test (λ (q : State). LeavesBeside t.records q.records node) first format.nil t (after_set t (group_key first) 4 format.group_previous id) (λ _. beside_none t.records node) (λ _. beside_group t.records node (group_key first) _ refl))
+    (on_test (λ (q : State). LeavesBeside t.records q.records node) first format.nil t (after_set t (group_key first) 4 format.group_previous id)
+    (λ _. beside_none t.records node) (λ _. beside_group t.records node (group_key first) _ refl))
     (beside_node b.records node (with_field 4 (b.records (node_key node)) format.node_first_link id)
-    (λ n at inside one apart. sym (ap (λ r. field n r at) (put_same b.records (node_key node) (with_field 4 (b.records (node_key node)) format.node_first_link id)))
+    (λ n at inside one apart. sym (ap (λ r. field n r at) (put_same b.records (node_key node) (with_field 4 (b.records (node_key node)) format.node_first_link
+    id)))
     ∙ field-set_other b.records (record { key = node_key node; field = format.node_first_link }) id (node_key node) n at inside (λ _. apart))))
 
 pub beside_made : (s : State) (node label : ℕ) → LeavesBeside s.records (made s node label).records node
@@ -126,7 +134,8 @@ beside_made s node label =
 
 pub beside_raised : (s z t : State) (node g : ℕ) (counts : Counts) → SameButReads s z → t ≡ raised_state z g counts → LeavesBeside s.records t.records node
 beside_raised s z t node g counts same is = beside_then s.records z.records t.records node (beside_read s z node same)
-    (subst (λ (q : State). LeavesBeside z.records q.records node) (sym is) (beside_group z.records node (group_key g) (raised (z.records (group_key g)) counts) refl))
+    (subst (λ (q : State). LeavesBeside z.records q.records node) (sym is) (beside_group z.records node (group_key g) (raised (z.records (group_key g)) counts)
+    refl))
 
 -- ---- a relationship that comes into a group
 
@@ -137,8 +146,10 @@ beside_pushed s node h rel group =
     let b = links.backed (after_get s) node first rel in
     let l = links.next_set b node rel first in
     beside_then s.records b.records (pushed s h node rel).records node
-    (on_test (λ (q : State). LeavesBeside s.records q.records node) first format.nil (after_get s) (links.prev_set (after_get s) node first rel) (λ _. beside_none s.records node) (λ _. beside_prev (after_get s) node node first rel))
-    (beside_then b.records l.records (pushed s h node rel).records node (beside_next b node node rel first) (beside_group l.records node h.key (with_field 4 (s.records h.key) h.field rel) group))
+    (on_test (λ (q : State). LeavesBeside s.records q.records node) first format.nil (after_get s) (links.prev_set (after_get s) node first rel)
+    (λ _. beside_none s.records node) (λ _. beside_prev (after_get s) node node first rel))
+    (beside_then b.records l.records (pushed s h node rel).records node (beside_next b node node rel first) (beside_group l.records node h.key
+    (with_field 4 (s.records h.key) h.field rel) group))
 
 beside_tallied : (change : ℕ → ℕ) (s : State) (node : ℕ) (h : Head) → LeavesBeside s.records (tallied change s h).records node
 beside_tallied change s node h = beside_groups s.records (tallied change s h).records node (λ key a b. file-tallied change s h key a)
@@ -151,7 +162,8 @@ pub beside_moved : (m t end : State) (node rel : ℕ) (h : Head) → h.key.file 
 beside_moved m t end node rel h group freed put = beside_then m.records t.records end.records node
     (beside_freed m t node rel freed)
     (subst (λ (z : State). LeavesBeside t.records z.records node) (sym put)
-    (beside_then t.records (pushed t h node rel).records (tallied one_more (pushed t h node rel) h).records node (beside_pushed t node h rel group) (beside_tallied one_more (pushed t h node rel) node h)))
+    (beside_then t.records (pushed t h node rel).records (tallied one_more (pushed t h node rel) h).records node (beside_pushed t node h rel group)
+    (beside_tallied one_more (pushed t h node rel) node h)))
 
 -- ---- a node that becomes dense
 
@@ -231,11 +243,13 @@ counted_put s node g counts member =
           ∙ field-with_field_other 1 was format.kind format.counted n at (omega arith) (inl (omega arith))))
           (λ (ne : k ≢ g). ap (λ r. field n r at) (put_other s.records (group_key g) rec (group_key k) (λ e. ne (ap (λ (q : Key). q.id) e)))) (nat_cases k g);
       used = λ k. ⊎_elim
-          (λ (e : k ≡ g). subst (λ z. is_group_kind (kind_at t format.groups_file z) ≡ is_group_kind (kind_at s.records format.groups_file z)) (sym e) (here marks))
+          (λ (e : k ≡ g). subst (λ z. is_group_kind (kind_at t format.groups_file z) ≡ is_group_kind (kind_at s.records format.groups_file z)) (sym e)
+          (here marks))
           (λ (ne : k ≢ g). ap is_group_kind (elsewhere k ne)) (nat_cases k g);
       live = λ k. ⊎_elim
           (λ (e : k ≡ g). subst (λ z. is_live t format.groups_file z ≡ is_live s.records format.groups_file z) (sym e)
-          (live_true (kind_at t format.groups_file g) (group_used (kind_at t format.groups_file g) (here marks ∙ member.kind)) ∙ sym (live_true (kind_at s.records format.groups_file g) (group_used (kind_at s.records format.groups_file g) member.kind))))
+          (live_true (kind_at t format.groups_file g) (group_used (kind_at t format.groups_file g) (here marks ∙ member.kind)) ∙ sym
+          (live_true (kind_at s.records format.groups_file g) (group_used (kind_at s.records format.groups_file g) member.kind))))
           (λ (ne : k ≢ g). ap (λ z. not (nat_eq z 0)) (elsewhere k ne)) (nat_cases k g);
     }
   where
@@ -245,10 +259,12 @@ counted_put s node g counts member =
         let r = rec_at s.records format.groups_file g in
         let rec = raised r counts in
         let lt = kind_below (high s.records format.groups_file) r g (λ e. false≢true (ap is_group_kind (sym e) ∙ member.kind)) in
-        ap is_group_kind (kind_low (high (raised_state s g counts).records format.groups_file) (rec_at (raised_state s g counts).records format.groups_file g) g (subst (λ m. g < m) (sym (marks format.groups_file)) lt)
+        ap is_group_kind (kind_low (high (raised_state s g counts).records format.groups_file) (rec_at (raised_state s g counts).records format.groups_file g) g
+        (subst (λ m. g < m) (sym (marks format.groups_file)) lt)
         ∙ ap (λ q. field 1 q format.kind) (put_same s.records (group_key g) rec) ∙ raised_kind r counts) ∙ sym member.kind
 
 pub counted_raised : (s z t : State) (node g : ℕ) (counts : Counts) → IsGroupOf s.records node g → SameButReads s z → t ≡ raised_state z g counts
     → LeavesCounted s.records t.records
 counted_raised s z t node g counts member same is = counted_then s.records z.records t.records (counted_read s z same)
-    (subst (λ (q : State). LeavesCounted z.records q.records) (sym is) (counted_put z node g counts (subst (λ (q : State). IsGroupOf q.records node g) (sym same) member)))
+    (subst (λ (q : State). LeavesCounted z.records q.records) (sym is) (counted_put z node g counts (subst (λ (q : State). IsGroupOf q.records node g)
+    (sym same) member)))

@@ -109,7 +109,8 @@ module _ (now u : State) (node label first id : ℕ) (rec : Rec) (took : u ≡ t
 
   node_byte : (n : ℕ) → field 1 (rec_at after.records format.nodes_file n) format.kind ≡ field 1 (rec_at now.records format.nodes_file n) format.kind
   node_byte n = ⊎_elim
-      (λ (e : n ≡ node). subst (λ k. field 1 (rec_at after.records format.nodes_file k) format.kind ≡ field 1 (rec_at u.records format.nodes_file k) format.kind) (sym e) own_byte)
+      (λ (e : n ≡ node). subst (λ k. field 1 (rec_at after.records format.nodes_file k) format.kind ≡ field 1 (rec_at u.records format.nodes_file k)
+      format.kind) (sym e) own_byte)
       (λ (ne : n ≢ node). ap (λ r. field 1 r format.kind) (stays u node first id rec (node_key n) (λ e. ne (ap (λ (k : Key). k.id) e))
       (λ e. let f = ap (λ (k : Key). k.file) e in absurd (omega arith)) (λ e. let f = ap (λ (k : Key). k.file) e in absurd (omega arith)))) (nat_cases n node)
       ∙ ap (λ r. field 1 r format.kind) (took_other (node_key n) (λ e. let f = ap (λ (k : Key). k.file) e in absurd (omega arith)))
@@ -154,7 +155,8 @@ pub heads_pushed : (t end : State) (node rel : ℕ) (h : Head) → h.key.file �
 heads_pushed t end node rel h group high_field put = heads_alike t.records end.records
     (alike_by t.records end.records (mark format.nodes_file) (mark format.groups_file)
     (λ n. ap (λ r. field 1 r format.kind) (other (node_key n) (omega arith) (omega arith)))
-    (λ g n at low. ap (λ (q : State). field n (q.records (group_key g)) at) put ∙ field-tallied one_more (pushed t h node rel) h (group_key g) n at (omega arith)
+    (λ g n at low. ap (λ (q : State). field n (q.records (group_key g)) at) put ∙ field-tallied one_more (pushed t h node rel) h (group_key g) n at
+    (omega arith)
     ∙ pushed_field t h node rel g n at (omega arith) (λ _. inl (omega arith))))
   where
     other : (key : Key) → key.file ≢ format.relationships_file → key.file ≢ format.groups_file → end.records key ≡ t.records key

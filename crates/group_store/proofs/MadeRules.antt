@@ -76,7 +76,16 @@ stands_again rels groups now node rest h x same b = record {
   stands = record {
     row = b.stands.row;
     live = b.stands.live;
-    on = ⊎_elim (λ k. inl k) (λ (k : (h.key.file ≡ format.groups_file) × IsInGroup groups h b.stands.row). inr (k.0, record { row = k.1.row; group = same k.0 ∙ k.1.group; label = k.1.label; side = k.1.side })) b.stands.on;
+    on = ⊎_elim (λ k. inl k) (λ (k : (h.key.file ≡ format.groups_file) × IsInGroup groups h b.stands.row). inr (
+      k.0,
+      record {
+        row = k.1.row;
+        group = same k.0
+            ∙ k.1.group;
+        label = k.1.label;
+        side = k.1.side;
+      },
+    )) b.stands.on;
   };
   apart = λ o. b.apart (record { file = o.file; row = o.row; group = sym (same o.file) ∙ o.group; owner = o.owner });
 }
@@ -107,8 +116,11 @@ empty_fits marks node label next a b c owner low = record {
     number-empty_group node label next format.group_first_loop format.nil a b c refl,
     lt_true node (marks format.nodes_file) owner,
   )
-      (all_open (nat_lt format.nil (marks format.groups_file)) (nat_lt next (marks format.groups_file)) (nat_eq next format.nil) (nat_lt format.nil (marks format.relationships_file))
-      (⊎_elim (λ (e : next ≡ format.nil). or_right (nat_lt next (marks format.groups_file)) (nat_eq next format.nil) (eq_true next format.nil e)) (λ (lt : next < marks format.groups_file). or_left (nat_lt next (marks format.groups_file)) (nat_eq next format.nil) (lt_true next (marks format.groups_file) lt)) low));
+      (all_open (nat_lt format.nil (marks format.groups_file)) (nat_lt next (marks format.groups_file)) (nat_eq next format.nil)
+      (nat_lt format.nil (marks format.relationships_file))
+      (⊎_elim (λ (e : next ≡ format.nil). or_right (nat_lt next (marks format.groups_file)) (nat_eq next format.nil) (eq_true next format.nil e))
+      (λ (lt : next < marks format.groups_file). or_left (nat_lt next (marks format.groups_file)) (nat_eq next format.nil)
+      (lt_true next (marks format.groups_file) lt)) low));
   blank = λ i lt out. field-with_fields_other 1 zeros (empty_fields node label next) i (omega arith) (outside node label next i out) ∙ byte-zeros i lt;
 }
   where
@@ -222,14 +234,16 @@ module _ (s u : State) (node label id : ℕ) (rest : List ℕ) (most : ℕ) (emp
   }
     where
       node_kind : (x : ℕ) → kind_at m.records format.nodes_file x ≡ kind_at s.records format.nodes_file x
-      node_kind = kind_same s.records m.records format.nodes_file (ch.same_file s.records m.records format.groups_file id is_put.change format.nodes_file refl (λ e. omega arith))
+      node_kind = kind_same s.records m.records format.nodes_file (ch.same_file s.records m.records format.groups_file id is_put.change format.nodes_file refl
+          (λ e. omega arith))
 
   put_stepped : HasStepped s.records m.records s.shape node
   put_stepped = record {
     frame = put_frame;
     ranges = ch.in_range s.records m.records format.groups_file id is_put.change s.shape is_put.meta
         (λ _. subst (Fits (high m.records) format.groups_file) (sym is_put.here)
-        (empty_fits (high m.records) node label first small_node small_label small_first (let e = re.mark_same s.records m.records node put_frame format.nodes_file (λ e. omega arith) in let lt = node_low in omega arith) put_low)) keeps.others.ranges;
+        (empty_fits (high m.records) node label first small_node small_label small_first (let e = re.mark_same s.records m.records node put_frame
+        format.nodes_file (λ e. omega arith) in let lt = node_low in omega arith) put_low)) keeps.others.ranges;
     free = is_put.free;
     split = is_put.split;
   }
@@ -237,7 +251,8 @@ module _ (s u : State) (node label id : ℕ) (rest : List ℕ) (most : ℕ) (emp
   -- ---- it is linked
   linked : HasStepped s.records (backed m first id).records s.shape node × IsLow (high (backed m first id).records format.groups_file) id
   linked = back_stepped s.records m s.shape node first id put_stepped
-      (λ some. let k = (first_group some).kind in ap is_group_kind (ch.kind_other s.records m.records format.groups_file id is_put.change first (not_id first (group_used (kind_at s.records format.groups_file first) k))) ∙ k) (inr is_put.below)
+      (λ some. let k = (first_group some).kind in ap is_group_kind (ch.kind_other s.records m.records format.groups_file id is_put.change first
+      (not_id first (group_used (kind_at s.records format.groups_file first) k))) ∙ k) (inr is_put.below)
 
   stepped : HasStepped s.records now.records s.shape node
   unfolding led
@@ -258,7 +273,8 @@ module _ (s u : State) (node label id : ℕ) (rest : List ℕ) (most : ℕ) (emp
   kind_stays : (g : ℕ) → g ≢ id → kind_at now.records format.groups_file g ≡ kind_at s.records format.groups_file g
   kind_stays g ne = ap (λ q. kind_in q (rec_at now.records format.groups_file g) g) mark
       ∙ kind_by (high m.records format.groups_file) (rec_at now.records format.groups_file g) (rec_at m.records format.groups_file g) g
-      (number g 1 format.kind (omega arith) ne (λ _. inl (omega arith)) ∙ ap (λ r. field 1 r format.kind) (sym (ch.other_record s.records m.records format.groups_file id is_put.change format.groups_file g refl (λ _. ne))))
+      (number g 1 format.kind (omega arith) ne (λ _. inl (omega arith)) ∙ ap (λ r. field 1 r format.kind)
+      (sym (ch.other_record s.records m.records format.groups_file id is_put.change format.groups_file g refl (λ _. ne))))
       ∙ ch.kind_other s.records m.records format.groups_file id is_put.change g ne
 
   group_stays_at : (g : ℕ) → g ≢ id → group_at now.records g ≡ group_at s.records g
@@ -272,7 +288,11 @@ module _ (s u : State) (node label id : ℕ) (rest : List ℕ) (most : ℕ) (emp
   row = record { id = id; label = label; owner = node }
 
   is_new : group_at now.records id ≡ Some row
-  is_new = row_of_group now.records node id member ∙ (λ i. Some (record { id = id; label = ap (λ (r : GroupRow). r.label) made.here i; owner = member.owner i }))
+  is_new = row_of_group now.records node id member ∙ (λ i. Some (record {
+    id = id;
+    label = ap (λ (r : GroupRow). r.label) made.here i;
+    owner = member.owner i;
+  }))
     where
       member : IsGroupOf now.records node id
       member = made.chain.only id (inl refl)
@@ -289,7 +309,8 @@ module _ (s u : State) (node label id : ℕ) (rest : List ℕ) (most : ℕ) (emp
       (λ e. let f = ap (λ (k : Key). k.file) e in absurd (omega arith)) (λ e. let f = ap (λ (k : Key). k.file) e in absurd (omega arith))
 
   first_stays : (n : ℕ) → n ≢ node → first_link now.records n ≡ first_link s.records n
-  first_stays n ne = ap (λ r. field 4 r format.node_first_link) (made.stays (key_in format.nodes_file n) (λ e. let f = ap (λ (k : Key). k.file) e in absurd (omega arith)) (λ e. ne (ap (λ (k : Key). k.id) e))
+  first_stays n ne = ap (λ r. field 4 r format.node_first_link) (made.stays (key_in format.nodes_file n) (λ e. let f = ap (λ (k : Key). k.file) e in absurd
+      (omega arith)) (λ e. ne (ap (λ (k : Key). k.id) e))
       (λ e. let f = ap (λ (k : Key). k.file) e in absurd (omega arith)) (λ e. let f = ap (λ (k : Key). k.file) e in absurd (omega arith)))
 
   abbrev rels : ℕ → Option RelRow
@@ -321,7 +342,8 @@ module _ (s u : State) (node label id : ℕ) (rest : List ℕ) (most : ℕ) (emp
       (type_is group.row.id group.row group.group ∙ group.label ∙ k.1.label ∙ ap (λ (r : views.GroupRow). r.label) same)) b.stands.on
     where
       type_is : (g : ℕ) (q : views.GroupRow) → group_at s.records g ≡ Some q → type_of s.records g ≡ q.label
-      type_is g q is = ap (λ (r : views.GroupRow). r.label) (some_row (kind_at s.records format.groups_file g) (group_in (rec_at s.records format.groups_file g) g) q is).1
+      type_is g q is = ap (λ (r : views.GroupRow). r.label) (some_row (kind_at s.records format.groups_file g) (group_in (rec_at s.records format.groups_file g)
+          g) q is).1
 
   listed_new : (h : Head) (n : ℕ) → h.key ≡ key_in format.groups_file id → IsFirstPlace h.field
       → IsListed now.records h n (StandsBut rels (group_at now.records) node rest h)
@@ -333,8 +355,10 @@ module _ (s u : State) (node label id : ℕ) (rest : List ℕ) (most : ℕ) (emp
   }
     where
       none : field 4 (rec_at now.records format.groups_file id) h.field ≡ format.nil
-      none = ⊎_elim (λ (e : h.field ≡ format.group_first_out). ap (field 4 (rec_at now.records format.groups_file id)) e ∙ ap (λ (r : GroupRow). r.first_out) made.here)
-          (λ k. ⊎_elim (λ (e : h.field ≡ format.group_first_in). ap (field 4 (rec_at now.records format.groups_file id)) e ∙ ap (λ (r : GroupRow). r.first_in) made.here)
+      none = ⊎_elim (λ (e : h.field ≡ format.group_first_out). ap (field 4 (rec_at now.records format.groups_file id)) e ∙ ap (λ (r : GroupRow). r.first_out)
+          made.here)
+          (λ k. ⊎_elim (λ (e : h.field ≡ format.group_first_in). ap (field 4 (rec_at now.records format.groups_file id)) e ∙ ap (λ (r : GroupRow). r.first_in)
+          made.here)
           (λ (e : h.field ≡ format.group_first_loop). ap (field 4 (rec_at now.records format.groups_file id)) e ∙ ap (λ (r : GroupRow). r.first_loop) made.here)
           k) place
 
@@ -349,8 +373,17 @@ module _ (s u : State) (node label id : ℕ) (rest : List ℕ) (most : ℕ) (emp
       (λ (e : o.row.id ≡ id). listed_new h n (o.key ∙ ap (key_in format.groups_file) e) o.field)
       (λ (ne : o.row.id ≢ id).
       let apart : (h.key.file ≡ format.groups_file) → h.key.id ≢ id = λ _ e. ne (sym (ap (λ (k : Key). k.id) o.key) ∙ e) in
-      listed_old h n (inr (record { dense = re.dense_was s.records now.records node stepped.frame dense n o.dense; row = o.row; group = sym (group_stays_at o.row.id ne) ∙ o.group; owner = o.owner; key = o.key; field = o.field }))
-      (ap (λ (k : Key). field 4 (now.records k) h.field) o.key ∙ first_same o.row.id h.field ne o.field ∙ ap (λ (k : Key). field 4 (s.records k) h.field) (sym o.key)) apart) (nat_cases o.row.id id)
+      listed_old h n (inr (record {
+        dense = re.dense_was s.records now.records node stepped.frame dense n o.dense;
+        row = o.row;
+        group = sym
+            (group_stays_at o.row.id ne) ∙ o.group;
+        owner = o.owner;
+        key = o.key;
+        field = o.field;
+      }))
+      (ap (λ (k : Key). field 4 (now.records k) h.field) o.key ∙ first_same o.row.id h.field ne o.field ∙ ap (λ (k : Key). field 4 (s.records k) h.field)
+      (sym o.key)) apart) (nat_cases o.row.id id)
     where
       first_same : (g at : ℕ) → g ≢ id → IsFirstPlace at → field 4 (rec_at now.records format.groups_file g) at ≡ field 4
           (rec_at s.records format.groups_file g) at
@@ -362,7 +395,11 @@ module _ (s u : State) (node label id : ℕ) (rest : List ℕ) (most : ℕ) (emp
 
   linked_now : IsLinkedBut now.records (kind_at now.records format.nodes_file) rels (group_at now.records) node rest
   linked_now = record {
-    ends = λ x q e. let k = keeps.linked.ends x q e in record { from = re.used_same s.records now.records node stepped.frame q.from k.from; to = re.used_same s.records now.records node stepped.frame q.to k.to };
+    ends = λ x q e. let k = keeps.linked.ends x q e in record {
+      from = re.used_same s.records now.records node stepped.frame q.from k.from;
+      to = re.used_same
+          s.records now.records node stepped.frame q.to k.to;
+    };
     typed = λ x n q e end d apart. let k = keeps.linked.typed x n q e end (re.dense_was s.records now.records node stepped.frame dense n d) apart in
         record { row = k.row; group = group_stays_at k.row.id (old_group k.row.id k.row k.group) ∙ k.group; owner = k.owner; label = k.label };
     listed = record { each = listed };
@@ -384,7 +421,8 @@ module _ (s u : State) (node label id : ℕ) (rest : List ℕ) (most : ℕ) (emp
         (λ (ne : g ≢ id). re.dense_same s.records now.records node stepped.frame q.owner (keeps.grouped.owned g q (sym (group_stays_at g ne) ∙ e)))
         (nat_cases g id);
     each = λ n d. ⊎_elim
-        (λ (e : n ≡ node). subst (λ z. HasGroups (first_link now.records z) z (rec_at now.records format.groups_file) (group_at now.records) (id ∷ empty)) (sym e)
+        (λ (e : n ≡ node). subst (λ z. HasGroups (first_link now.records z) z (rec_at now.records format.groups_file) (group_at now.records) (id ∷ empty))
+        (sym e)
         (HasGroups-IsGroupChain now.records s.shape node (id ∷ xs) (id ∷ empty) stepped.ranges made.chain
         (λ g i. ⊎_elim (λ (k : g ≡ id). inr (inl k)) (λ (j : In g xs). still node g has (chain.only g j) j) i)))
         (λ (ne : n ≢ node).
@@ -412,16 +450,21 @@ module _ (s u : State) (node label id : ℕ) (rest : List ℕ) (most : ℕ) (emp
   none_typed x q live out typed end =
       let group = keeps.linked.typed x node q live end dense (λ _. out) in
       lacks group.row.id (group_of_row s.records s.shape node group.row.id group.row keeps.others.ranges group.group group.owner)
-      (ap (λ (r : views.GroupRow). r.label) (some_row (kind_at s.records format.groups_file group.row.id) (group_in (rec_at s.records format.groups_file group.row.id) group.row.id) group.row group.group).1 ∙ group.label ∙ typed)
+      (ap (λ (r : views.GroupRow). r.label) (some_row (kind_at s.records format.groups_file group.row.id)
+      (group_in (rec_at s.records format.groups_file group.row.id) group.row.id) group.row group.group).1 ∙ group.label ∙ typed)
 
   exact_now : AreExactBut s.records node rest → AreExactBut now.records node rest
   exact_now old k q is kind = ⊎_elim
       (λ (e : k ≡ id).
       let same : row ≡ q = same_group row q (sym is_new ∙ ap (group_at now.records) (sym e) ∙ is) in
-      subst (λ z. HasCounts (rec_at now.records format.groups_file z) q (counted_rels node rest (rel_at now.records) q.owner) (high now.records format.relationships_file)) (sym e)
-      (subst (λ (z : views.GroupRow). HasCounts (rec_at now.records format.groups_file id) z (counted_rels node rest (rel_at now.records) z.owner) (high now.records format.relationships_file)) same
-      (subst (λ (f : ℕ → Option RelRow). HasCounts (rec_at now.records format.groups_file id) row f (high now.records format.relationships_file)) (sym (counted_here node node rest (rel_at now.records) refl))
-      (subst (λ (f : ℕ → Option RelRow). HasCounts (rec_at now.records format.groups_file id) row (left_out rest f) (high now.records format.relationships_file)) (sym (re.rels_same s.records now.records node stepped.frame))
+      subst (λ z. HasCounts (rec_at now.records format.groups_file z) q (counted_rels node rest (rel_at now.records) q.owner)
+      (high now.records format.relationships_file)) (sym e)
+      (subst (λ (z : views.GroupRow). HasCounts (rec_at now.records format.groups_file id) z (counted_rels node rest (rel_at now.records) z.owner)
+      (high now.records format.relationships_file)) same
+      (subst (λ (f : ℕ → Option RelRow). HasCounts (rec_at now.records format.groups_file id) row f (high now.records format.relationships_file))
+      (sym (counted_here node node rest (rel_at now.records) refl))
+      (subst (λ (f : ℕ → Option RelRow). HasCounts (rec_at now.records format.groups_file id) row (left_out rest f)
+      (high now.records format.relationships_file)) (sym (re.rels_same s.records now.records node stepped.frame))
       (none_counted (rec_at now.records format.groups_file id) row rels rest (high now.records format.relationships_file)
       (count_zero format.group_out_count (ap (λ (r : GroupRow). r.out_count) made.here))
       (count_zero format.group_in_count (ap (λ (r : GroupRow). r.in_count) made.here))
@@ -451,7 +494,8 @@ module _ (s u : State) (node label id : ℕ) (rest : List ℕ) (most : ℕ) (emp
       let found = some_row (kind_at s.records format.groups_file g) (group_in (rec_at s.records format.groups_file g) g) q is in
       let lt = kind_below (high s.records format.groups_file) (rec_at s.records format.groups_file g) g found.0 in
       let le = high_most s.records s.shape format.groups_file keeps.others.ranges refl in
-      ne (sym (ap (λ (r : views.GroupRow). r.owner) found.1) ∙ ap (λ k. field 4 (rec_at s.records format.groups_file k) format.group_owner) e ∙ (first_group (λ none. absurd (let z = e ∙ none in omega arith))).owner)
+      ne (sym (ap (λ (r : views.GroupRow). r.owner) found.1) ∙ ap (λ k. field 4 (rec_at s.records format.groups_file k) format.group_owner) e ∙
+      (first_group (λ none. absurd (let z = e ∙ none in omega arith))).owner)
 
   leaves_now : LeavesOthers s now node
   leaves_now = record {
@@ -511,7 +555,8 @@ rules_made s now u end node label link id rec row read took fresh small at link_
     subst (λ g. KeepsBut end.records end.shape node rest most (g ∷ empty) × HasOpened s end node label g rest) id_is
     (subst (λ (t : State). KeepsBut t.records t.shape node rest most (id ∷ empty) × HasOpened s t node label id rest) end_is
     (made_rules s u node label id rest most empty keeps dense lacks
-    (λ free list. subst (λ (r : Records). HasTaken r u.records format.groups_file id free) same (took free (subst (λ (r : Records). IsFreeList r format.groups_file free) (sym same) list)))
+    (λ free list. subst (λ (r : Records). HasTaken r u.records format.groups_file id free) same
+    (took free (subst (λ (r : Records). IsFreeList r format.groups_file free) (sym same) list)))
     (ap (λ (r : Records). kind_at r format.groups_file id) (sym same) ∙ fresh)
     (subst (λ (q : Shape). id < room_of q format.groups_file) (ap (λ (t : State). t.shape) read) small) small_node small_label
     (ap (λ (q : State). q.shape) at ∙ taken_shape now format.groups_file ∙ ap (λ (t : State). t.shape) read)))

@@ -95,7 +95,8 @@ right_first s now n node label first free xs reads is can =
     let walk = walk_of_chain _ _ format.nil (first_link s.records node) xs can.chain.chain in
     record {
       low = ⊎_elim (λ (none : first_link s.records node ≡ format.nil). inl (is ∙ none))
-          (λ (i : In (first_link s.records node) xs). inr (let lt = group_below s.records node (first_link s.records node) (can.chain.only (first_link s.records node) i) in omega arith))
+          (λ (i : In (first_link s.records node) xs). inr (let lt = group_below s.records node (first_link s.records node)
+          (can.chain.only (first_link s.records node) i) in omega arith))
           (first_in (next_group s.records) (first_link s.records node) xs walk);
       mark = omega arith;
     }

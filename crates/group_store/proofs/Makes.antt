@@ -32,7 +32,8 @@ use Rattle.group_store.specs.Walking.{group_row_at}
 -- ---- the record of an empty group
 
 all_fit : (node label next : ℕ) → node < 2 ^ 32 → label < 2 ^ 32 → next < 2 ^ 32 → AllFit (empty_fields node label next)
-all_fit node label next a b c = (omega arith, (b, (a, (omega arith, (c, (omega arith, (omega arith, (omega arith, (omega arith, (omega arith, (omega arith, tt)))))))))))
+all_fit node label next a b c =
+    (omega arith, (b, (a, (omega arith, (c, (omega arith, (omega arith, (omega arith, (omega arith, (omega arith, (omega arith, tt)))))))))))
 
 pub kind-empty_group : (node label next : ℕ) → node < 2 ^ 32 → label < 2 ^ 32 → next < 2 ^ 32
     → field 1 (empty_group node label next) format.kind ≡ format.counted
@@ -121,7 +122,8 @@ module _ (u : State) (node first id : ℕ) (rec : Rec) where
       ∙ field-set_same b.records (record { key = node_key node; field = format.node_first_link }) id (omega arith) small
 
   pub first_other : (m : ℕ) → m ≢ node → first_link new.records m ≡ first_link u.records m
-  first_other m ne = ap (λ r. field 4 r format.node_first_link) (stays (node_key m) (λ e. ne (ap (λ (k : Key). k.id) e)) (λ e. absurd (no_node id m e)) (λ e. absurd (no_node first m e)))
+  first_other m ne = ap (λ r. field 4 r format.node_first_link) (stays (node_key m) (λ e. ne (ap (λ (k : Key). k.id) e)) (λ e. absurd (no_node id m e))
+      (λ e. absurd (no_node first m e)))
     where
       no_node : (g m : ℕ) → node_key m ≡ group_key g → ⊥
       no_node g m e = let f = ap (λ (k : Key). k.file) e in omega arith
@@ -206,7 +208,8 @@ module _ (s u : State) (node label id : ℕ) (free xs : List ℕ)
       kind_low (high now.records 3) (rec_at now.records 3 g) g (omega arith) ∙ number g 1 0 (omega arith) ne (λ _. inl (omega arith))
       ∙ sym (kind_low (high s.records 3) (rec_at s.records 3 g) g lt))
       (λ (ge : high s.records 3 ≤ g).
-      kind_high (high now.records 3) (rec_at now.records 3 g) g (⊎_elim (λ (lt : g < high now.records 3). let l = both.0 (omega arith) in absurd (omega arith)) (λ (le : high now.records 3 ≤ g). le) (cases_lt g (high now.records 3)))
+      kind_high (high now.records 3) (rec_at now.records 3 g) g (⊎_elim (λ (lt : g < high now.records 3). let l = both.0 (omega arith) in absurd (omega arith))
+      (λ (le : high now.records 3 ≤ g). le) (cases_lt g (high now.records 3)))
       ∙ sym (kind_high (high s.records 3) (rec_at s.records 3 g) g ge))
       (cases_lt g (high s.records 3))
 
@@ -215,10 +218,18 @@ module _ (s u : State) (node label id : ℕ) (free xs : List ℕ)
 
   -- groups of each node
   member_now : (m g : ℕ) → g ≢ id → IsGroupOf s.records m g → IsGroupOf now.records m g
-  member_now m g ne is = record { kind = ap is_group_kind (kind_stays g ne) ∙ is.kind; owner = number g 4 8 (omega arith) ne (λ _. inl (omega arith)) ∙ is.owner }
+  member_now m g ne is = record {
+    kind = ap is_group_kind (kind_stays g ne) ∙ is.kind;
+    owner = number g 4 8 (omega arith) ne (λ _. inl (omega arith))
+        ∙ is.owner;
+  }
 
   member_was : (m g : ℕ) → g ≢ id → IsGroupOf now.records m g → IsGroupOf s.records m g
-  member_was m g ne is = record { kind = ap is_group_kind (sym (kind_stays g ne)) ∙ is.kind; owner = sym (number g 4 8 (omega arith) ne (λ _. inl (omega arith))) ∙ is.owner }
+  member_was m g ne is = record {
+    kind = ap is_group_kind (sym (kind_stays g ne)) ∙ is.kind;
+    owner = sym (number g 4 8 (omega arith) ne
+        (λ _. inl (omega arith))) ∙ is.owner;
+  }
 
   owner_here : group_field now.records format.group_owner id ≡ node
   unfolding rec
@@ -227,7 +238,8 @@ module _ (s u : State) (node label id : ℕ) (free xs : List ℕ)
   member_here : IsGroupOf now.records node id
   unfolding rec
   member_here = record {
-    kind = ap is_group_kind (kind_low (high now.records 3) (rec_at now.records 3 id) id id_low ∙ ap (λ r. field 1 r format.kind) here ∙ kind-empty_group node label first small_node small_label small_first);
+    kind = ap is_group_kind (kind_low (high now.records 3) (rec_at now.records 3 id) id id_low ∙ ap (λ r. field 1 r format.kind) here ∙ kind-empty_group node
+        label first small_node small_label small_first);
     owner = owner_here;
   }
 
@@ -249,18 +261,22 @@ module _ (s u : State) (node label id : ℕ) (free xs : List ℕ)
   unfolding rec now first
   links_here = subst (λ z. IsChain (next_group now.records) (previous_group now.records) format.nil z (id ∷ xs))
       (sym (first_here u node first id rec (omega arith)))
-      (chain_push (next_group s.records) (previous_group s.records) (next_group now.records) (previous_group now.records) first id xs chain.chain id_out (omega arith)
+      (chain_push (next_group s.records) (previous_group s.records) (next_group now.records) (previous_group now.records) first id xs chain.chain id_out
+      (omega arith)
       (ap (λ r. field 4 r format.group_next) here ∙ number-empty_group node label first format.group_next first small_node small_label small_first refl)
-      (ap (λ r. field 4 r format.group_previous) here ∙ number-empty_group node label first format.group_previous format.nil small_node small_label small_first refl)
+      (ap (λ r. field 4 r format.group_previous) here ∙ number-empty_group node label first format.group_previous format.nil small_node small_label small_first
+      refl)
       (λ some. back_link u node first id rec some (omega arith))
       (λ x ne. number x 4 16 (omega arith) ne (λ _. inr (omega arith)))
       (λ x ne nf. number x 4 12 (omega arith) ne (λ e. absurd (nf e))))
 
   types_once : (g k : ℕ) → In g (id ∷ xs) → In k (id ∷ xs) → type_of now.records g ≡ type_of now.records k → g ≡ k
   types_once g k (inl e) (inl f) same = e ∙ sym f
-  types_once g k (inl e) (inr j) same = absurd (lacks k j (sym (type_stays k (not_id node k (chain.only k j))) ∙ sym same ∙ ap (type_of now.records) e ∙ type_here))
+  types_once g k (inl e) (inr j) same = absurd (lacks k j (sym (type_stays k (not_id node k (chain.only k j))) ∙ sym same ∙ ap (type_of now.records) e
+      ∙ type_here))
   types_once g k (inr i) (inl f) same = absurd (lacks g i (sym (type_stays g (not_id node g (chain.only g i))) ∙ same ∙ ap (type_of now.records) f ∙ type_here))
-  types_once g k (inr i) (inr j) same = chain.once g k i j (sym (type_stays g (not_id node g (chain.only g i))) ∙ same ∙ type_stays k (not_id node k (chain.only k j)))
+  types_once g k (inr i) (inr j) same = chain.once g k i j (sym (type_stays g (not_id node g (chain.only g i))) ∙ same ∙ type_stays k
+      (not_id node k (chain.only k j)))
 
   chain_here : IsGroupChain now.records node (id ∷ xs)
   chain_here = record {
@@ -286,8 +302,10 @@ module _ (s u : State) (node label id : ℕ) (free xs : List ℕ)
       let off : (g : ℕ) → In g ys → g ≢ id = λ g i. not_id m g (other.only g i) in
       record {
         chain = subst (λ z. IsChain (next_group now.records) (previous_group now.records) format.nil z ys)
-            (sym (first_other u node first id rec m ne ∙ ap (λ r. field 4 r format.node_first_link) (taken.others (node_key m) (λ e. let f = ap (λ (k : Key). k.file) e in absurd (omega arith)))))
-            (chain_stays (next_group s.records) (previous_group s.records) (next_group now.records) (previous_group now.records) format.nil (first_link s.records m) ys
+            (sym (first_other u node first id rec m ne ∙ ap (λ r. field 4 r format.node_first_link) (taken.others (node_key m)
+            (λ e. let f = ap (λ (k : Key). k.file) e in absurd (omega arith)))))
+            (chain_stays (next_group s.records) (previous_group s.records) (next_group now.records) (previous_group now.records) format.nil
+            (first_link s.records m) ys
             (λ x i. number x 4 16 (omega arith) (off x i) (λ _. inr (omega arith)))
             (λ x i. number x 4 12 (omega arith) (off x i) (λ e. absurd (out x i e))) other.chain);
         only = λ g i. member_now m g (off g i) (other.only g i);
@@ -301,7 +319,8 @@ module _ (s u : State) (node label id : ℕ) (free xs : List ℕ)
   unfolding now
   list = subst (λ z. IsWalk (next_free now.records 3) z (rest_of free)) (sym (ap (λ r. (metas.meta_of r).free) (meta_stays u node first id rec)))
       (walk_stays (next_free u.records 3) (next_free now.records 3) (meta_in u.records 3).free (rest_of free)
-      (λ x i. group_stays u node first id rec x 4 4 (omega arith) (λ e. rest_once (next_free s.records 3) (meta_in s.records 3).free (high s.records 3) id free taken.is can.list (subst (λ z. In z (rest_of free)) e i)) (λ _. inl (omega arith)))
+      (λ x i. group_stays u node first id rec x 4 4 (omega arith) (λ e. rest_once (next_free s.records 3) (meta_in s.records 3).free (high s.records 3)
+      id free taken.is can.list (subst (λ z. In z (rest_of free)) e i)) (λ _. inl (omega arith)))
       taken.list)
 
   counted : is_counted (rec_at now.records 3 id) ≡ true

@@ -67,7 +67,8 @@ pub at_side : (g node label : ℕ) (row : RelRow) → IsEnd node row → IsSide 
 at_side g node label row end = on_test (λ (side : Side). IsSide (sides.place_of side) (record { id = g; label = label; owner = node }) row) row.from row.to Loop
     (cond (nat_eq row.from node) Out Into)
     (λ (same : row.from ≡ row.to). inr (inr (refl, ⊎_elim (λ e. e) (λ e. same ∙ e) end, ⊎_elim (λ e. sym same ∙ e) (λ e. e) end)))
-    (λ (ne : row.from ≢ row.to). on_test (λ (side : Side). IsSide (sides.place_of side) (record { id = g; label = label; owner = node }) row) row.from node Out Into
+    (λ (ne : row.from ≢ row.to). on_test (λ (side : Side). IsSide (sides.place_of side) (record { id = g; label = label; owner = node }) row) row.from node Out
+    Into
     (λ (e : row.from ≡ node). inl (refl, e, λ k. ne (e ∙ sym k)))
     (λ (a : row.from ≢ node). inr (inl (refl, a, ⊎_elim (λ e. absurd (a e)) (λ e. e) end))))
 
@@ -94,16 +95,22 @@ next_link r n = on_test (λ p. IsLink (p + 4)) (field 4 r 8) n 16 24 (λ _. inr 
 
 back_stepped : (s : Records) (m : State) (shape : Shape) (node first to : ℕ) → HasStepped s m.records shape node
     → (first ≢ format.nil → kind_at m.records format.relationships_file first ≡ format.related) → IsLow (high m.records format.relationships_file) to
-    → HasStepped s (backed m node first to).records shape node × (high (backed m node first to).records format.relationships_file ≡ high m.records format.relationships_file)
+    → HasStepped s (backed m node first to).records shape node × (high (backed m node first to).records format.relationships_file ≡ high m.records
+    format.relationships_file)
 unfolding backed
 back_stepped s m shape node first to h kind low =
     on_test (λ (q : State). HasStepped s q.records shape node × (high q.records format.relationships_file ≡ high m.records format.relationships_file)) first
     format.nil m (prev_set m node first to)
-    (λ _. (h, refl)) (λ some. (step_link s m.records shape node h first (place_of (rec_at m.records format.relationships_file first) node) to (place_link (rec_at m.records format.relationships_file first) node) (kind some) low, refl))
+    (λ _. (h, refl)) (λ some. (
+      step_link s m.records shape node h first (place_of (rec_at m.records format.relationships_file first) node) to
+          (place_link (rec_at m.records format.relationships_file first) node) (kind some) low,
+      refl,
+    ))
 
 pushed_stepped : (s : Records) (m : State) (shape : Shape) (node rel g at : ℕ) → HasStepped s m.records shape node → IsFirstPlace at
     → is_group_kind (kind_at m.records format.groups_file g) ≡ true
-    → kind_at m.records format.relationships_file rel ≡ format.related → (field 4 (rec_at m.records format.groups_file g) at ≢ format.nil → kind_at m.records format.relationships_file (field 4 (rec_at m.records format.groups_file g) at) ≡ format.related)
+    → kind_at m.records format.relationships_file rel ≡ format.related → (field 4 (rec_at m.records format.groups_file g) at ≢ format.nil → kind_at m.records
+    format.relationships_file (field 4 (rec_at m.records format.groups_file g) at) ≡ format.related)
     → HasStepped s (pushed m (record { key = group_key g; field = at }) node rel).records shape node
 unfolding pushed
 pushed_stepped s m shape node rel g at h place grouped related first_kind =
@@ -123,9 +130,11 @@ pushed_stepped s m shape node rel g at h place grouped related first_kind =
     let group_same : (k : ℕ) → rec_at c.records format.groups_file k ≡ rec_at m.records format.groups_file k
     = λ k. elsewhere-set_next b.records node rel first (group_key k) (λ e. omega arith) ∙ elsewhere-backed a node first rel (group_key k) (λ e. omega arith) in
     let meta_same : high c.records format.groups_file ≡ high m.records format.groups_file
-    = ap (λ r. (metas.meta_of r).high) (elsewhere-set_next b.records node rel first (meta_key_of format.groups_file) (λ e. omega arith) ∙ elsewhere-backed a node first rel (meta_key_of format.groups_file) (λ e. omega arith)) in
+    = ap (λ r. (metas.meta_of r).high) (elsewhere-set_next b.records node rel first (meta_key_of format.groups_file) (λ e. omega arith) ∙ elsewhere-backed a
+    node first rel (meta_key_of format.groups_file) (λ e. omega arith)) in
     let group_is : is_group_kind (kind_at c.records format.groups_file g) ≡ true =
-    ap is_group_kind (ap (λ q. kind_in q (rec_at c.records format.groups_file g) g) meta_same ∙ ap (λ r. kind_in (high m.records format.groups_file) r g) (group_same g)) ∙ grouped in
+    ap is_group_kind (ap (λ q. kind_in q (rec_at c.records format.groups_file g) g) meta_same ∙ ap (λ r. kind_in (high m.records format.groups_file) r g)
+    (group_same g)) ∙ grouped in
     let rel_low : IsLow (high c.records format.relationships_file) rel = inr (let lt = below rel related in let e = back.1 in omega arith) in
     subst (λ (r : Rec). HasStepped s (put c.records (group_key g) (with_field 4 r at rel)) shape node) (group_same g)
     (step_chain s c.records shape node next g at rel place group_is rel_low)
@@ -190,7 +199,8 @@ module _ (s : State) (node rel g : ℕ) (row : RelRow) (rest : List ℕ) (most :
   same_row a b e = cc
 
   related : (x : ℕ) (a : RelRow) → rels x ≡ Some a → kind_at s.records format.relationships_file x ≡ format.related
-  related x a is = rel_kind s.records s.shape keeps.others.ranges x (some_row (kind_at s.records format.relationships_file x) (rel_in (rec_at s.records format.relationships_file x) x) a is).0
+  related x a is = rel_kind s.records s.shape keeps.others.ranges x (some_row (kind_at s.records format.relationships_file x)
+      (rel_in (rec_at s.records format.relationships_file x) x) a is).0
 
   below : (x : ℕ) (a : RelRow) → rels x ≡ Some a → x < high s.records format.relationships_file
   below x a is = kind_below (high s.records format.relationships_file) (rec_at s.records format.relationships_file x) x
@@ -201,7 +211,13 @@ module _ (s : State) (node rel g : ℕ) (row : RelRow) (rest : List ℕ) (most :
 
   -- a head of the node lists none that is left
   none_left : (h : Head) (x : ℕ) → GroupHead kind groups h node → At h x → ¬ In x (rel ∷ rest)
-  none_left h x o a = a.apart (record { file = ap (λ (k : Key). k.file) o.key; row = o.row; group = ap (λ (k : Key). groups k.id) o.key ∙ o.group; owner = o.owner })
+  none_left h x o a = a.apart (record {
+    file = ap (λ (k : Key). k.file) o.key;
+    row = o.row;
+    group = ap (λ (k : Key). groups k.id) o.key ∙ o.group;
+    owner =
+        o.owner;
+  })
 
   node_head_is : (h : Head) → Own h node → GroupHead kind groups h node
   node_head_is h (inl o) = absurd (let z = sym o.sparse ∙ dense in omega arith)
@@ -257,7 +273,11 @@ module _ (s : State) (node rel g : ℕ) (row : RelRow) (rest : List ℕ) (most :
           (λ (e : x ≡ rel). ⊎_elim
           (λ (m : n ≡ node).
           let same : b.stands.row ≡ row = same_row b.stands.row row (sym b.stands.live ∙ ap rels e ∙ live) in
-          inr (only_head s.records (g ∷ empty) keeps.grouped h head node row (subst (Own h) m o) (inr owned) (subst (IsOn groups h) same b.stands.on) on_head, e))
+          inr (
+            only_head s.records (g ∷ empty) keeps.grouped h head node row (subst (Own h) m o) (inr owned) (subst (IsOn groups h) same b.stands.on)
+                on_head,
+            e,
+          ))
           (λ (m : n ≢ node). inl (record { stands = b.stands; apart = λ k. absurd (m (owner_is h n o k)) })) (nat_cases n node))
           (λ (ne : x ≢ rel). inl (record { stands = b.stands; apart = λ k i. ⊎_elim ne (λ j. b.apart k j) i })) (nat_cases x rel)
         where
@@ -277,8 +297,13 @@ module _ (s : State) (node rel g : ℕ) (row : RelRow) (rest : List ℕ) (most :
   number : (x n at : ℕ) → at + n ≤ 64 → (x ≡ g → (at + n ≤ sides.place_of side) ⊎ (sides.place_of side + 4 ≤ at))
       → field n (rec_at now.records format.groups_file x) at ≡ field n (rec_at s.records format.groups_file x) at
   number x n at inside aside =
-      pushes.only.same (key_in format.groups_file x) n at inside
-      ((λ e. let f = ap (λ (k : Key). k.file) e in absurd (omega arith)), ((λ e. let f = ap (λ (k : Key). k.file) e in absurd (omega arith)), ((λ e. aside (ap (λ (k : Key). k.id) e)), tt)))
+      pushes.only.same (key_in format.groups_file x) n at inside (
+        (λ e. let f = ap (λ (k : Key). k.file) e in absurd (omega arith)),
+        (
+          (λ e. let f = ap (λ (k : Key). k.file) e in absurd (omega arith)),
+          ((λ e. aside (ap (λ (k : Key). k.id) e)), tt),
+        ),
+      )
       ∙ ap (λ r. field n r at) (elsewhere-set_prev s.records node rel format.nil (key_in format.groups_file x) (λ e. omega arith))
 
   first_member : (first_of t.records head ≡ format.nil) ⊎ In (first_of t.records head) here.members
@@ -303,8 +328,13 @@ module _ (s : State) (node rel g : ℕ) (row : RelRow) (rest : List ℕ) (most :
               high_most s.records s.shape format.relationships_file keeps.others.ranges refl in omega arith
 
       stays : (n at : ℕ) → at + n ≤ 64 → field n (rec_at now.records format.relationships_file y) at ≡ field n (rec_at t.records format.relationships_file y) at
-      stays n at inside = pushes.only.same (key_in format.relationships_file y) n at inside
-          ((λ e. absurd (not_first (ap (λ (k : Key). k.id) e))), ((λ e. absurd (not_rel (ap (λ (k : Key). k.id) e))), ((λ e. let f = ap (λ (k : Key). k.file) e in absurd (omega arith)), tt)))
+      stays n at inside = pushes.only.same (key_in format.relationships_file y) n at inside (
+        (λ e. absurd (not_first (ap (λ (k : Key). k.id) e))),
+        (
+          (λ e. absurd (not_rel (ap (λ (k : Key). k.id) e))),
+          ((λ e. let f = ap (λ (k : Key). k.file) e in absurd (omega arith)), tt),
+        ),
+      )
 
       place_same : place_of (rec_at now.records format.relationships_file y) node ≡ place_of (rec_at t.records format.relationships_file y) node
       place_same = ap (λ v. cond (nat_eq v node) 16 24) (stays 4 8 (omega arith))
@@ -324,18 +354,31 @@ module _ (s : State) (node rel g : ℕ) (row : RelRow) (rest : List ℕ) (most :
   pub first_end : (first_of t.records head ≡ format.nil) ⊎ HasCome s.records node (rel ∷ rest) (first_of t.records head)
   first_end = ⊎_elim (λ none. inl none)
       (λ k. let a = here.only (first_of t.records head) k in
-      inr (record { row = a.stands.row; live = a.stands.live; end = end_on kind groups head node a.stands.row (inr owned) a.stands.on; apart = none_left head (first_of t.records head) owned a })) first_member
+      inr (record {
+        row = a.stands.row;
+        live = a.stands.live;
+        end = end_on kind groups head node a.stands.row (inr owned) a.stands.on;
+        apart = none_left head
+            (first_of t.records head) owned a;
+      })) first_member
 
   -- ---- the first two rules, and rows
   stepped : HasStepped s.records now.records s.shape node
   stepped = pushed_stepped s.records t s.shape node rel g (sides.place_of side)
-      (step_link s.records s.records s.shape node base rel (place_of (rec_at s.records format.relationships_file rel) node) format.nil (place_link (rec_at s.records format.relationships_file rel) node) (related rel row live) (inl refl))
+      (step_link s.records s.records s.shape node base rel (place_of (rec_at s.records format.relationships_file rel) node) format.nil
+      (place_link (rec_at s.records format.relationships_file rel) node) (related rel row live) (inl refl))
       (side_place side) grouped_is
       (ap (λ q. q) (re.rel_kind s.records t.records node one.frame rel) ∙ related rel row live)
       (λ some. first_related some)
     where
       base : HasStepped s.records s.records s.shape node
-      base = record { frame = frame_none s.records node; ranges = keeps.others.ranges; free = (keeps.others.split format.groups_file refl).0; split = (keeps.others.split format.groups_file refl).1 }
+      base = record {
+        frame = frame_none s.records node;
+        ranges = keeps.others.ranges;
+        free = (keeps.others.split format.groups_file refl).0;
+        split =
+            (keeps.others.split format.groups_file refl).1;
+      }
 
       one : HasStepped s.records t.records s.shape node
       one = step_link s.records s.records s.shape node base rel (place_of (rec_at s.records format.relationships_file rel) node) format.nil
@@ -358,15 +401,25 @@ module _ (s : State) (node rel g : ℕ) (row : RelRow) (rest : List ℕ) (most :
       low = let l = first_low (sides.place_of side) (side_place side) in omega arith
 
       meta : (n at : ℕ) → at + n ≤ 64 → field n (now.records (meta_key_of format.groups_file)) at ≡ field n (s.records (meta_key_of format.groups_file)) at
-      meta n at inside = pushes.only.same (meta_key_of format.groups_file) n at inside
-          ((λ e. let f = ap (λ (k : Key). k.file) e in absurd (omega arith)), ((λ e. let f = ap (λ (k : Key). k.file) e in absurd (omega arith)), ((λ e. let f = ap (λ (k : Key). k.file) e in absurd (omega arith)), tt)))
+      meta n at inside = pushes.only.same (meta_key_of format.groups_file) n at inside (
+        (λ e. let f = ap (λ (k : Key). k.file) e in absurd (omega arith)),
+        (
+          (λ e. let f = ap (λ (k : Key). k.file) e in absurd (omega arith)),
+          ((λ e. let f = ap (λ (k : Key). k.file) e in absurd (omega arith)), tt),
+        ),
+      )
           ∙ ap (λ r. field n r at) (elsewhere-set_prev s.records node rel format.nil (meta_key_of format.groups_file) (λ e. omega arith))
 
       mark : high now.records format.groups_file ≡ high s.records format.groups_file
       mark = meta 4 format.meta_high (omega arith)
 
   group_stays : (x : ℕ) → group_at now.records x ≡ group_at s.records x
-  group_stays x = λ i. row_if (kind_stays x i) (record { id = x; label = number x 4 format.group_type (omega arith) (λ _. inl (low 8 (omega arith))) i; owner = number x 4 format.group_owner (omega arith) (λ _. inl (low 12 (omega arith))) i })
+  group_stays x = λ i. row_if (kind_stays x i) (record {
+    id = x;
+    label = number x 4 format.group_type (omega arith) (λ _. inl (low 8 (omega arith)))
+        i;
+    owner = number x 4 format.group_owner (omega arith) (λ _. inl (low 12 (omega arith))) i;
+  })
     where
       low : (n : ℕ) → n ≤ 20 → n ≤ sides.place_of side
       low n le = let l = first_low (sides.place_of side) (side_place side) in omega arith
@@ -382,14 +435,21 @@ module _ (s : State) (node rel g : ℕ) (row : RelRow) (rest : List ℕ) (most :
   kinds_same = λ i x. each x i
     where
       each : (x : ℕ) → kind_at now.records format.nodes_file x ≡ kind x
-      each x = ⊎_elim (λ (e : x ≡ node). ap (kind_at now.records format.nodes_file) e ∙ re.dense_same s.records now.records node stepped.frame node dense ∙ sym dense ∙ ap kind (sym e)) (λ ne. stepped.frame.kinds x ne) (nat_cases x node)
+      each x = ⊎_elim (λ (e : x ≡ node). ap (kind_at now.records format.nodes_file) e ∙ re.dense_same s.records now.records node stepped.frame node dense
+          ∙ sym dense ∙ ap kind (sym e)) (λ ne. stepped.frame.kinds x ne) (nat_cases x node)
 
   linked_now : IsLinkedBut now.records kind rels groups node rest
   linked_now = record {
     ends = keeps.linked.ends;
     typed = λ x n q e there d left. ⊎_elim
         (λ (k : x ≡ rel). ⊎_elim
-        (λ (m : n ≡ node). record { row = record { id = g; label = row.label; owner = node }; group = group; owner = sym m; label = ap (λ (r : RelRow). r.label) (same_row row q (sym live ∙ ap rels (sym k) ∙ e)) })
+        (λ (m : n ≡ node). record {
+          row = record { id = g; label = row.label; owner = node };
+          group = group;
+          owner = sym m;
+          label = ap (λ (r : RelRow). r.label)
+              (same_row row q (sym live ∙ ap rels (sym k) ∙ e));
+        })
         (λ (m : n ≢ node). keeps.linked.typed x n q e there d (λ z. absurd (m z))) (nat_cases n node))
         (λ (ne : x ≢ rel). keeps.linked.typed x n q e there d (λ z i. ⊎_elim ne (λ j. left z j) i)) (nat_cases x rel);
     listed = listed_now;
@@ -400,15 +460,19 @@ module _ (s : State) (node rel g : ℕ) (row : RelRow) (rest : List ℕ) (most :
     owned = keeps.grouped.owned;
     each = λ n d. let h = keeps.grouped.each n d in record {
       members = h.members;
-      chain = subst (λ f. IsChain (λ k. field 4 (rec_at now.records format.groups_file k) format.group_next) (λ k. field 4 (rec_at now.records format.groups_file k) format.group_previous) format.nil f h.members) (sym (first_stays n))
-          (chain_stays (λ k. field 4 (rec_at s.records format.groups_file k) format.group_next) (λ k. field 4 (rec_at s.records format.groups_file k) format.group_previous)
+      chain = subst (λ f. IsChain (λ k. field 4 (rec_at now.records format.groups_file k) format.group_next)
+          (λ k. field 4 (rec_at now.records format.groups_file k) format.group_previous) format.nil f h.members) (sym (first_stays n))
+          (chain_stays (λ k. field 4 (rec_at s.records format.groups_file k) format.group_next) (λ k. field 4 (rec_at s.records format.groups_file k)
+          format.group_previous)
           (λ k. field 4 (rec_at now.records format.groups_file k) format.group_next)
           (λ k. field 4 (rec_at now.records format.groups_file k) format.group_previous) format.nil (first_link s.records n) h.members
           (λ k i. number k 4 format.group_next (omega arith) (λ _. inl (low 20 (omega arith))))
           (λ k i. number k 4 format.group_previous (omega arith) (λ _. inl (low 16 (omega arith)))) h.chain);
       only = h.only;
       filled = λ k i. ⊎_elim
-          (λ (e : k ≡ g). inl (subst (λ z. is_filled (rec_at now.records format.groups_file z) ≡ true) (sym e) (chain_filled (rec_at now.records format.groups_file g) (sides.place_of side) (side_place side) (λ none. let is = sym (pushes.chain.0) ∙ none in let few = small in omega arith))))
+          (λ (e : k ≡ g). inl (subst (λ z. is_filled (rec_at now.records format.groups_file z) ≡ true) (sym e)
+          (chain_filled (rec_at now.records format.groups_file g) (sides.place_of side) (side_place side) (λ none. let is = sym (pushes.chain.0)
+          ∙ none in let few = small in omega arith))))
           (λ (ne : k ≢ g). ⊎_elim (λ f. inl (filled_stays k ne ∙ f)) (λ j. ⊎_elim (λ e. absurd (ne e)) (λ l. inr l) j) (h.filled k i)) (nat_cases k g);
       all = h.all;
       once = λ a b i j same. h.once a b i j (sym (type_stays a) ∙ same ∙ type_stays b);
@@ -430,18 +494,25 @@ module _ (s : State) (node rel g : ℕ) (row : RelRow) (rest : List ℕ) (most :
           λ i. not (nat_eq (a i) format.nil && (nat_eq (b i) format.nil && nat_eq (c i) format.nil))
 
       first_stays : (n : ℕ) → first_link now.records n ≡ first_link s.records n
-      first_stays n = pushes.only.same (key_in format.nodes_file n) 4 format.node_first_link (omega arith)
-          ((λ e. let f = ap (λ (k : Key). k.file) e in absurd (omega arith)), ((λ e. let f = ap (λ (k : Key). k.file) e in absurd (omega arith)), ((λ e. let f = ap (λ (k : Key). k.file) e in absurd (omega arith)), tt)))
+      first_stays n = pushes.only.same (key_in format.nodes_file n) 4 format.node_first_link (omega arith) (
+        (λ e. let f = ap (λ (k : Key). k.file) e in absurd (omega arith)),
+        (
+          (λ e. let f = ap (λ (k : Key). k.file) e in absurd (omega arith)),
+          ((λ e. let f = ap (λ (k : Key). k.file) e in absurd (omega arith)), tt),
+        ),
+      )
           ∙ ap (λ r. field 4 r format.node_first_link) (elsewhere-set_prev s.records node rel format.nil (key_in format.nodes_file n) (λ e. omega arith))
 
   pub keeps_joined : KeepsBut now.records s.shape node rest most empty
   keeps_joined = record {
     others = others_stay s.records now.records node stepped.frame s.shape most keeps.others stepped.ranges stepped.free stepped.split;
     linked = subst (λ (k : ℕ → ℕ). IsLinkedBut now.records k (rel_at now.records) (group_at now.records) node rest) (sym kinds_same)
-        (subst (λ (r : ℕ → Option RelRow). IsLinkedBut now.records kind r (group_at now.records) node rest) (sym (re.rels_same s.records now.records node stepped.frame))
+        (subst (λ (r : ℕ → Option RelRow). IsLinkedBut now.records kind r (group_at now.records) node rest)
+        (sym (re.rels_same s.records now.records node stepped.frame))
         (subst (λ (q : ℕ → Option views.GroupRow). IsLinkedBut now.records kind rels q node rest) (sym groups_same) linked_now));
     grouped = subst (λ (k : ℕ → ℕ). IsGrouped k (first_link now.records) (rec_at now.records format.groups_file) (group_at now.records) empty) (sym kinds_same)
-        (subst (λ (q : ℕ → Option views.GroupRow). IsGrouped kind (first_link now.records) (rec_at now.records format.groups_file) q empty) (sym groups_same) grouped_now);
+        (subst (λ (q : ℕ → Option views.GroupRow). IsGrouped kind (first_link now.records) (rec_at now.records format.groups_file) q empty) (sym groups_same)
+        grouped_now);
   }
 
   regroups_now : Regroups s now node
@@ -457,12 +528,19 @@ module _ (s : State) (node rel g : ℕ) (row : RelRow) (rest : List ℕ) (most :
     nodes = λ x n at inside ne. node_stays x n at inside;
     here = λ n at inside one apart. node_stays node n at inside;
     rels = rel_stays;
-    groups = λ x q is ne n at inside. number x n at inside (λ e. absurd (ne (ap (λ (z : views.GroupRow). z.owner) (same_group q (record { id = g; label = row.label; owner = node }) (sym is ∙ ap groups e ∙ group)))));
+    groups = λ x q is ne n at inside. number x n at inside
+        (λ e. absurd (ne (ap (λ (z : views.GroupRow). z.owner) (same_group q (record { id = g; label = row.label; owner = node })
+        (sym is ∙ ap groups e ∙ group)))));
   }
     where
       node_stays : (x n at : ℕ) → at + n ≤ 64 → field n (rec_at now.records format.nodes_file x) at ≡ field n (rec_at s.records format.nodes_file x) at
-      node_stays x n at inside = pushes.only.same (key_in format.nodes_file x) n at inside
-          ((λ e. let f = ap (λ (k : Key). k.file) e in absurd (omega arith)), ((λ e. let f = ap (λ (k : Key). k.file) e in absurd (omega arith)), ((λ e. let f = ap (λ (k : Key). k.file) e in absurd (omega arith)), tt)))
+      node_stays x n at inside = pushes.only.same (key_in format.nodes_file x) n at inside (
+        (λ e. let f = ap (λ (k : Key). k.file) e in absurd (omega arith)),
+        (
+          (λ e. let f = ap (λ (k : Key). k.file) e in absurd (omega arith)),
+          ((λ e. let f = ap (λ (k : Key). k.file) e in absurd (omega arith)), tt),
+        ),
+      )
           ∙ ap (λ r. field n r at) (elsewhere-set_prev s.records node rel format.nil (key_in format.nodes_file x) (λ e. omega arith))
 
       -- the bytes of a relationship at the node that stand beside its links
@@ -489,7 +567,8 @@ module _ (s : State) (node rel g : ℕ) (row : RelRow) (rest : List ℕ) (most :
           ⊎ ((place_of (rec_at t.records format.relationships_file rel) node + 4) + 4 ≤ at)
       rel_apart n at beside =
           subst (λ p. (at + n ≤ p + 4) ⊎ ((p + 4) + 4 ≤ at)) (sym (place_is rel))
-          (⊎_elim (λ (l : at + n ≤ place_of (rec_at s.records format.relationships_file rel) node). inl (omega arith)) (λ (l : place_of (rec_at s.records format.relationships_file rel) node + 8 ≤ at). inr (omega arith)) (at_place rel n at row live end beside))
+          (⊎_elim (λ (l : at + n ≤ place_of (rec_at s.records format.relationships_file rel) node). inl (omega arith))
+          (λ (l : place_of (rec_at s.records format.relationships_file rel) node + 8 ≤ at). inr (omega arith)) (at_place rel n at row live end beside))
 
       freed_stays : (x n at : ℕ) → at + n ≤ 64 → IsBesideLinks (rec_at s.records format.relationships_file x) node n at
           → field n (rec_at t.records format.relationships_file x) at ≡ field n (rec_at s.records format.relationships_file x) at
@@ -497,11 +576,14 @@ module _ (s : State) (node rel g : ℕ) (row : RelRow) (rest : List ℕ) (most :
           let place = place_of (rec_at s.records format.relationships_file rel) node in
           let freed : Rec = with_field 4 (rec_at s.records format.relationships_file rel) place format.nil in
           ⊎_elim
-          (λ (e : x ≡ rel). subst (λ z. field n (rec_at t.records format.relationships_file z) at ≡ field n (rec_at s.records format.relationships_file z) at) (sym e)
+          (λ (e : x ≡ rel). subst (λ z. field n (rec_at t.records format.relationships_file z) at ≡ field n (rec_at s.records format.relationships_file z) at)
+          (sym e)
           (ap (λ r. field n r at) (put_same s.records (rel_key rel) freed)
           ∙ field-with_field_other 4 (rec_at s.records format.relationships_file rel) place format.nil n at inside
-          (⊎_elim (λ (l : at + n ≤ place). inr l) (λ (l : place + 8 ≤ at). inl (omega arith)) (at_place rel n at row live end (subst (λ z. IsBesideLinks (rec_at s.records format.relationships_file z) node n at) e beside)))))
-          (λ (ne : x ≢ rel). ap (λ r. field n r at) (put_other s.records (rel_key rel) freed (key_in format.relationships_file x) (λ e. ne (ap (λ (k : Key). k.id) e)))) (nat_cases x rel)
+          (⊎_elim (λ (l : at + n ≤ place). inr l) (λ (l : place + 8 ≤ at). inl (omega arith)) (at_place rel n at row live end
+          (subst (λ z. IsBesideLinks (rec_at s.records format.relationships_file z) node n at) e beside)))))
+          (λ (ne : x ≢ rel). ap (λ r. field n r at) (put_other s.records (rel_key rel) freed (key_in format.relationships_file x)
+          (λ e. ne (ap (λ (k : Key). k.id) e)))) (nat_cases x rel)
 
       rel_stays : (x n at : ℕ) → x ≢ format.nil → at + n ≤ 64 → IsBesideLinks (rec_at s.records format.relationships_file x) node n at
           → field n (rec_at now.records format.relationships_file x) at ≡ field n (rec_at s.records format.relationships_file x) at
@@ -531,7 +613,8 @@ module _ (s : State) (node rel g : ℕ) (row : RelRow) (rest : List ℕ) (most :
     exact_here : AreExactBut now.records node (rel ∷ rest)
     exact_here = exact_stays s.records now.records node (rel ∷ rest) kind_stays group_stays
         (λ x at within. number x 4 at (let b = within.1 in omega arith) (λ _. inr (let b = within.0 in let c = place_high in omega arith)))
-        (re.rels_same s.records now.records node stepped.frame) (re.mark_same s.records now.records node stepped.frame format.relationships_file (λ e. omega arith)) exact
+        (re.rels_same s.records now.records node stepped.frame) (re.mark_same s.records now.records node stepped.frame format.relationships_file
+        (λ e. omega arith)) exact
       where
         place_high : sides.place_of side + 4 ≤ 32
         place_high = ⊎_elim (λ (e : sides.place_of side ≡ 20). omega arith)
@@ -552,14 +635,17 @@ module _ (s : State) (node rel g : ℕ) (row : RelRow) (rest : List ℕ) (most :
 
     -- the node has no more groups
     pub groups_joined : (x : ℕ) → IsGroupOf end_state.records node x → IsGroupOf s.records node x
-    groups_joined x is = groups_here x (ex.tally_groups now node rel g (sides.place_of side) row rest most empty keeps_here dense_here live_here group_here out side_here exact_here counted_here x is)
+    groups_joined x is = groups_here x (ex.tally_groups now node rel g (sides.place_of side) row rest most empty keeps_here dense_here live_here group_here out
+        side_here exact_here counted_here x is)
 
     pub regroups_joined : Regroups s end_state node
-    regroups_joined = regroups_both s now end_state node regroups_now (ex.tally_regroups now node rel g (sides.place_of side) row rest most empty keeps_here dense_here live_here group_here out side_here exact_here counted_here)
+    regroups_joined = regroups_both s now end_state node regroups_now (ex.tally_regroups now node rel g (sides.place_of side) row rest most empty keeps_here
+        dense_here live_here group_here out side_here exact_here counted_here)
 
     pub leaves_joined : LeavesOthers s end_state node
     leaves_joined = leaves_both s now end_state node regroups_now leaves_now
-        (leaves_put now end_state node g (with_field 4 (rec_at now.records format.groups_file g) (sides.place_of side + 12) put_is.0) (record { id = g; label = row.label; owner = node }) group_here refl put_is.1)
+        (leaves_put now end_state node g (with_field 4 (rec_at now.records format.groups_file g) (sides.place_of side + 12) put_is.0)
+        (record { id = g; label = row.label; owner = node }) group_here refl put_is.1)
 
     -- the others are left
     pub spread_joined : (next : ℕ) → IsWalk (next_of s.records node) next rest → IsSpread end_state node next rest most empty

@@ -37,12 +37,27 @@ use Rattle.group_store.proofs.Regrouping.{regroups_both, regroups_read}
 
 pub all_but : (s : Records) (shape : Shape) (node most : ℕ) (empty : List ℕ) → KeepsRules s shape most empty → KeepsBut s shape node [] most empty
 all_but s shape node most empty well = record {
-  others = record { ranges = well.ranges; split = well.split; kept = well.kept; properties = well.properties; named = well.named; defined = well.defined; names = well.names; degrees = well.degrees };
+  others = record {
+    ranges = well.ranges;
+    split = well.split;
+    kept = well.kept;
+    properties = well.properties;
+    named = well.named;
+    defined = well.defined;
+    names = well.names;
+    degrees = well.degrees;
+  };
   linked = record {
     ends = well.linked.ends;
     typed = λ x n row live end dense out. well.linked.typed x n row live end dense;
     listed = record {
-      each = λ h n o. let l = well.linked.listed.each h n o in record { members = l.members; chain = l.chain; only = λ x i. record { stands = l.only x i; apart = λ k i. i }; all = λ x (a : StandsBut (rel_at s) (group_at s) node [] h x). l.all x a.stands };
+      each = λ h n o. let l = well.linked.listed.each h n o in record {
+        members = l.members;
+        chain = l.chain;
+        only = λ x i.
+            record { stands = l.only x i; apart = λ k i. i };
+        all = λ x (a : StandsBut (rel_at s) (group_at s) node [] h x). l.all x a.stands;
+      };
     };
   };
   grouped = well.grouped;
@@ -59,7 +74,13 @@ but_all s shape node most empty well exact = record {
     ends = well.linked.ends;
     typed = λ x n row live end dense. well.linked.typed x n row live end dense (λ e i. i);
     listed = record {
-      each = λ h n o. let l = well.linked.listed.each h n o in record { members = l.members; chain = l.chain; only = λ x i. (l.only x i).stands; all = λ x a. l.all x (record { stands = a; apart = λ k i. i }) };
+      each = λ h n o. let l = well.linked.listed.each h n o in record {
+        members = l.members;
+        chain = l.chain;
+        only = λ x i. (l.only x i).stands;
+        all = λ x a.
+            l.all x (record { stands = a; apart = λ k i. i });
+      };
     };
   };
   grouped = well.grouped;
@@ -86,7 +107,8 @@ head_after s t h n row kinds groups end =
     let kind : kind_at t format.nodes_file ≡ kind_at s format.nodes_file = λ i m. kinds m i in
     let group : group_at t ≡ group_at s = λ i k. groups k i in
     record {
-      owns = subst (λ (v : ℕ → ℕ). Owns v (group_at t) h n) (sym kind) (subst (λ (v : ℕ → Option GroupRow). Owns (kind_at s format.nodes_file) v h n) (sym group) end.owns);
+      owns = subst (λ (v : ℕ → ℕ). Owns v (group_at t) h n) (sym kind) (subst (λ (v : ℕ → Option GroupRow). Owns (kind_at s format.nodes_file) v h n)
+          (sym group) end.owns);
       on = subst (λ (v : ℕ → Option GroupRow). IsOn v h row) (sym group) end.on;
     }
 
@@ -97,7 +119,8 @@ module _ (s m : State) (node label : ℕ) (own : Row) (side : Side) (row : RelRo
       (exact_all m.records node (opened.exact (all_exact s.records node can.keeps.exact)))
 
   row_is : group_in (rec_at m.records format.groups_file own.id) own.id ≡ record { id = own.id; label = label; owner = node }
-  row_is = (some_row (kind_at m.records format.groups_file own.id) (group_in (rec_at m.records format.groups_file own.id) own.id) (record { id = own.id; label = label; owner = node }) opened.group).1
+  row_is = (some_row (kind_at m.records format.groups_file own.id) (group_in (rec_at m.records format.groups_file own.id) own.id)
+      (record { id = own.id; label = label; owner = node }) opened.group).1
 
   member : IsGroupOf m.records node own.id
   member = group_of_row m.records m.shape node own.id (record { id = own.id; label = label; owner = node }) well.ranges opened.group refl
@@ -110,7 +133,11 @@ module _ (s m : State) (node label : ℕ) (own : Row) (side : Side) (row : RelRo
   on_chain =
       let has = well.grouped.each node dense_now in
       let groups = IsGroupChain-HasGroups m.records m.shape node well.ranges has in
-      list_on m.records node has.members dense_now (record { walk = walk_of_chain _ _ format.nil (first_link m.records node) has.members groups.chain; only = groups.only }) own.id (groups.all own.id member)
+      list_on m.records node has.members dense_now (record {
+        walk = walk_of_chain _ _ format.nil (first_link m.records node) has.members groups.chain;
+        only =
+            groups.only;
+      }) own.id (groups.all own.id member)
 
   -- so it can be counted
   pub can_raise : own ≡ group_row_at m.records own.id → CanRaise m node own s.shape.threshold (own.id ∷ empty)
@@ -145,7 +172,15 @@ module _ (s z : State) (same : SameButReads s z) (node degree_is threshold label
       let to_z : Regroups s z node = subst (λ (q : State). Regroups s q node) (sym same) (regroups_read s z.reads node) in
       let regroups = regroups_both s z t node to_z o.regroups in
       let leaves = leaves_both s z t node to_z (leaves_read s z node same) o.leaves in
-      record { keeps = o.keeps; stands = o.stands; counted = o.counted; few = o.few; group_kinds = group_kinds s t node regroups leaves; regroups = regroups; leaves = leaves }
+      record {
+        keeps = o.keeps;
+        stands = o.stands;
+        counted = o.counted;
+        few = o.few;
+        group_kinds = group_kinds s t node regroups leaves;
+        regroups = regroups;
+        leaves = leaves;
+      }
 
   module _ (thin : ¬ IsDense s.records node) where
     sparse : kind_at s.records format.nodes_file node ≡ format.sparse
@@ -194,7 +229,15 @@ module _ (s z : State) (same : SameButReads s z) (node degree_is threshold label
     dense_opens t h o =
         let regroups = regroups_both z u t node becomes.regroups o.regroups in
         let leaves = leaves_both z u t node becomes.regroups becomes.leaves o.leaves in
-        then_opens t h (record { keeps = o.keeps; stands = o.stands; counted = o.counted; few = o.few; group_kinds = group_kinds z t node regroups leaves; regroups = regroups; leaves = leaves })
+        then_opens t h (record {
+          keeps = o.keeps;
+          stands = o.stands;
+          counted = o.counted;
+          few = o.few;
+          group_kinds = group_kinds z t node regroups leaves;
+          regroups = regroups;
+          leaves = leaves;
+        })
 
 -- ---- what is written
 
@@ -217,4 +260,5 @@ module _ (s z t : State) (node threshold degree_is : ℕ) (same : SameButReads s
 
     pub dense_opened : (head : Key) → WritesBeside (node_key node) (2 * (threshold + 1)) z u → WritesOpened u t node head 1
         → WritesOpened s t node head (moved_writes threshold degree_is + 1)
-    dense_opened head w v = opened_more (let c = count in omega arith) (opened_then s z t node head (none_beside (node_key node) s z same) (opened_then z u t node head w v))
+    dense_opened head w v = opened_more (let c = count in omega arith) (opened_then s z t node head (none_beside (node_key node) s z same)
+        (opened_then z u t node head w v))

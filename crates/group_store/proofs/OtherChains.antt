@@ -66,7 +66,8 @@ module _ (s : State) (node g : ℕ) (own : IsOwnedBy s.records node g) (tested :
   mark = mark_groups l g small ∙ ap (λ (r : Rec). (metas.meta_of r).high) (meta_stays s node before after)
 
   first_t : (n : ℕ) → n ≢ node → first_link t.records n ≡ first_link s.records n
-  first_t n ne = ap (λ (r : Rec). field 4 r format.node_first_link) (record_given l g small (node_key n) (λ e. let f = ap (λ (k : Key). k.file) e in omega arith) (λ e. let f = ap (λ (k : Key). k.file) e in omega arith))
+  first_t n ne = ap (λ (r : Rec). field 4 r format.node_first_link) (record_given l g small (node_key n) (λ e. let f = ap (λ (k : Key). k.file)
+      e in omega arith) (λ e. let f = ap (λ (k : Key). k.file) e in omega arith))
       ∙ first_other s node before after n ne
 
   -- ---- a chain of another node has none of the records that are written
@@ -85,7 +86,8 @@ module _ (s : State) (node g : ℕ) (own : IsOwnedBy s.records node g) (tested :
         let member : In after xs = subst (λ z. In z xs) e i in
         let back = (tested.behind (some after member)).back in
         ⊎_elim
-        (λ (is : first ≡ after). some_g (sym back ∙ first_before (next_group s.records) (previous_group s.records) format.nil first xs after here.chain member is))
+        (λ (is : first ≡ after). some_g (sym back ∙ first_before (next_group s.records) (previous_group s.records) format.nil first xs after here.chain member
+        is))
         (λ k. off g (subst (λ z. In z xs) back k) refl)
         (before_in (next_group s.records) (previous_group s.records) format.nil first xs after here.chain member)
 
@@ -124,7 +126,8 @@ module _ (s : State) (node g : ℕ) (own : IsOwnedBy s.records node g) (tested :
         let is : previous_group t.records h ≡ before
         = ap (λ (r : Rec). field 4 r format.group_previous) (rec_t h other) ∙ ap (previous_group l.records) e
         ∙ previous_after s node before after (λ none. some_h (e ∙ none)) small_before in
-        inr (⊎_elim (λ none. inl (is ∙ none)) (λ some. inr (subst (λ m. previous_group t.records h < m) (sym mark) (subst (λ x. x < group_mark s) (sym is) (low.before some)))) (nat_cases before format.nil)))
+        inr (⊎_elim (λ none. inl (is ∙ none)) (λ some. inr (subst (λ m. previous_group t.records h < m) (sym mark) (subst (λ x. x < group_mark s) (sym is)
+        (low.before some)))) (nat_cases before format.nil)))
         (λ (apart : h ≢ after). inl (number h 4 format.group_previous (omega arith) other (λ e. absurd (apart e)) (λ _. inl (omega arith))))
         (nat_cases h after)
 
@@ -134,7 +137,8 @@ module _ (s : State) (node g : ℕ) (own : IsOwnedBy s.records node g) (tested :
         let is : next_group t.records h ≡ after
         = ap (λ (r : Rec). field 4 r format.group_next) (rec_t h other) ∙ ap (next_group l.records) e
         ∙ next_before s node before after (λ none. some_h (e ∙ none)) small_after in
-        inr (⊎_elim (λ none. inl (is ∙ none)) (λ some. inr (subst (λ m. next_group t.records h < m) (sym mark) (subst (λ x. x < group_mark s) (sym is) (low.after some)))) (nat_cases after format.nil)))
+        inr (⊎_elim (λ none. inl (is ∙ none)) (λ some. inr (subst (λ m. next_group t.records h < m) (sym mark) (subst (λ x. x < group_mark s) (sym is)
+        (low.after some)))) (nat_cases after format.nil)))
         (λ (apart : h ≢ before). inl (number h 4 format.group_next (omega arith) other (λ _. inr (omega arith)) (λ e. absurd (apart e))))
         (nat_cases h before)
 

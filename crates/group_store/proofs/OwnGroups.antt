@@ -21,7 +21,10 @@ if_ok (Err e) P Q f p = tt
 
 -- what holds of a space holds of it after reads
 pub writes_after : (s now end : State) (keys : List Key) → SameButReads s now → WritesOnly now end keys → WritesOnly s end keys
-writes_after s now end keys same writes = record { each = λ q w. ⊎_elim (λ k. inl (subst (λ (t : Key → Bool). t q ≡ true) (ap (λ (t : State). t.written) same) k)) (λ k. inr k) (writes.each q w) }
+writes_after s now end keys same writes = record {
+  each = λ q w. ⊎_elim (λ k. inl (subst (λ (t : Key → Bool). t q ≡ true) (ap (λ (t : State). t.written) same)
+      k)) (λ k. inr k) (writes.each q w);
+}
 
 pub keeps_then : (s now : State) (node : ℕ) (rest : List ℕ) (most : ℕ) (empty : List ℕ) → SameButReads s now → KeepsBut s.records s.shape node rest most empty
     → KeepsBut now.records now.shape node rest most empty
@@ -35,7 +38,15 @@ keeps_more records shape node g rest most empty keeps = record {
   linked = keeps.linked;
   grouped = record {
     owned = keeps.grouped.owned;
-    each = λ n d. let h = keeps.grouped.each n d in record { members = h.members; chain = h.chain; only = h.only; filled = λ k i. ⊎_elim (λ f. inl f) (λ j. inr (inr j)) (h.filled k i); all = h.all; once = h.once };
+    each = λ n d. let h = keeps.grouped.each n d in record {
+      members = h.members;
+      chain = h.chain;
+      only = h.only;
+      filled = λ k i. ⊎_elim (λ f. inl f)
+          (λ j. inr (inr j)) (h.filled k i);
+      all = h.all;
+      once = h.once;
+    };
   };
 }
 

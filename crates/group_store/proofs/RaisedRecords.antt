@@ -26,7 +26,8 @@ inner a b e = cc
 -- a byte that is in none of the ranges
 apart : (i at size : ℕ) → is_in i (bytes_of at size) ≡ false → (i < at) ⊎ (at + size ≤ i)
 apart i at size out = ⊎_elim (λ (lt : i < at). inl lt)
-    (λ (ge : at ≤ i). ⊎_elim (λ (lt : i < at + size). absurd (let e : true ≡ false = sym (inside ge lt) ∙ out in cc)) (λ (le : at + size ≤ i). inr le) (cases_lt i (at + size))) (cases_lt i at)
+    (λ (ge : at ≤ i). ⊎_elim (λ (lt : i < at + size). absurd (let e : true ≡ false = sym (inside ge lt) ∙ out in cc)) (λ (le : at + size ≤ i). inr le)
+    (cases_lt i (at + size))) (cases_lt i at)
   where
     inside : at ≤ i → i < at + size → is_in i (bytes_of at size) ≡ true
     inside ge lt = grind (arith, nat_tests)

@@ -79,7 +79,12 @@ length_reads s r node first n h = (h.0, record { chain = h.1.chain; few = h.1.fe
 -- numbers that are known before reads
 pub lengths_read : (s z : State) (node : ℕ) (row : GroupRow) (counts : Counts) → SameButReads s z → AreLengths s node row counts → AreLengths z node row counts
 lengths_read s z node row counts same h = subst (λ (q : State). AreLengths q node row counts) (sym same)
-    (record { out = length_reads s z.reads node row.first_out counts.out h.out; into = length_reads s z.reads node row.first_in counts.into h.into; loops = length_reads s z.reads node row.first_loop counts.loops h.loops })
+    (record {
+      out = length_reads s z.reads node row.first_out counts.out h.out;
+      into = length_reads s z.reads node row.first_in counts.into h.into;
+      loops =
+          length_reads s z.reads node row.first_loop counts.loops h.loops;
+    })
 
 counted_reads : (s : State) (r first node : ℕ) (members : Members) (budget n : ℕ) → HasCounted (record s { reads = r }) first node members budget n
     → HasCounted s first node members budget n
@@ -125,14 +130,16 @@ module _ (s : State) (node : ℕ) (row : GroupRow) (at : IsGroupAt s node row) w
   -- where the row has numbers the record has them
   pub counted_kind : row.counted ≡ true → kind_at s.records format.groups_file row.id ≡ format.counted
   counted_kind e = ⊎_elim
-      (λ (k : kind_at s.records format.groups_file row.id ≡ format.grouped). absurd (true≢false (sym e ∙ counted_byte ∙ ap (λ v. nat_eq v format.counted) (sym byte_is ∙ k))))
+      (λ (k : kind_at s.records format.groups_file row.id ≡ format.grouped). absurd (true≢false (sym e ∙ counted_byte ∙ ap (λ v. nat_eq v format.counted)
+      (sym byte_is ∙ k))))
       (λ (k : kind_at s.records format.groups_file row.id ≡ format.counted). k) (group_kinds (kind_at s.records format.groups_file row.id) at.member.kind)
 
   -- where it hasn't the record is of the other kind
   pub grouped_byte : row.counted ≡ false → field 1 (rec_at s.records format.groups_file row.id) format.kind ≡ format.grouped
   grouped_byte e = ⊎_elim
       (λ (k : kind_at s.records format.groups_file row.id ≡ format.grouped). sym byte_is ∙ k)
-      (λ (k : kind_at s.records format.groups_file row.id ≡ format.counted). absurd (true≢false (sym (counted_byte ∙ ap (λ v. nat_eq v format.counted) (sym byte_is ∙ k)) ∙ e)))
+      (λ (k : kind_at s.records format.groups_file row.id ≡ format.counted). absurd (true≢false (sym (counted_byte ∙ ap (λ v. nat_eq v format.counted)
+      (sym byte_is ∙ k)) ∙ e)))
       (group_kinds (kind_at s.records format.groups_file row.id) at.member.kind)
 
   -- more relationships than the degree says
@@ -235,17 +242,20 @@ module _ (s : State) (node : ℕ) (row : GroupRow) (most : ℕ) (empty : List �
       (λ (e : k ≡ row.id).
       let same : gr ≡ q = same_group gr q (sym (group_is s node row at) ∙ ap (group_at s.records) (sym e) ∙ sym (group_same k) ∙ is) in
       subst (λ j. HasCounts (rec_at t format.groups_file j) q (rel_at s.records) (high s.records format.relationships_file)) (sym e)
-      (subst (λ (v : Rec). HasCounts v q (rel_at s.records) (high s.records format.relationships_file)) (sym (puts.here s.records s.shape node row.id rec at.member.kind (ap is_group_kind kind) (records.same r counts a b c) fits))
+      (subst (λ (v : Rec). HasCounts v q (rel_at s.records) (high s.records format.relationships_file))
+      (sym (puts.here s.records s.shape node row.id rec at.member.kind (ap is_group_kind kind) (records.same r counts a b c) fits))
       (subst (λ (v : views.GroupRow). HasCounts rec v (rel_at s.records) (high s.records format.relationships_file)) same counts_now)))
       (λ (ne : k ≢ row.id).
       subst (λ (v : Rec). HasCounts v q (rel_at s.records) (high s.records format.relationships_file))
       (sym (puts.other s.records s.shape node row.id rec at.member.kind (ap is_group_kind kind) (records.same r counts a b c) fits k ne))
-      (can.keeps.exact k q (sym (group_same k) ∙ is) (sym (puts.kind_other s.records s.shape node row.id rec at.member.kind (ap is_group_kind kind) (records.same r counts a b c) fits k ne) ∙ counted)))
+      (can.keeps.exact k q (sym (group_same k) ∙ is) (sym (puts.kind_other s.records s.shape node row.id rec at.member.kind (ap is_group_kind kind)
+      (records.same r counts a b c) fits k ne) ∙ counted)))
       (nat_cases k row.id)
 
   keeps_now : KeepsRules t s.shape most empty
   keeps_now = but_all t s.shape node most empty
-      (puts.put_keeps s.records s.shape node row.id rec at.member.kind (ap is_group_kind kind) (records.same r counts a b c) fits [] most empty (all_but s.records s.shape node most empty can.keeps)) exact
+      (puts.put_keeps s.records s.shape node row.id rec at.member.kind (ap is_group_kind kind) (records.same r counts a b c) fits [] most empty
+      (all_but s.records s.shape node most empty can.keeps)) exact
 
   pub raises : HasRaised s (raised_state s row.id counts) node row.id most empty
   raises = record {
@@ -254,7 +264,8 @@ module _ (s : State) (node : ℕ) (row : GroupRow) (most : ℕ) (empty : List �
     kinds = λ n. refl;
     others = λ k ne. puts.kind_other s.records s.shape node row.id rec at.member.kind (ap is_group_kind kind) (records.same r counts a b c) fits k ne;
     groups = group_same;
-    regroups = regroups_of s (raised_state s row.id counts) node (puts.frame s.records s.shape node row.id rec at.member.kind (ap is_group_kind kind) (records.same r counts a b c) fits) refl
+    regroups = regroups_of s (raised_state s row.id counts) node (puts.frame s.records s.shape node row.id rec at.member.kind (ap is_group_kind kind)
+        (records.same r counts a b c) fits) refl
         (λ k q is ne. group_same k ∙ is);
     leaves = leaves_put s (raised_state s row.id counts) node row.id rec gr (group_is s node row at) refl refl;
   }

@@ -27,7 +27,8 @@ use Rattle.store_rules.proofs.NumberLaws.{nat_cases}
 use Rattle.store_rules.proofs.ViewLaws.{kind_by, live_true, row_some}
 use Rattle.group_store.specs.Spreading.{KeepsOthers}
 
--- No record changed but nodes in their kinds and first links, relationships in their links, and groups. At most this node changed its kind: it was sparse, and is dense.
+-- No record changed but nodes in their kinds and first links, relationships in their links, and
+-- groups. At most this node changed its kind: it was sparse, and is dense.
 pub record IsFrame (s t : Records) (node : ℕ) : Type 0 where
   pub others : (key : Key) → key.file ≢ format.nodes_file → key.file ≢ format.relationships_file → key.file ≢ format.groups_file
       → key ≢ meta_key_of format.groups_file → t key ≡ s key
@@ -40,7 +41,14 @@ pub record IsFrame (s t : Records) (node : ℕ) : Type 0 where
       → field n (rec_at t format.relationships_file x) at ≡ field n (rec_at s format.relationships_file x) at
 
 pub frame_none : (s : Records) (node : ℕ) → IsFrame s s node
-frame_none s node = record { others = λ key a b c d. refl; nodes = λ x n at inside one apart. refl; kinds = λ x ne. refl; here = inl refl; rels = λ x n at inside apart. refl }
+frame_none s node = record {
+  others = λ key a b c d. refl;
+  nodes = λ x n at inside one apart. refl;
+  kinds = λ x ne. refl;
+  here = inl refl;
+  rels =
+      λ x n at inside apart. refl;
+}
 
 -- one change after another
 pub frame_both : (s m t : Records) (node : ℕ) → IsFrame s m node → IsFrame m t node → IsFrame s t node
@@ -69,7 +77,8 @@ module _ (s t : Records) (node : ℕ) (h : IsFrame s t node) where
   kind_cases : (x : ℕ) → (kind_at t format.nodes_file x ≡ kind_at s format.nodes_file x)
       ⊎ ((kind_at s format.nodes_file x ≢ 0) × (kind_at t format.nodes_file x ≢ 0))
   kind_cases x = ⊎_elim
-      (λ (e : x ≡ node). subst (λ z. (kind_at t format.nodes_file z ≡ kind_at s format.nodes_file z) ⊎ ((kind_at s format.nodes_file z ≢ 0) × (kind_at t format.nodes_file z ≢ 0))) (sym e)
+      (λ (e : x ≡ node). subst (λ z. (kind_at t format.nodes_file z ≡ kind_at s format.nodes_file z) ⊎ ((kind_at s format.nodes_file z ≢ 0) ×
+      (kind_at t format.nodes_file z ≢ 0))) (sym e)
       (⊎_elim (λ f. inl f) (λ f. inr ((λ z. let a = sym z ∙ f.0 in omega arith), (λ z. let a = sym z ∙ f.1 in omega arith))) h.here))
       (λ (ne : x ≢ node). inl (h.kinds x ne)) (nat_cases x node)
 
@@ -81,7 +90,8 @@ module _ (s t : Records) (node : ℕ) (h : IsFrame s t node) where
 
   pub sparse_was : (x : ℕ) → kind_at t format.nodes_file x ≡ format.sparse → kind_at s format.nodes_file x ≡ format.sparse
   sparse_was x is = ⊎_elim
-      (λ (e : x ≡ node). ⊎_elim (λ f. ap (kind_at s format.nodes_file) e ∙ sym f ∙ ap (kind_at t format.nodes_file) (sym e) ∙ is) (λ f. absurd (let a = sym f.1 ∙ ap (kind_at t format.nodes_file) (sym e) ∙ is in omega arith)) h.here)
+      (λ (e : x ≡ node). ⊎_elim (λ f. ap (kind_at s format.nodes_file) e ∙ sym f ∙ ap (kind_at t format.nodes_file) (sym e) ∙ is)
+      (λ f. absurd (let a = sym f.1 ∙ ap (kind_at t format.nodes_file) (sym e) ∙ is in omega arith)) h.here)
       (λ (ne : x ≢ node). sym (h.kinds x ne) ∙ is) (nat_cases x node)
 
   pub dense_same : (x : ℕ) → kind_at s format.nodes_file x ≡ format.dense → kind_at t format.nodes_file x ≡ format.dense
@@ -104,7 +114,8 @@ module _ (s t : Records) (node : ℕ) (h : IsFrame s t node) where
   pub node_same : (x : ℕ) → node_at t x ≡ node_at s x
   node_same x = ap (row_if (kind_at t format.nodes_file x)) (node_row x) ∙ ⊎_elim
       (λ e. ap (λ k. row_if k (node_in (rec_at s format.nodes_file x) x)) e)
-      (λ k. row_some (kind_at t format.nodes_file x) (node_in (rec_at s format.nodes_file x) x) k.1 ∙ sym (row_some (kind_at s format.nodes_file x) (node_in (rec_at s format.nodes_file x) x) k.0))
+      (λ k. row_some (kind_at t format.nodes_file x) (node_in (rec_at s format.nodes_file x) x) k.1 ∙ sym (row_some (kind_at s format.nodes_file x)
+      (node_in (rec_at s format.nodes_file x) x) k.0))
       (kind_cases x)
 
   pub rel_kind : (x : ℕ) → kind_at t format.relationships_file x ≡ kind_at s format.relationships_file x
@@ -158,7 +169,8 @@ module _ (s t : Records) (node : ℕ) (h : IsFrame s t node) where
 
   -- ---- the second rule
   live_node : (x : ℕ) → is_live t format.nodes_file x ≡ is_live s format.nodes_file x
-  live_node x = ⊎_elim (λ e. ap (λ k. not (nat_eq k 0)) e) (λ k. live_true (kind_at t format.nodes_file x) k.1 ∙ sym (live_true (kind_at s format.nodes_file x) k.0)) (kind_cases x)
+  live_node x = ⊎_elim (λ e. ap (λ k. not (nat_eq k 0)) e) (λ k. live_true (kind_at t format.nodes_file x) k.1 ∙ sym (live_true (kind_at s format.nodes_file x)
+      k.0)) (kind_cases x)
 
   split_stays : (f : ℕ) (free : List ℕ) → f ≢ format.groups_file → is_live t f ≡ is_live s f → ((x : ℕ) → next_free t f x ≡ next_free s f x)
       → IsSplit s f (is_live s f) free → IsSplit t f (is_live t f) free
@@ -177,7 +189,8 @@ module _ (s t : Records) (node : ℕ) (h : IsFrame s t node) where
       (split_stays format.nodes_file free (λ e. omega arith) (λ i x. live_node x i) (λ x. h.nodes x 4 4 (omega arith) (omega arith) (inl (omega arith)))) k)
       (λ (a : f ≢ format.nodes_file). ⊎_elim
       (λ (e : f ≡ format.relationships_file). subst (λ g. IsSplit s g (is_live s g) free → IsSplit t g (is_live t g) free) (sym e)
-      (split_stays format.relationships_file free (λ e. omega arith) (λ i x. not (nat_eq (rel_kind x i) 0)) (λ x. h.rels x 4 4 (omega arith) (inl (omega arith)))) k)
+      (split_stays format.relationships_file free (λ e. omega arith) (λ i x. not (nat_eq (rel_kind x i) 0)) (λ x. h.rels x 4 4 (omega arith)
+      (inl (omega arith)))) k)
       (λ (b : f ≢ format.relationships_file). split_same s t f free (file_same f (meta_of_reused f is) a b ne) k)
       (nat_cases f format.relationships_file)) (nat_cases f format.nodes_file)
 
@@ -197,7 +210,8 @@ module _ (s t : Records) (node : ℕ) (h : IsFrame s t node) where
         (subst (λ (r : ℕ → Option RelRow). HaveProperties (property_files s) (node_at s) r (high t format.names_file)) (sym rels_same)
         (subst (HaveProperties (property_files s) (node_at s) (rel_at s)) (sym name_mark) old.properties)));
     named = subst (λ (n : ℕ → Option NodeRow). AreNamed n (rel_at t) (high t format.names_file)) (sym nodes_same)
-        (subst (λ (r : ℕ → Option RelRow). AreNamed (node_at s) r (high t format.names_file)) (sym rels_same) (subst (AreNamed (node_at s) (rel_at s)) (sym name_mark) old.named));
+        (subst (λ (r : ℕ → Option RelRow). AreNamed (node_at s) r (high t format.names_file)) (sym rels_same) (subst (AreNamed (node_at s) (rel_at s))
+        (sym name_mark) old.named));
     defined = defined_stay s t (record {
       records = λ i x. (file_same format.index_file refl (λ e. omega arith) (λ e. omega arith) (λ e. omega arith)).each x i;
       meta = meta_same format.index_file (λ e. omega arith);
@@ -228,7 +242,18 @@ regroups_of s t node h shape groups = record {
 }
 
 pub regroups_read : (s : State) (reads node : ℕ) → Regroups s (record s { reads = reads }) node
-regroups_read s reads node = record { shape = refl; graph = refl; nodes = λ x. refl; rels = λ x. refl; degrees = λ x. refl; kinds = λ m ne. refl; groups = λ g row is ne. is; metas = λ f ne. refl; others = λ key a b c d. refl }
+regroups_read s reads node = record {
+  shape = refl;
+  graph = refl;
+  nodes = λ x. refl;
+  rels = λ x. refl;
+  degrees = λ x. refl;
+  kinds = λ m ne. refl;
+  groups =
+      λ g row is ne. is;
+  metas = λ f ne. refl;
+  others = λ key a b c d. refl;
+}
 
 pub regroups_both : (s m t : State) (node : ℕ) → Regroups s m node → Regroups m t node → Regroups s t node
 regroups_both s m t node h k = record {

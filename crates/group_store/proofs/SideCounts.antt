@@ -119,7 +119,12 @@ module _ (s : Records) (g label node : ℕ) (is : group_at s g ≡ Some (row_as 
         let l = well.linked.listed.each (group_head g z) node (owns z dense) in (
           l.members,
           subst (λ (r : Records). IsMemberChain (record t { records = r }) (first_of s (group_head g z)) node (members_of label z) l.members) (sym same)
-              (record { chain = l.chain; low = λ x i. stands_low s (is_member node (members_of label z)) x (stands_there z x (l.only x i)); are = λ x i. stands_there z x (l.only x i) }),
+              (record {
+                chain = l.chain;
+                low = λ x i. stands_low s (is_member node (members_of label z)) x (stands_there z x (l.only x i));
+                are = λ x i.
+                    stands_there z x (l.only x i);
+              }),
         )
 
     -- it has as many as stand there
@@ -148,7 +153,8 @@ one_test false false true = omega arith
 one_test false false false = omega arith
 
 -- a relationship stands on one side at most
-row_test : (node label : ℕ) (o : Option RelRow) → (one_if (passes (is_member node (members_of label Out)) o) + one_if (passes (is_member node (members_of label Into)) o)) + one_if (passes (is_member node (members_of label Loop)) o) ≤ one_if (stands_in node o)
+row_test : (node label : ℕ) (o : Option RelRow) → (one_if (passes (is_member node (members_of label Out)) o) + one_if
+    (passes (is_member node (members_of label Into)) o)) + one_if (passes (is_member node (members_of label Loop)) o) ≤ one_if (stands_in node o)
 row_test node label None = omega arith
 row_test node label (Some row) = one_test (nat_eq row.label label) (nat_eq row.from node) (nat_eq row.to node)
 

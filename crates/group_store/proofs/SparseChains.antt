@@ -82,7 +82,8 @@ end_stands s node x a = ap (stands_in node) a.live ∙ stands_true node a.row (e
     end_of (inr k) = absurd (let z = k.0 in omega arith)
 
 module _ (s : State) (node before at n : ℕ) (xs : List ℕ) (some : at ≢ format.nil) (t : HasTail s node before at n xs) where
-  tail_first : {P : Type 0} → ((ys : List ℕ) → IsChain (next_of s.records node) (prev_of s.records node) before at (at ∷ ys) → ((x : ℕ) → In x (at ∷ ys) → In x t.left) → length ys + (n + 1) ≡ length xs → P) → P
+  tail_first : {P : Type 0} → ((ys : List ℕ) → IsChain (next_of s.records node) (prev_of s.records node) before at (at ∷ ys) → ((x : ℕ) → In x (at ∷ ys)
+      → In x t.left) → length ys + (n + 1) ≡ length xs → P) → P
   tail_first {P} found = by t.left t.chain (λ x i. i) t.many
     where
       by : (ys : List ℕ) → IsChain (next_of s.records node) (prev_of s.records node) before at ys → ((x : ℕ) → In x ys → In x t.left)
@@ -243,4 +244,10 @@ crossed_more s node first before at next n there here link h = record {
 }
 
 pub crossed_all : (s : State) (node first at n most : ℕ) → at ≡ format.nil → n ≤ most → HasCrossed s node first at n → HasChain s.records node first most
-crossed_all s node first at n most none le h = record { members = h.met; walk = subst (IsWalk (next_of s.records node) first) (append-nil h.met) (h.walk [] none); live = h.live; few = let e = h.long in omega arith }
+crossed_all s node first at n most none le h = record {
+  members = h.met;
+  walk = subst (IsWalk (next_of s.records node) first) (append-nil h.met)
+      (h.walk [] none);
+  live = h.live;
+  few = let e = h.long in omega arith;
+}

@@ -77,7 +77,8 @@ pub record IsMoving (m : State) (node rel g : ℕ) (row : views.RelRow) (rest : 
 
 -- the group was found or made after a load, told by the space as it was
 module _ (s l m : State) (node rel : ℕ) (row : RelRow) (g : ℕ) (same : SameButReads s l) (is : Some row ≡ loading.row_at s.records rel)
-    (opens : (rest : List ℕ) (most : ℕ) (empty : List ℕ) → KeepsBut l.records l.shape node rest most empty → IsDense l.records node → KeepsBut m.records m.shape node rest most (g ∷ empty) × HasOpened l m node row.label g rest)
+    (opens : (rest : List ℕ) (most : ℕ) (empty : List ℕ) → KeepsBut l.records l.shape node rest most empty → IsDense l.records node → KeepsBut m.records m.shape
+    node rest most (g ∷ empty) × HasOpened l m node row.label g rest)
     (rest : List ℕ) (most : ℕ) (empty : List ℕ) (spread : IsSpread s node rel (rel ∷ rest) most empty) where
   pub opened : KeepsBut m.records m.shape node (rel ∷ rest) most (g ∷ empty) × HasOpened l m node row.label g (rel ∷ rest)
   opened = opens (rel ∷ rest) most empty (keeps_then s l node (rel ∷ rest) most empty same spread.keeps)
@@ -129,13 +130,17 @@ module _ (s l m : State) (node rel : ℕ) (row : RelRow) (g : ℕ) (same : SameB
       (subst (λ z. IsWalk (next_of s.records node) z rest) (sym next_is) spread.walk.2) in
       let side = side_at node row.from row.to in
       let end_of : counted_joined m (group_head g side) node rel ≡ end =
-      sym (put ∙ ap (λ (q : State). tallied one_more (pushed q h node rel) h) freed ∙ ap (λ (q : Head). tallied one_more (pushed (prev_set m node rel format.nil) q node rel) q) head) in (
+      sym (put ∙ ap (λ (q : State). tallied one_more (pushed q h node rel) h) freed ∙ ap (λ (q : Head). tallied one_more
+      (pushed (prev_set m node rel format.nil) q node rel) q) head) in (
         subst (λ (q : State). IsSpread q node next rest most empty) end_of
-            (spread_joined m node rel g (rule_row row) rest most empty moving.keeps moving.dense moving.live moving.end moving.group moving.out moving.left moving.exact moving.counted next walk),
+            (spread_joined m node rel g (rule_row row) rest most empty moving.keeps moving.dense moving.live moving.end moving.group moving.out moving.left
+            moving.exact moving.counted next walk),
         regroups_both s m end node to_m
-            (subst (λ (q : State). Regroups m q node) end_of (regroups_joined m node rel g (rule_row row) rest most empty moving.keeps moving.dense moving.live moving.end moving.group moving.out moving.left moving.exact moving.counted)),
+            (subst (λ (q : State). Regroups m q node) end_of (regroups_joined m node rel g (rule_row row) rest most empty moving.keeps moving.dense moving.live
+            moving.end moving.group moving.out moving.left moving.exact moving.counted)),
         leaves_both s m end node to_m leaves_m
-            (subst (λ (q : State). LeavesOthers m q node) end_of (leaves_joined m node rel g (rule_row row) rest most empty moving.keeps moving.dense moving.live moving.end moving.group moving.out moving.left moving.exact moving.counted)),
+            (subst (λ (q : State). LeavesOthers m q node) end_of (leaves_joined m node rel g (rule_row row) rest most empty moving.keeps moving.dense
+            moving.live moving.end moving.group moving.out moving.left moving.exact moving.counted)),
       )
 
 -- there is room for another group
@@ -144,7 +149,8 @@ pub has_room : (s l : State) (node rel : ℕ) (rest : List ℕ) (most : ℕ) (em
     → (meta_of l format.groups_file).live ≢ room_of l.shape format.groups_file
 has_room s l node rel rest most empty same spread room = subst (λ (q : State). (meta_of q format.groups_file).live ≢ room_of q.shape format.groups_file)
     (sym same)
-    (λ full. let found = spread.ends rel (inl refl) in let lt = fewer_groups s.records s.shape node (rel ∷ rest) most empty spread.keeps rel found.0 (inl refl) found.1 found.2 in omega arith)
+    (λ full. let found = spread.ends rel (inl refl) in let lt = fewer_groups s.records s.shape node (rel ∷ rest) most empty spread.keeps rel found.0 (inl refl)
+    found.1 found.2 in omega arith)
 
 -- ---- no damage is told
 
@@ -221,9 +227,11 @@ left_all s l t node row most empty came groups same is clear came_is groups_is c
     record {
       rest = rest l node most empty keeps sparse;
       spread = subst (λ (q : State). IsSpread q node row.first (rest l node most empty keeps sparse) most empty) (sym clear)
-          (subst (λ f. IsSpread (cleared l node) node f (rest l node most empty keeps sparse) most empty) first (spread_cleared l node most empty keeps sparse));
+          (subst (λ f. IsSpread (cleared l node) node f (rest l node most empty keeps sparse) most empty) first (spread_cleared l node most empty keeps
+          sparse));
       regroups = regroups_both s l t node to_l (subst (λ (q : State). Regroups l q node) (sym clear) (regroups_cleared l node most empty keeps sparse));
-      leaves = leaves_both s l t node to_l (leaves_read s l node same) (subst (λ (q : State). LeavesOthers l q node) (sym clear) (leaves_cleared l node most empty keeps sparse));
+      leaves = leaves_both s l t node to_l (leaves_read s l node same) (subst (λ (q : State). LeavesOthers l q node) (sym clear)
+          (leaves_cleared l node most empty keeps sparse));
       few = let le = few_left l node most empty keeps sparse in let e = to_l.degrees node in omega arith;
       rels = λ x q live end. inl (at_node l node most empty keeps sparse x q (to_l.rels x ∙ live) end);
       owned = λ g i. absurd (none_owned l node most empty keeps sparse g (subst (λ (q : State). IsGroupOf q.records node g) clear i));
@@ -245,7 +253,8 @@ module _ (s now end : State) (node at count most : ℕ) (empty came groups : Lis
     (own : (rest : List ℕ) (most : ℕ) (empty : List ℕ) → IsSpread now node at (at ∷ rest) most empty → IsOwnTurn now end node (at ∷ rest) turn)
     (left : HasLeft s now node at count most empty came groups) where
   pub left_next : (xs ys : List ℕ) → xs ≡ came ++ at ∷ [] → ys ≡ groups ++ turn.group ∷ []
-      → ((rest : List ℕ) (most : ℕ) (empty : List ℕ) → IsSpread now node at (at ∷ rest) most empty → IsSpread end node turn.next rest most empty × Regroups now end node × LeavesOthers now end node)
+      → ((rest : List ℕ) (most : ℕ) (empty : List ℕ) → IsSpread now node at (at ∷ rest) most empty → IsSpread end node turn.next rest most empty × Regroups now
+      end node × LeavesOthers now end node)
       → HasLeft s end node turn.next (count + 1) most empty xs ys
   left_next xs ys xs_is ys_is move = by left.rest left.spread left.few left.rels
     where
@@ -264,9 +273,11 @@ module _ (s now end : State) (node at count most : ℕ) (empty came groups : Lis
             leaves = leaves_both s now end node left.regroups left.leaves one.2;
             few = omega arith;
             rels = λ y row live at_end. subst (λ zs. In y later ⊎ In y zs) (sym xs_is)
-                (⊎_elim (λ i. ⊎_elim (λ e. inr (subst (λ z. In z (came ++ at ∷ [])) (spread.walk.0 ∙ sym e) (in_last at came))) inl i) (λ i. inr (in_before y at came i)) (rels y row live at_end));
+                (⊎_elim (λ i. ⊎_elim (λ e. inr (subst (λ z. In z (came ++ at ∷ [])) (spread.walk.0 ∙ sym e) (in_last at came))) inl i)
+                (λ i. inr (in_before y at came i)) (rels y row live at_end));
             owned = λ g i. subst (λ zs. In g zs) (sym ys_is)
-                (⊎_elim (λ e. subst (λ z. In z (groups ++ turn.group ∷ [])) (sym e) (in_last turn.group groups)) (λ k. in_before g turn.group groups (left.owned g k)) (turned.grows.groups g i));
+                (⊎_elim (λ e. subst (λ z. In z (groups ++ turn.group ∷ [])) (sym e) (in_last turn.group groups)) (λ k. in_before g turn.group groups
+                (left.owned g k)) (turned.grows.groups g i));
             no_rel = subst (λ zs. In format.nil zs) (sym xs_is) (in_before format.nil at came left.no_rel);
             no_group = subst (λ zs. In format.nil zs) (sym ys_is) (in_before format.nil turn.group groups left.no_group);
           }
@@ -275,12 +286,14 @@ module _ (s now end : State) (node at count most : ℕ) (empty came groups : Lis
   pub turn_known : In turn.first came × In turn.before groups
   turn_known = by left.rest left.spread left.rels
     where
-      by : (later : List ℕ) → IsSpread now node at later most empty → ((x : ℕ) (row : views.RelRow) → rel_at s.records x ≡ Some row → IsEnd node row → In x later ⊎ In x came) → In turn.first came × In turn.before groups
+      by : (later : List ℕ) → IsSpread now node at later most empty → ((x : ℕ) (row : views.RelRow) → rel_at s.records x ≡ Some row → IsEnd node row
+          → In x later ⊎ In x came) → In turn.first came × In turn.before groups
       by [] spread rels = absurd (there spread.walk)
       by (x ∷ later) spread rels =
           let turned = own later most empty (subst (λ z. IsSpread now node at (z ∷ later) most empty) (sym spread.walk.0) spread) in (
             ⊎_elim (λ e. subst (λ z. In z came) (sym e) left.no_rel)
-                (λ (k : HasCome now.records node (at ∷ later) turn.first). ⊎_elim (λ i. absurd (k.apart (⊎_elim (λ e. inl (e ∙ sym spread.walk.0)) inr i))) (λ i. i)
+                (λ (k : HasCome now.records node (at ∷ later) turn.first). ⊎_elim (λ i. absurd (k.apart (⊎_elim (λ e. inl (e ∙ sym spread.walk.0)) inr i)))
+                (λ i. i)
                 (rels turn.first k.row (sym (left.regroups.rels turn.first) ∙ k.live) k.end)) turned.first,
             ⊎_elim (λ e. subst (λ z. In z groups) (sym e) left.no_group) (λ k. left.owned turn.before k) turned.grows.first,
           )
@@ -290,7 +303,13 @@ pub left_none : (s now : State) (node at count most : ℕ) (empty came groups : 
 left_none s now node at count most empty came groups none left = by left.rest left.spread
   where
     by : (later : List ℕ) → IsSpread now node at later most empty → BecomesDense s now node most empty
-    by [] spread = record { keeps = but_all now.records now.shape node most empty spread.keeps (exact_all now.records node spread.exact); dense = spread.dense; counted = spread.counted; regroups = left.regroups; leaves = left.leaves }
+    by [] spread = record {
+      keeps = but_all now.records now.shape node most empty spread.keeps (exact_all now.records node spread.exact);
+      dense = spread.dense;
+      counted = spread.counted;
+      regroups = left.regroups;
+      leaves = left.leaves;
+    }
     by (x ∷ later) spread = absurd (spread.walk.1 (sym spread.walk.0 ∙ none))
 
 -- where some are left the next one is the first of them

@@ -21,31 +21,36 @@ use Rattle.group_store.specs.GroupRecord.{is_counted}
 -- the three ways: no group's head, a counted group's, and another group's
 pub tally_cases : (change : ℕ → ℕ) (t : State) (head : Head) (P : State → Type 0) → (head.key.file ≢ format.groups_file → P t)
     → (head.key.file ≡ format.groups_file → is_counted (t.records head.key) ≡ true
-    → P (after_put (after_get t) head.key (with_field 4 (t.records head.key) (count_place head.field) (change (field 4 (t.records head.key) (count_place head.field))))))
+    → P (after_put (after_get t) head.key (with_field 4 (t.records head.key) (count_place head.field)
+    (change (field 4 (t.records head.key) (count_place head.field))))))
     → (head.key.file ≡ format.groups_file → is_counted (t.records head.key) ≡ false → P (after_put (after_get t) head.key (t.records head.key)))
     → P (tallied change t head)
 unfolding tallied
 tally_cases change t head P none counted plain = by (nat_eq head.key.file format.groups_file) refl
   where
     of_group : head.key.file ≡ format.groups_file → (b : Bool) → is_counted (t.records head.key) ≡ b
-        → P (after_put (after_get t) head.key (cond b (with_field 4 (t.records head.key) (count_place head.field) (change (field 4 (t.records head.key) (count_place head.field)))) (t.records head.key)))
+        → P (after_put (after_get t) head.key (cond b (with_field 4 (t.records head.key) (count_place head.field)
+        (change (field 4 (t.records head.key) (count_place head.field)))) (t.records head.key)))
     of_group is true e = counted is e
     of_group is false e = plain is e
 
-    by : (b : Bool) → nat_eq head.key.file format.groups_file ≡ b → P (cond b (after_put (after_get t) head.key (recounted change (t.records head.key) (count_place head.field))) t)
+    by : (b : Bool) → nat_eq head.key.file format.groups_file ≡ b → P (cond b (after_put (after_get t) head.key (recounted change (t.records head.key)
+        (count_place head.field))) t)
     by true e = of_group (eqb-true _ _ e) (is_counted (t.records head.key)) refl
     by false e = none (eqb-false _ _ e)
 
 -- other records stay
 pub elsewhere-tallied : (change : ℕ → ℕ) (t : State) (head : Head) (key : Key) → key ≢ head.key → (tallied change t head).records key ≡ t.records key
 elsewhere-tallied change t head key ne = tally_cases change t head (λ z. z.records key ≡ t.records key) (λ _. refl)
-    (λ _ _. put_other t.records head.key (with_field 4 (t.records head.key) (count_place head.field) (change (field 4 (t.records head.key) (count_place head.field)))) key ne)
+    (λ _ _. put_other t.records head.key (with_field 4 (t.records head.key) (count_place head.field)
+    (change (field 4 (t.records head.key) (count_place head.field)))) key ne)
     (λ _ _. put_other t.records head.key (t.records head.key) key ne)
 
 -- and those of other files
 pub file-tallied : (change : ℕ → ℕ) (t : State) (head : Head) (key : Key) → key.file ≢ format.groups_file → (tallied change t head).records key ≡ t.records key
 file-tallied change t head key ne = tally_cases change t head (λ z. z.records key ≡ t.records key) (λ _. refl)
-    (λ is _. put_other t.records head.key (with_field 4 (t.records head.key) (count_place head.field) (change (field 4 (t.records head.key) (count_place head.field)))) key (λ e. ne (ap (λ (k : Key). k.file) e ∙ is)))
+    (λ is _. put_other t.records head.key (with_field 4 (t.records head.key) (count_place head.field)
+    (change (field 4 (t.records head.key) (count_place head.field)))) key (λ e. ne (ap (λ (k : Key). k.file) e ∙ is)))
     (λ is _. put_other t.records head.key (t.records head.key) key (λ e. ne (ap (λ (k : Key). k.file) e ∙ is)))
 
 pub shape-tallied : (change : ℕ → ℕ) (t : State) (head : Head) → (tallied change t head).shape ≡ t.shape
@@ -71,14 +76,18 @@ pub field-tallied : (change : ℕ → ℕ) (t : State) (head : Head) (key : Key)
     → field n ((tallied change t head).records key) at ≡ field n (t.records key) at
 field-tallied change t head key n at low = tally_cases change t head (λ z. field n (z.records key) at ≡ field n (t.records key) at) (λ _. refl)
     (λ _ _. ⊎_elim
-    (λ (e : key ≡ head.key). ap (λ k. field n (put t.records head.key (with_field 4 (t.records head.key) (count_place head.field) (change (field 4 (t.records head.key) (count_place head.field)))) k) at) e
-    ∙ ap (λ r. field n r at) (put_same t.records head.key (with_field 4 (t.records head.key) (count_place head.field) (change (field 4 (t.records head.key) (count_place head.field)))))
+    (λ (e : key ≡ head.key). ap (λ k. field n (put t.records head.key (with_field 4 (t.records head.key) (count_place head.field)
+    (change (field 4 (t.records head.key) (count_place head.field)))) k) at) e
+    ∙ ap (λ r. field n r at) (put_same t.records head.key (with_field 4 (t.records head.key) (count_place head.field)
+    (change (field 4 (t.records head.key) (count_place head.field)))))
     ∙ field-with_field_other 4 (t.records head.key) (count_place head.field) (change (field 4 (t.records head.key) (count_place head.field))) n at (omega arith)
     (inr (let h = (count_high head.field).0 in omega arith))
     ∙ ap (λ k. field n (t.records k) at) (sym e))
-    (λ (ne : key ≢ head.key). ap (λ r. field n r at) (put_other t.records head.key (with_field 4 (t.records head.key) (count_place head.field) (change (field 4 (t.records head.key) (count_place head.field)))) key ne)) (key_cases key head.key))
+    (λ (ne : key ≢ head.key). ap (λ r. field n r at) (put_other t.records head.key (with_field 4 (t.records head.key) (count_place head.field)
+    (change (field 4 (t.records head.key) (count_place head.field)))) key ne)) (key_cases key head.key))
     (λ _ _. ⊎_elim
-    (λ (e : key ≡ head.key). ap (λ k. field n (put t.records head.key (t.records head.key) k) at) e ∙ ap (λ r. field n r at) (put_same t.records head.key (t.records head.key)) ∙ ap (λ k. field n (t.records k) at) (sym e))
+    (λ (e : key ≡ head.key). ap (λ k. field n (put t.records head.key (t.records head.key) k) at) e ∙ ap (λ r. field n r at) (put_same t.records head.key
+    (t.records head.key)) ∙ ap (λ k. field n (t.records k) at) (sym e))
     (λ (ne : key ≢ head.key). ap (λ r. field n r at) (put_other t.records head.key (t.records head.key) key ne)) (key_cases key head.key))
 
 -- and each number that stands apart from the one of the head
@@ -87,12 +96,14 @@ pub apart-tallied : (change : ℕ → ℕ) (t : State) (head : Head) (key : Key)
     → field n ((tallied change t head).records key) at ≡ field n (t.records key) at
 apart-tallied change t head key n at inside apart = tally_cases change t head (λ z. field n (z.records key) at ≡ field n (t.records key) at) (λ _. refl)
     (λ _ _. by (with_field 4 (t.records head.key) (count_place head.field) (change (field 4 (t.records head.key) (count_place head.field))))
-    (λ e. field-with_field_other 4 (t.records head.key) (count_place head.field) (change (field 4 (t.records head.key) (count_place head.field))) n at inside (⊎_elim (λ low. inr low) (λ high. inl high) (apart e))))
+    (λ e. field-with_field_other 4 (t.records head.key) (count_place head.field) (change (field 4 (t.records head.key) (count_place head.field))) n at inside
+    (⊎_elim (λ low. inr low) (λ high. inl high) (apart e))))
     (λ _ _. by (t.records head.key) (λ _. refl))
   where
     by : (r : Rec) → (key ≡ head.key → field n r at ≡ field n (t.records head.key) at) → field n (put t.records head.key r key) at ≡ field n (t.records key) at
     by r same = ⊎_elim
-        (λ (e : key ≡ head.key). ap (λ k. field n (put t.records head.key r k) at) e ∙ ap (λ q. field n q at) (put_same t.records head.key r) ∙ same e ∙ ap (λ k. field n (t.records k) at) (sym e))
+        (λ (e : key ≡ head.key). ap (λ k. field n (put t.records head.key r k) at) e ∙ ap (λ q. field n q at) (put_same t.records head.key r) ∙ same e ∙ ap
+        (λ k. field n (t.records k) at) (sym e))
         (λ (ne : key ≢ head.key). ap (λ q. field n q at) (put_other t.records head.key r key ne)) (key_cases key head.key)
 
 -- the number itself, of a counted group
@@ -126,9 +137,12 @@ links_tallied s t change head small below old = tally_cases change t head (λ z.
     let kind : kind_at s format.groups_file head.key.id ≡ format.counted =
     kind_low (high s format.groups_file) (rec_at s format.groups_file head.key.id) head.key.id (below is)
     ∙ sym (byte_stays s t.records old format.groups_file head.key.id) ∙ byte in
-    subst (λ (k : Key). IsRelinked s (put t.records k (with_field 4 (t.records k) (count_place head.field) (change (field 4 (t.records k) (count_place head.field)))))) (sym key)
-    (set_count s t.records old head.key.id (count_place head.field) (change (field 4 (rec_at t.records format.groups_file head.key.id) (count_place head.field))) kind (count_high head.field).2
-    (small (field 4 (rec_at t.records format.groups_file head.key.id) (count_place head.field)) (field-lt 4 (rec_at t.records format.groups_file head.key.id) (count_place head.field)))))
+    subst (λ (k : Key). IsRelinked s (put t.records k (with_field 4 (t.records k) (count_place head.field)
+    (change (field 4 (t.records k) (count_place head.field)))))) (sym key)
+    (set_count s t.records old head.key.id (count_place head.field) (change (field 4 (rec_at t.records format.groups_file head.key.id)
+    (count_place head.field))) kind (count_high head.field).2
+    (small (field 4 (rec_at t.records format.groups_file head.key.id) (count_place head.field)) (field-lt 4 (rec_at t.records format.groups_file head.key.id)
+    (count_place head.field)))))
     (λ _ _. subst (IsRelinked s) (sym (put_again t.records head.key)) old)
 
 pub more_small : (n : ℕ) → n < 2 ^ 32 → one_more n < 2 ^ 32
@@ -147,7 +161,12 @@ place_is at group row (inr (inr k)) = subst (λ a. count_place a ≡ a + 12) (sy
 -- numbers that are the same
 pub more_like : (old new then : Rec) (group : GroupRow) (row : RelRow) → ((at : ℕ) → IsCountPlace at → field 4 then at ≡ field 4 new at)
     → HasOneMore old new group row → HasOneMore old then group row
-more_like old new then group row same h = record { out = same 32 (inl refl) ∙ h.out; into = same 36 (inr (inl refl)) ∙ h.into; loops = same 40 (inr (inr refl)) ∙ h.loops }
+more_like old new then group row same h = record {
+  out = same 32 (inl refl) ∙ h.out;
+  into = same 36 (inr (inl refl)) ∙ h.into;
+  loops = same 40 (inr (inr refl))
+      ∙ h.loops;
+}
 
 -- one more relationship is one more
 pub more_counted : (r : Rec) (at : ℕ) (group : GroupRow) (row : RelRow) → row.label ≡ group.label → IsSide at group row → field 4 r (at + 12) < 2 ^ 32 - 1

@@ -41,7 +41,14 @@ touches_none s t node a b same = record {
 }
 
 pub touches_more : (s t : State) (node a b c d : ℕ) → a ≤ c → b ≤ d → TouchesGroups s t node a b → TouchesGroups s t node c d
-touches_more s t node a b c d le few h = record { rels = h.rels; groups = h.groups; few_rels = let e = h.few_rels in omega arith; few_groups = let e = h.few_groups in omega arith; only = h.only }
+touches_more s t node a b c d le few h = record {
+  rels = h.rels;
+  groups = h.groups;
+  few_rels = let e = h.few_rels in omega arith;
+  few_groups = let e =
+      h.few_groups in omega arith;
+  only = h.only;
+}
 
 -- a longer list has what a shorter one had
 map_left : (key : ℕ → Key) (q : Key) (xs ys : List ℕ) → IsAmong q (map key xs) → IsAmong q (map key (xs ++ ys))
@@ -72,7 +79,8 @@ touches_then s m t node a b c d h k = record {
 }
 
 -- a relationship, the one that follows it, a group and the group that follows it
-pub four_touched : (s t : State) (node r k g f : ℕ) → WritesOnly s t (rel_key r ∷ rel_key k ∷ group_key g ∷ group_key f ∷ node_key node ∷ meta_key_of format.groups_file ∷ []) → TouchesGroups s t node 2 2
+pub four_touched : (s t : State) (node r k g f : ℕ) → WritesOnly s t (rel_key r ∷ rel_key k ∷ group_key g ∷ group_key f ∷ node_key node ∷ meta_key_of
+    format.groups_file ∷ []) → TouchesGroups s t node 2 2
 four_touched s t node r k g f w = record {
   rels = r ∷ k ∷ [];
   groups = g ∷ f ∷ [];
@@ -99,7 +107,10 @@ made_touched s t node first id w = record {
   groups = first ∷ id ∷ [];
   few_rels = omega arith;
   few_groups = omega arith;
-  only = record { each = λ q l. ⊎_elim inl (λ i. inr (⊎_elim (λ e. inr (inr (inl e))) (λ j. ⊎_elim (λ e. inr (inr (inr (inl e)))) (λ k. ⊎_elim inl (λ m. ⊎_elim (λ e. inr (inl e)) (λ e. absurd e) m) k) j) i)) (w.each q l) };
+  only = record {
+    each = λ q l. ⊎_elim inl (λ i. inr (⊎_elim (λ e. inr (inr (inl e))) (λ j. ⊎_elim (λ e. inr (inr (inr (inl e))))
+        (λ k. ⊎_elim inl (λ m. ⊎_elim (λ e. inr (inl e)) (λ e. absurd e) m) k) j) i)) (w.each q l);
+  };
 }
 
 -- the node's record alone
@@ -109,5 +120,7 @@ node_touched s l t node a b same w = record {
   groups = [];
   few_rels = omega arith;
   few_groups = omega arith;
-  only = record { each = λ q k. ⊎_elim (λ old. inl (subst (λ (z : State). z.written q ≡ true) same old)) (λ i. inr (⊎_elim inl (λ j. absurd j) i)) (w.each q k) };
+  only = record {
+    each = λ q k. ⊎_elim (λ old. inl (subst (λ (z : State). z.written q ≡ true) same old)) (λ i. inr (⊎_elim inl (λ j. absurd j) i)) (w.each q k);
+  };
 }

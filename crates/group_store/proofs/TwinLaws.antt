@@ -116,7 +116,8 @@ pub met_then : (s z : State) (node first group label : ℕ) (r : Result Bool Fau
     → IfOk r (IsMet z.records node first group label) → IfOk r (HasTwinIf s.records node group)
 met_then s z node first group label (Err fault) same dense is typed told = tt
 met_then s z node first group label (Ok twin) same dense is typed told =
-    met_all s.records node group label twin dense typed (subst (λ f. IsMet s.records node f group label twin) is (subst (λ (r : Records). IsMet r node first group label twin) (same_records s z same) told))
+    met_all s.records node group label twin dense typed (subst (λ f. IsMet s.records node f group label twin) is
+    (subst (λ (r : Records). IsMet r node first group label twin) (same_records s z same) told))
 
 -- ---- reads
 
@@ -139,7 +140,8 @@ lone_head records head node rel row live placed lone = record {
     has (inr c) = inr c.own.dense
 
     type_is : (g : ℕ) (group : views.GroupRow) → group_at records g ≡ Some group → type_of records g ≡ group.label
-    type_is g group is = ap (λ (r : views.GroupRow). r.label) (some_row (kind_at records format.groups_file g) (group_in (rec_at records format.groups_file g) g) group is).1
+    type_is g group is = ap (λ (r : views.GroupRow). r.label) (some_row (kind_at records format.groups_file g) (group_in (rec_at records format.groups_file g)
+        g) group is).1
 
     only : (h : Head) → IsChainHead records h node → IsOn (group_at records) h row → IsChainHead records head node → h ≡ head
     only h (inl a) on (inl b) = a.is ∙ sym b.is
@@ -206,7 +208,8 @@ pub named_breaks : (s z : State) (head : Head) (node rel : ℕ) (row : RelRow) (
     → IsPlaced s.records head node row
     → (IsLoneHead s.records head node rel row → Breaks s.records s.shape damage) → IsNamed z head node damage named → Breaks s.records s.shape named
 named_breaks s z head node rel row damage named same live placed breaks (inl k) =
-    subst (Breaks s.records s.shape) (sym k.0) (breaks (lone_head s.records head node rel row live placed (subst (λ (r : Records). IsLoneAt r head node) (same_records s z same) k.1)))
+    subst (Breaks s.records s.shape) (sym k.0) (breaks (lone_head s.records head node rel row live placed (subst (λ (r : Records). IsLoneAt r head node)
+    (same_records s z same) k.1)))
 named_breaks s z head node rel row damage named same live placed breaks (inr k) =
     twin_breaks s head node named placed.owns (twin_read s z head node named same k)
 

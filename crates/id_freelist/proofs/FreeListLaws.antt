@@ -87,8 +87,14 @@ has_given s file id free is small can =
     let at_id : next id ≡ old.free = ap (λ r. field 4 r format.free_next) (put_same s.records (key_in file id) (free_record old.free))
     ∙ field-with_field_same 4 zeros format.free_next old.free (omega arith) f in
     let at_other : (x : ℕ) → In x free → next x ≡ next_free s.records file x
-    = λ x i. ap (λ r. field 4 r format.free_next) (put_other s.records (key_in file id) (free_record old.free) (key_in file x) (λ e. can.fresh (subst (λ z. In z free) (ap (λ (k : Key). k.id) e) i))) in
-    let walk : IsWalk next id (id ∷ free) = (refl, (λ e. omega arith), subst (λ z. IsWalk next z free) (sym at_id) (walk_stays (next_free s.records file) next old.free free at_other can.list)) in
+    = λ x i. ap (λ r. field 4 r format.free_next) (put_other s.records (key_in file id) (free_record old.free) (key_in file x)
+    (λ e. can.fresh (subst (λ z. In z free) (ap (λ (k : Key). k.id) e) i))) in
+    let walk : IsWalk next id (id ∷ free) = (
+      refl,
+      (λ e. omega arith),
+      subst (λ z. IsWalk next z free) (sym at_id) (walk_stays (next_free s.records file)
+          next old.free free at_other can.list),
+    ) in
     record {
       list = subst (λ z. IsWalk (next_free (meta_put one.records file m) file) z (id ∷ free)) (sym (ap (λ (q : Meta). q.free) back))
           (put_walk one.records file m h id_fits l1 is id (id ∷ free) walk);
@@ -107,7 +113,8 @@ pub free_by : (s new : State) (file : ℕ) (meta : Meta) (free : List ℕ) → m
     → IsFreeList s.records file free → HasTaken s.records new.records file meta.free free
 free_by s new file meta free read is some live now list =
     let P : Meta → Type 0 = λ m. m.free ≢ format.nil → m.live < format.most_ids → HasTaken s.records new.records file m.free free in
-    subst P (sym read) (λ n l. subst (λ (t : State). HasTaken s.records t.records file (meta_of s file).free free) (sym now) (has_taken_free s file free is n l list)) some live
+    subst P (sym read) (λ n l. subst (λ (t : State). HasTaken s.records t.records file (meta_of s file).free free) (sym now) (has_taken_free s file free is n l
+    list)) some live
 
 -- a give changes the identifier's record and the meta record alone
 pub given_stays : (s t : State) (file id : ℕ) → t ≡ given s file id → ChangesOnly s t (key_in file id ∷ meta_key_of file ∷ [])

@@ -44,7 +44,8 @@ pub free_fits_file : (marks : ℕ → ℕ) (file next : ℕ) → is_reused file 
 free_fits_file marks file next is small low = record {
   layout = free_table;
   is = ap (layout_by file (free_record next)) (free_is_free next) ∙ of_file (is_reused file) is;
-  point = rw at (⊎_elim (λ (e : next ≡ format.nil). rw (eq_true next format.nil e) (right (nat_lt next (marks file)))) (λ (lt : next < marks file). rw (lt_true next (marks file) lt) refl) low);
+  point = rw at (⊎_elim (λ (e : next ≡ format.nil). rw (eq_true next format.nil e) (right (nat_lt next (marks file)))) (λ (lt : next < marks file). rw
+      (lt_true next (marks file) lt) refl) low);
   blank = λ i lt out. free_byte next i lt (outside i out);
 }
   where
@@ -62,7 +63,8 @@ free_fits_file marks file next is small low = record {
     right false = refl
 
     outside : (i : ℕ) → list_any (is_in i) (bytes_of format.free_next 4 ∷ []) ≡ false → (i < 4) ⊎ (8 ≤ i)
-    outside i h = ⊎_elim (λ (lt : i < 4). inl lt) (λ (ge : 4 ≤ i). ⊎_elim (λ (lt : i < 8). absurd (true≢false (sym (within i ge lt) ∙ h))) (λ (le : 8 ≤ i). inr le) (cases_lt i 8)) (cases_lt i 4)
+    outside i h = ⊎_elim (λ (lt : i < 4). inl lt) (λ (ge : 4 ≤ i). ⊎_elim (λ (lt : i < 8). absurd (true≢false (sym (within i ge lt) ∙ h)))
+        (λ (le : 8 ≤ i). inr le) (cases_lt i 8)) (cases_lt i 4)
       where
         within : (i : ℕ) → 4 ≤ i → i < 8 → list_any (is_in i) (bytes_of format.free_next 4 ∷ []) ≡ true
         within i ge lt = let a : nat_le 4 i ≡ true = grind (arith, nat_tests) in let b : nat_lt i (4 + 4) ≡ true = grind (arith, nat_tests) in rw (a, b) refl
@@ -103,7 +105,8 @@ module _ (s t : Records) (shape : Shape) (file id : ℕ) (free : List ℕ) (is_f
     low = λ x i. let m = given.mark in ⊎_elim (λ (e : x ≡ id). let l = id_low in omega arith) (λ j. let b = split.low x j in omega arith) i;
     only = λ x i. ⊎_elim (λ (e : x ≡ id). ap (is_live t file) e ∙ live_false (kind_at t file id) gone)
         (λ j. live_other s t file id change x (λ e. not_free (subst (λ z. In z free) e j)) ∙ split.only x j) i;
-    all = λ x lt out. ⊎_elim (λ (e : x ≡ id). inl e) (λ (ne : x ≢ id). inr (split.all x (let m = given.mark in omega arith) (sym (live_other s t file id change x ne) ∙ out))) (nat_cases x id);
+    all = λ x lt out. ⊎_elim (λ (e : x ≡ id). inl e) (λ (ne : x ≢ id). inr (split.all x (let m = given.mark in omega arith)
+        (sym (live_other s t file id change x ne) ∙ out))) (nat_cases x id);
     exact =
         let more : length (ids (is_live s file) (high s file)) ≡ length (ids (is_live t file) (high s file)) + 1
         = ids_with (is_live t file) (is_live s file) (high s file) (high s file) id (live_false (kind_at t file id) gone) live_old
@@ -122,10 +125,12 @@ module _ (s t : Records) (shape : Shape) (file id : ℕ) (free : List ℕ) (is_f
   is_gone = record {
     change = change;
     gone = gone;
-    fits = subst (Fits (high t) file) (sym given.here) (free_fits_file (high t) file (meta_in s file).free is_file (free_fits s file) (subst (λ n. ((meta_in s file).free ≡ format.nil) ⊎ ((meta_in s file).free < n)) (sym given.mark) (first_low free split)));
+    fits = subst (Fits (high t) file) (sym given.here) (free_fits_file (high t) file (meta_in s file).free is_file (free_fits s file)
+        (subst (λ n. ((meta_in s file).free ≡ format.nil) ⊎ ((meta_in s file).free < n)) (sym given.mark) (first_low free split)));
     mark = given.mark;
     meta = subst (IsMetaInRange shape file) (sym given.meta)
-        (meta_in_range shape file (s (meta_key_of file)) (meta_in t file) range (let m = given.mark in omega arith) (let m = given.mark in let r = range.high in omega arith) room
+        (meta_in_range shape file (s (meta_key_of file)) (meta_in t file) range (let m = given.mark in omega arith) (let m = given.mark in let r = range.high in
+        omega arith) room
         (inr (subst (λ z. z < high t file) (sym given.list.0) (let m = given.mark in let l = id_low in omega arith))) (live_fits t file));
     free = id ∷ free;
     split = split_gone;

@@ -58,7 +58,8 @@ module _ (s t : Records) (shape : Shape) (file id : ℕ) (k : IsTakenUp s t shap
   counted : (n : ℕ) → (meta_in s file).live ≡ length (ids (is_live s file) (high s file)) → (high t file ≡ high s file)
       ⊎ ((id ≡ high s file) × (high t file ≡ high s file + 1)) → (meta_in t file).live ≡ length (ids (is_live t file) (high t file))
   counted n exact way = k.live ∙ ap (λ n. n + 1) exact
-      ∙ sym (ids_with (is_live s file) (is_live t file) (high s file) (high t file) id (live_false (kind_at s file id) k.fresh) (live_true (kind_at t file id) k.used) (live_other s t file id k.change) below way)
+      ∙ sym (ids_with (is_live s file) (is_live t file) (high s file) (high t file) id (live_false (kind_at s file id) k.fresh) (live_true (kind_at t file id)
+      k.used) (live_other s t file id k.change) below way)
 
   list_taken : HasFreeList s file → HasFreeList t file
   list_taken h = ⊎_elim (first h.members h.list.walk h.list.low h.list.only) (mark h.members h.list.walk) k.way
@@ -82,7 +83,12 @@ module _ (s t : Records) (shape : Shape) (file id : ℕ) (k : IsTakenUp s t shap
 
       mark : (xs : List ℕ) → IsWalk (next_free s file) (meta_in s file).free xs → IsFreshMark s t file id → HasFreeList t file
       mark (y ∷ later) walk w = absurd (walk.1 (sym walk.0 ∙ w.none))
-      mark [] walk w = record { members = []; list = record { walk = w.still; low = λ x i. elim i [ ]; only = λ x i. elim i [ ] }; exact = counted 0 h.exact (inr (w.is, w.mark)) }
+      mark [] walk w = record {
+        members = [];
+        list = record { walk = w.still; low = λ x i. elim i [ ]; only = λ x i. elim i [ ] };
+        exact = counted 0 h.exact
+            (inr (w.is, w.mark));
+      }
 
   reached_taken : (x : ℕ) → IsReached s file x → (x ≡ id) ⊎ IsReached t file x
   reached_taken _ First = ⊎_elim (λ (w : IsFirstFree s t file id). inl (sym w.is))
@@ -92,7 +98,8 @@ module _ (s t : Records) (shape : Shape) (file id : ℕ) (k : IsTakenUp s t shap
       (λ (w : IsFirstFree s t file id). inr (subst (IsReached t file) (w.next ∙ ap (next_free s file) (sym e)) First))
       (λ (w : IsFreshMark s t file id). let lt = u.low in let is = w.is in absurd (omega arith)) k.way)
       (λ (ne : p ≢ id). ⊎_elim (λ (e : p ≡ id). absurd (ne e))
-      (λ (q : IsReached t file p). inr (subst (IsReached t file) (link_stays p ne) (Next p q (record { low = let lt = u.low in let m = k.change.more in omega arith; free = kind_other s t file id k.change p ne ∙ u.free }))))
+      (λ (q : IsReached t file p). inr (subst (IsReached t file) (link_stays p ne)
+      (Next p q (record { low = let lt = u.low in let m = k.change.more in omega arith; free = kind_other s t file id k.change p ne ∙ u.free }))))
       (reached_taken p r)) (nat_cases p id)
 
   not_taken : (x : ℕ) → IsUnused t file x → x ≢ id
@@ -137,7 +144,12 @@ module _ (s t : Records) (shape : Shape) (file id : ℕ) (k : IsGivenBack s t fi
       record {
         members = id ∷ h.members;
         list = record {
-          walk = (k.first, k.some, subst (λ f. IsWalk (next_free t file) f h.members) (sym k.next) (walk_stays (next_free s file) (next_free t file) (meta_in s file).free h.members (λ x i. link_kept x (out x i)) h.list.walk));
+          walk = (
+            k.first,
+            k.some,
+            subst (λ f. IsWalk (next_free t file) f h.members) (sym k.next) (walk_stays (next_free s file) (next_free t file)
+                (meta_in s file).free h.members (λ x i. link_kept x (out x i)) h.list.walk),
+          );
           low = λ x i. let m = k.mark in ⊎_elim (λ (e : x ≡ id). let l = given_low in omega arith) (λ j. let l = h.list.low x j in omega arith) i;
           only = λ x i. ⊎_elim (λ (e : x ≡ id). ap (is_live t file) e ∙ live_false (kind_at t file id) k.gone)
               (λ j. live_other s t file id k.change x (out x j) ∙ h.list.only x j) i;
@@ -159,14 +171,22 @@ module _ (s t : Records) (shape : Shape) (file id : ℕ) (k : IsGivenBack s t fi
   reached_given _ First = subst (IsReached t file) k.next (Next id (subst (IsReached t file) k.first First) given_unused)
   reached_given _ (Next p r u) =
       let ne : p ≢ id = λ e. k.used (ap (kind_at s file) (sym e) ∙ u.free) in
-      subst (IsReached t file) (link_kept p ne) (Next p (reached_given p r) (record { low = let l = u.low in let m = k.mark in omega arith; free = kind_other s t file id k.change p ne ∙ u.free }))
+      subst (IsReached t file) (link_kept p ne) (Next p (reached_given p r) (record {
+        low = let l = u.low in let m = k.mark in omega arith;
+        free = kind_other s
+            t file id k.change p ne ∙ u.free;
+      }))
 
   unused_but : (x : ℕ) → x ≢ id → IsUnused t file x → IsUnused s file x
   unused_but x ne u = record { low = k.change.covers x u.low ne; free = sym (kind_other s t file id k.change x ne) ∙ u.free }
 
   -- so it was before it was given back
   pub give_back : (d : Damage) → IsListDamage t shape file d → IsListDamage s shape file d
-  give_back _ (OutOfRange f) = OutOfRange (λ r. f (record { mark = let a = r.mark in let m = k.mark in omega arith; first = inr (let l = given_low in let m = k.mark in let e = k.first in omega arith) }))
+  give_back _ (OutOfRange f) = OutOfRange (λ r. f (record {
+    mark = let a = r.mark in let m = k.mark in omega arith;
+    first = inr
+        (let l = given_low in let m = k.mark in let e = k.first in omega arith);
+  }))
   give_back _ (NoList f) = NoList (λ h. f (list_given h))
   give_back _ (NotReached x u f) =
       let ne : x ≢ id = λ e. f (subst (IsReached t file) (k.first ∙ sym e) First) in
@@ -193,10 +213,18 @@ module _ (s t : Records) (shape : Shape) (file : ℕ) (k : HasSameList s t file)
   high_same = ap (λ (m : Meta). m.high) k.meta
 
   unused_now : (x : ℕ) → IsUnused s file x → IsUnused t file x
-  unused_now x u = record { low = let l = u.low in let m = high_same in omega arith; free = not_live (kind_at t file x) (k.live x ∙ live_false (kind_at s file x) u.free) }
+  unused_now x u = record {
+    low = let l = u.low in let m = high_same in omega arith;
+    free = not_live (kind_at t file x) (k.live x ∙ live_false
+        (kind_at s file x) u.free);
+  }
 
   unused_then : (x : ℕ) → IsUnused t file x → IsUnused s file x
-  unused_then x u = record { low = let l = u.low in let m = high_same in omega arith; free = not_live (kind_at s file x) (sym (k.live x) ∙ live_false (kind_at t file x) u.free) }
+  unused_then x u = record {
+    low = let l = u.low in let m = high_same in omega arith;
+    free = not_live (kind_at s file x) (sym (k.live x) ∙ live_false
+        (kind_at t file x) u.free);
+  }
 
   alike : ids (is_live t file) (high s file) ≡ ids (is_live s file) (high s file)
   alike = collect_same (λ (e : ℕ). e) (if_test (is_live s file)) (if_test (is_live t file)) (high s file)
@@ -207,7 +235,8 @@ module _ (s t : Records) (shape : Shape) (file : ℕ) (k : HasSameList s t file)
     members = h.members;
     list = record {
       walk = subst (λ f. IsWalk (next_free t file) f h.members) (sym (ap (λ (m : Meta). m.free) k.meta))
-          (walk_stays (next_free s file) (next_free t file) (meta_in s file).free h.members (λ x i. k.links x (record { low = h.list.low x i; free = not_live (kind_at s file x) (h.list.only x i) })) h.list.walk);
+          (walk_stays (next_free s file) (next_free t file) (meta_in s file).free h.members
+          (λ x i. k.links x (record { low = h.list.low x i; free = not_live (kind_at s file x) (h.list.only x i) })) h.list.walk);
       low = λ x i. let l = h.list.low x i in let m = high_same in omega arith;
       only = λ x i. k.live x ∙ h.list.only x i;
     };

@@ -55,14 +55,28 @@ records-taken s file key other = by (nat_eq (meta_of s file).free format.nil)
 meta-mark_taken : (s : State) (file : ℕ) → (meta_of s file).high < format.most_ids → (meta_of s file).live ≤ (meta_of s file).high
     → meta_of (mark_taken s file) file ≡ record { high = (meta_of s file).high + 1; free = format.nil; live = (meta_of s file).live + 1 }
 unfolding mark_taken
-meta-mark_taken s file mark counted = meta_of-after_meta s file (record { high = (meta_of s file).high + 1; free = format.nil; live = (meta_of s file).live + 1 }) (omega arith) (omega arith) (omega (arith, mark, counted))
+meta-mark_taken s file mark counted = meta_of-after_meta s file (record {
+  high = (meta_of s file).high + 1;
+  free = format.nil;
+  live = (meta_of s file).live + 1;
+}) (omega arith) (omega arith) (omega (arith, mark, counted))
 
 meta-free_taken : (s : State) (file : ℕ) → (meta_of s file).live < (meta_of s file).high
-    → meta_of (free_taken s file) file ≡ record { high = (meta_of s file).high; free = next_free s.records file (meta_of s file).free; live = (meta_of s file).live + 1 }
+    → meta_of (free_taken s file) file ≡ record {
+      high = (meta_of s file).high;
+      free = next_free s.records file (meta_of s file).free;
+      live =
+          (meta_of s file).live + 1;
+    }
 unfolding free_taken
 meta-free_taken s file counted =
     let mark = high_fits s.records file in
-    meta_of-after_meta (after_get s) file (record { high = (meta_of s file).high; free = next_free s.records file (meta_of s file).free; live = (meta_of s file).live + 1 })
+    meta_of-after_meta (after_get s) file (record {
+      high = (meta_of s file).high;
+      free = next_free s.records file (meta_of s file).free;
+      live =
+          (meta_of s file).live + 1;
+    })
     mark (field-lt 4 (rec_at s.records file (meta_of s file).free) format.free_next) (omega (arith, mark, counted))
 
 -- the identifier was taken of a list that no take blames
@@ -104,7 +118,8 @@ module _ (s a t : State) (file id : ℕ) (is_file : is_meta_file file ≡ true) 
       let mark : high t.records file ≡ high s.records file + 1 = ap (λ (q : Meta). q.high) meta in
       let free : (meta_of t file).free ≡ format.nil = ap (λ (q : Meta). q.free) meta in
       record {
-        change = change_by (omega arith) (λ x lt ne. ⊎_elim (λ (l : x < high s.records file). l) (λ (ge : high s.records file ≤ x). absurd (ne (omega arith))) (cases_lt x (high s.records file)));
+        change = change_by (omega arith) (λ x lt ne. ⊎_elim (λ (l : x < high s.records file). l) (λ (ge : high s.records file ≤ x). absurd (ne (omega arith)))
+            (cases_lt x (high s.records file)));
         fresh = fresh;
         used = used_then (omega arith);
         ranged = record { mark = omega arith; first = inl free };
@@ -125,7 +140,8 @@ module _ (s a t : State) (file id : ℕ) (is_file : is_meta_file file ≡ true) 
       let unused : IsUnused s.records file m.free = record { low = low; free = ap (kind_at s.records file) (sym id_is) ∙ fresh } in
       let link : (next ≡ format.nil) ⊎ (next < m.high) = ⊎_elim
       (λ (e : next ≡ format.nil). inl e)
-      (λ (ne : next ≢ format.nil). inr (⊎_elim (λ (lt : next < m.high). lt) (λ (le : m.high ≤ next). absurd (right _ (BadNext some unused ne le))) (cases_lt next m.high))) (nat_cases next format.nil) in
+      (λ (ne : next ≢ format.nil). inr (⊎_elim (λ (lt : next < m.high). lt) (λ (le : m.high ≤ next). absurd (right _ (BadNext some unused ne le)))
+      (cases_lt next m.high))) (nat_cases next format.nil) in
       let meta : meta_of t file ≡ record { high = m.high; free = next; live = m.live + 1 }
       = meta_then ∙ ap (λ (z : State). meta_of z file) now ∙ ap (λ b. meta_of (cond b (mark_taken s file) (free_taken s file)) file)
       (eq_false m.free format.nil some) ∙ meta-free_taken s file counted in
@@ -135,7 +151,11 @@ module _ (s a t : State) (file id : ℕ) (is_file : is_meta_file file ≡ true) 
         change = change_by (omega arith) (λ x lt ne. omega arith);
         fresh = fresh;
         used = used_then (omega arith);
-        ranged = record { mark = let f = mark_fits in omega arith; first = ⊎_elim (λ (e : next ≡ format.nil). inl (free ∙ e)) (λ (lt : next < m.high). inr (omega arith)) link };
+        ranged = record {
+          mark = let f = mark_fits in omega arith;
+          first = ⊎_elim (λ (e : next ≡ format.nil). inl (free ∙ e)) (λ (lt : next < m.high). inr
+              (omega arith)) link;
+        };
         live = ap (λ (q : Meta). q.live) meta;
         way = inl (record { some = some; is = id_is; next = free ∙ ap (next_free s.records file) (sym id_is); mark = mark });
       }
@@ -150,7 +170,8 @@ module _ (s a t : State) (file id : ℕ) (is_file : is_meta_file file ≡ true) 
   pub take_keeps : KeepsInUse s t file
   take_keeps = record {
     harmless = take_harms_none;
-    used = λ x was e. was (⊎_elim (λ (q : x ≡ id). ap (kind_at s.records file) q ∙ fresh) (λ (ne : x ≢ id). sym (kind_other s.records t.records file id taken_up.change x ne) ∙ e) (nat_cases x id));
+    used = λ x was e. was (⊎_elim (λ (q : x ≡ id). ap (kind_at s.records file) q ∙ fresh) (λ (ne : x ≢ id). sym (kind_other s.records t.records file id
+        taken_up.change x ne) ∙ e) (nat_cases x id));
   }
 
   pub taken_is_used : kind_at t.records file id ≢ format.free_kind
@@ -258,9 +279,11 @@ used_harms_none s t file id is_file shape others was used d why =
     (record {
       meta = meta;
       live = λ x. ⊎_elim
-          (λ (e : x ≡ id). subst (λ z. is_live t.records file z ≡ is_live s.records file z) (sym e) (live_true (kind_at t.records file id) still ∙ sym (live_true (kind_at s.records file id) was)))
+          (λ (e : x ≡ id). subst (λ z. is_live t.records file z ≡ is_live s.records file z) (sym e) (live_true (kind_at t.records file id) still ∙ sym
+          (live_true (kind_at s.records file id) was)))
           (λ (ne : x ≢ id). live_other s.records t.records file id change x ne) (nat_cases x id);
-      links = λ x u. ap (λ r. field 4 r format.free_next) (others (key_in file x) (λ e. was (ap (kind_at s.records file) (sym (ap (λ (k : Key). k.id) e)) ∙ u.free)));
+      links = λ x u. ap (λ r. field 4 r format.free_next) (others (key_in file x) (λ e. was (ap (kind_at s.records file) (sym (ap (λ (k : Key). k.id) e))
+          ∙ u.free)));
     }) d (subst (λ (h : Shape). IsListDamage t.records h file d) shape why)
   where
     meta : meta_of t file ≡ meta_of s file
@@ -270,7 +293,12 @@ used_harms_none s t file id is_file shape others was used d why =
     mark = ap (λ (q : Meta). q.high) meta
 
     change : IsChanged s.records t.records file id
-    change = record { is_file = is_file; others = λ key _ ne. others key ne; more = let m = mark in omega arith; covers = λ x lt ne. let m = mark in omega arith }
+    change = record {
+      is_file = is_file;
+      others = λ key _ ne. others key ne;
+      more = let m = mark in omega arith;
+      covers = λ x lt ne. let m = mark in omega arith;
+    }
 
     still : kind_at t.records file id ≢ format.free_kind
     still e = let lt = kind_below (high s.records file) (rec_at s.records file id) id was in let m = mark in
@@ -282,7 +310,11 @@ pub keeps_none : (s : State) (file : ℕ) → KeepsInUse s s file
 keeps_none s file = record { harmless = λ d why. why; used = λ x was. was }
 
 pub keeps_then : (a b c : State) (file : ℕ) → KeepsInUse a b file → KeepsInUse b c file → KeepsInUse a c file
-keeps_then a b c file first later = record { harmless = harms_none_then a b c file first.harmless later.harmless; used = λ x was. later.used x (first.used x was) }
+keeps_then a b c file first later = record {
+  harmless = harms_none_then a b c file first.harmless later.harmless;
+  used = λ x was. later.used x
+      (first.used x was);
+}
 
 pub reads_keep : (s t : State) (file : ℕ) → SameButReads s t → KeepsInUse s t file
 reads_keep s t file same = record {
@@ -314,7 +346,8 @@ pub set_keeps : (s t : State) (file id at value : ℕ) → is_meta_file file ≡
 set_keeps s t file id at value is_file some was now = record {
   harmless = used_harms_none s t file id is_file (ap (λ (z : State). z.shape) now) others was (λ e. was (low ∙ sym kind ∙ e));
   used = λ x old e. ⊎_elim
-      (λ (q : x ≡ id). was (low ∙ sym kind ∙ sym (kind_low (high t.records file) (rec_at t.records file id) id (let m = mark in let lt = kind_below (high s.records file) (rec_at s.records file id) id was in omega arith)) ∙ sym (ap (kind_at t.records file) q) ∙ e))
+      (λ (q : x ≡ id). was (low ∙ sym kind ∙ sym (kind_low (high t.records file) (rec_at t.records file id) id (let m = mark in let lt = kind_below
+      (high s.records file) (rec_at s.records file id) id was in omega arith)) ∙ sym (ap (kind_at t.records file) q) ∙ e))
       (λ (ne : x ≢ id). old (sym (kind_other s.records t.records file id change x ne) ∙ e)) (nat_cases x id);
 }
   where
@@ -333,7 +366,12 @@ set_keeps s t file id at value is_file some was now = record {
     mark = ap (λ r. (metas.meta_of r).high) (others (meta_key_of file) (λ e. not_meta_key file id file is_file (sym e)))
 
     change : IsChanged s.records t.records file id
-    change = record { is_file = is_file; others = λ key _ ne. others key ne; more = let m = mark in omega arith; covers = λ x lt ne. let m = mark in omega arith }
+    change = record {
+      is_file = is_file;
+      others = λ key _ ne. others key ne;
+      more = let m = mark in omega arith;
+      covers = λ x lt ne. let m = mark in omega arith;
+    }
 
 -- ---- a record that is blamed
 

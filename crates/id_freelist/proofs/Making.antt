@@ -55,7 +55,8 @@ module _ (s m t : Records) (shape : Shape) (file id : ℕ) (free : List ℕ) (re
     is_file = is_file;
     others = λ key a b. others key b ∙ taken.others key a;
     more = by_way (λ i q. omega arith) (λ p q. omega arith);
-    covers = λ x lt ne. by_way (λ i q. omega arith) (λ p q. ⊎_elim (λ (l : x < high s file). l) (λ (ge : high s file ≤ x). absurd (ne (omega arith))) (cases_lt x (high s file)));
+    covers = λ x lt ne. by_way (λ i q. omega arith) (λ p q. ⊎_elim (λ (l : x < high s file). l) (λ (ge : high s file ≤ x). absurd (ne (omega arith)))
+        (cases_lt x (high s file)));
   }
 
   fresh : kind_at s file id ≡ format.free_kind
@@ -85,14 +86,16 @@ module _ (s m t : Records) (shape : Shape) (file id : ℕ) (free : List ℕ) (re
   split_made : IsSplit t file (is_live t file) (rest_of free)
   split_made = record {
     walk = subst (λ f. IsWalk (next_free t file) f (rest_of free)) (sym (ap (λ (q : Meta). q.free) meta_is))
-        (walk_stays (next_free m file) (next_free t file) (meta_in m file).free (rest_of free) (λ x i. ap (λ r. field 4 r format.free_next) (others (key_in file x) (λ e. not_id x i (ap (λ (k : Key). k.id) e)))) taken.list);
+        (walk_stays (next_free m file) (next_free t file) (meta_in m file).free (rest_of free) (λ x i. ap (λ r. field 4 r format.free_next)
+        (others (key_in file x) (λ e. not_id x i (ap (λ (k : Key). k.id) e)))) taken.list);
     low = λ x i. let b = split.low x (in_rest free x i) in let le = change.more in omega arith;
     only = λ x i. live_other s t file id change x (not_id x i) ∙ split.only x (in_rest free x i);
     all = λ x lt out.
         let ne : x ≢ id = λ e. true≢false (sym (subst (λ z. is_live t file z ≡ true) (sym e) live_here) ∙ out) in
         rest_in free x (split.all x (change.covers x lt ne) (sym (live_other s t file id change x ne) ∙ out)) (λ e. ne (e ∙ sym taken.is));
     exact = ap (λ (q : Meta). q.live) meta_is ∙ taken.live ∙ ap (λ n. n + 1) split.exact
-        ∙ sym (ids_with (is_live s file) (is_live t file) (high s file) (high t file) id (live_false (kind_at s file id) fresh) live_here (live_other s t file id change) below grows);
+        ∙ sym (ids_with (is_live s file) (is_live t file) (high s file) (high t file) id (live_false (kind_at s file id) fresh) live_here
+        (live_other s t file id change) below grows);
   }
 
   first_low : (xs : List ℕ) → IsSplit t file (is_live t file) xs → ((meta_in t file).free ≡ format.nil) ⊎ ((meta_in t file).free < high t file)
@@ -107,7 +110,8 @@ module _ (s m t : Records) (shape : Shape) (file id : ℕ) (free : List ℕ) (re
     below = below;
     grows = grows;
     meta = subst (IsMetaInRange shape file) (sym (meta_stays ∙ taken.meta ∙ ap (metas.with_meta (s (meta_key_of file))) (sym meta_is)))
-        (meta_in_range shape file (s (meta_key_of file)) (meta_in t file) range change.more (by_way (λ i q. let r = range.high in omega arith) (λ p q. omega arith)) room (first_low (rest_of free) split_made) (live_fits t file));
+        (meta_in_range shape file (s (meta_key_of file)) (meta_in t file) range change.more (by_way (λ i q. let r = range.high in omega arith)
+        (λ p q. omega arith)) room (first_low (rest_of free) split_made) (live_fits t file));
     free = rest_of free;
     split = split_made;
   }

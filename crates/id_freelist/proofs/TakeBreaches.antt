@@ -143,7 +143,8 @@ list_breaks records shape file is _ (BadLink x unused some le) = RecordRange fil
 -- something is wrong with the list
 pub list_damage : (s : State) (file : ℕ) (d : Damage) → IsTakeDamage s file d → IsListDamage s.records s.shape file d
 list_damage s file _ (Unranged f) = OutOfRange f
-list_damage s file _ (Unlisted x none lt unused) = NotReached x unused (λ r. let e = none_reached s.records file none x r in let low = unused.low in let fits = high_fits s.records file in omega arith)
+list_damage s file _ (Unlisted x none lt unused) = NotReached x unused (λ r. let e = none_reached s.records file none x r in let low = unused.low in let fits =
+    high_fits s.records file in omega arith)
 list_damage s file _ (Undercounted none lt used) = NoList (λ k. let e = all_counted s.records file used k in omega arith)
 list_damage s file _ (Overcounted le more) = NoList (λ k. never_over s.records file k le more)
 list_damage s file _ (InUse some used) = NoList (λ k. used (first_free s.records file k some))

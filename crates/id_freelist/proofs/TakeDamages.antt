@@ -42,7 +42,8 @@ module _ (s : State) (file : ℕ) where
       ⊎ (next_free s.records file (meta_of s file).free < high s.records file)
   next_low [] can ne = absurd (ne can.list)
   next_low (x ∷ []) can ne = inl (ap (next_free s.records file) can.list.0 ∙ can.list.2)
-  next_low (x ∷ y ∷ later) can ne = inr (subst (λ z. z < high s.records file) (sym (ap (next_free s.records file) can.list.0 ∙ can.list.2.0)) (can.low y (inr (inl refl))))
+  next_low (x ∷ y ∷ later) can ne = inr (subst (λ z. z < high s.records file) (sym (ap (next_free s.records file) can.list.0 ∙ can.list.2.0))
+      (can.low y (inr (inl refl))))
 
   no_damage : (free : List ℕ) → CanTake s file free → (d : Damage) → IsTakeDamage s file d → ⊥
   no_damage free can d (Unranged f) = f (ranged free can)
@@ -150,7 +151,8 @@ module _ (s : State) (file : ℕ) where
       → field 1 rec format.kind ≢ format.free_kind → IsTakeDamage s file (meta_damage file 2)
   in_use rec meta is ne lt there used =
       let P : Meta → Type 0 = λ m. m.free ≢ format.nil → m.free < m.high → rec ≡ rec_at s.records file m.free → IsTakeDamage s file (meta_damage file 2) in
-      subst P (sym is) (λ a b c. InUse a (λ z. used (ap (λ r. field 1 r format.kind) c ∙ sym (kind_low (high s.records file) (rec_at s.records file (meta_of s file).free) (meta_of s file).free b) ∙ z))) ne lt there
+      subst P (sym is) (λ a b c. InUse a (λ z. used (ap (λ r. field 1 r format.kind) c ∙ sym (kind_low (high s.records file) (rec_at s.records file
+      (meta_of s file).free) (meta_of s file).free b) ∙ z))) ne lt there
 
   pub bad_next : (rec : Rec) (meta : Meta) (next : ℕ) → meta ≡ meta_of s file → meta.free ≢ format.nil → meta.free < meta.high
       → rec ≡ rec_at s.records file meta.free → field 1 rec format.kind ≡ format.free_kind
@@ -160,8 +162,11 @@ module _ (s : State) (file : ℕ) where
       → IsTakeDamage s file (record_damage file m.free 1) in
       subst P (sym is) (λ a b c l.
       let e : next ≡ next_free s.records file (meta_of s file).free = at ∙ ap (λ r. field 4 r format.free_next) c in
-      let unused : IsUnused s.records file (meta_of s file).free = record
-      { low = b; free = kind_low (high s.records file) (rec_at s.records file (meta_of s file).free) (meta_of s file).free b ∙ ap (λ r. field 1 r format.kind) (sym c) ∙ free } in
+      let unused : IsUnused s.records file (meta_of s file).free = record {
+        low = b;
+        free = kind_low (high s.records file) (rec_at s.records file (meta_of s file).free) (meta_of s file).free b ∙ ap (λ r. field 1 r format.kind)
+            (sym c) ∙ free;
+      } in
       BadNext a unused (λ z. some (e ∙ z)) (omega (arith, l, e))) ne lt there le
 
   -- a free record isn't in use, and nor is the mark
@@ -169,7 +174,8 @@ module _ (s : State) (file : ℕ) where
       → field 1 rec format.kind ≡ format.free_kind → kind_at s.records file meta.free ≡ format.free_kind
   not_in_use rec meta is lt there free =
       let P : Meta → Type 0 = λ m. m.free < m.high → rec ≡ rec_at s.records file m.free → kind_at s.records file m.free ≡ format.free_kind in
-      subst P (sym is) (λ b c. kind_low (high s.records file) (rec_at s.records file (meta_of s file).free) (meta_of s file).free b ∙ ap (λ r. field 1 r format.kind) (sym c) ∙ free) lt there
+      subst P (sym is) (λ b c. kind_low (high s.records file) (rec_at s.records file (meta_of s file).free) (meta_of s file).free b ∙ ap
+      (λ r. field 1 r format.kind) (sym c) ∙ free) lt there
 
   pub mark_not_in_use : (meta : Meta) → meta ≡ meta_of s file → kind_at s.records file meta.high ≡ format.free_kind
   mark_not_in_use meta is = let e = ap (λ (m : Meta). m.high) is in kind_high (high s.records file) (rec_at s.records file meta.high) meta.high (omega arith)

@@ -33,8 +33,13 @@ module _ (next prev : ℕ → ℕ) (test : ℕ → Bool) (high : ℕ) where
   line_of_chain : (b f : ℕ) (xs : List ℕ) → IsChain next prev b f xs → ((x : ℕ) → In x xs → x < high) → ((x : ℕ) → In x xs → test x ≡ true)
       → IsLine next fits high b f xs
   line_of_chain b f [] h low ok = h
-  line_of_chain b f (x ∷ xs) h low ok =
-      (h.0, low x (inl refl), and_from (test x) (nat_eq (prev x) b) (ok x (inl refl)) (eq-eqb (prev x) b h.2), line_of_chain x (next x) xs h.3 (λ y i. low y (inr i)) (λ y i. ok y (inr i)))
+  line_of_chain b f (x ∷ xs) h low ok = (
+    h.0,
+    low x (inl refl),
+    and_from (test x) (nat_eq (prev x) b) (ok x (inl refl)) (eq-eqb (prev x) b h.2),
+    line_of_chain x (next x) xs h.3
+        (λ y i. low y (inr i)) (λ y i. ok y (inr i)),
+  )
 
 some_entry : format.indexed ≢ 0
 some_entry e = omega arith
@@ -68,7 +73,8 @@ module _ (records : Records) (d b : ℕ) where
   bucket_of_line room head xs it = record {
     head = head;
     chain = chain_of_line next prev test mark room format.nil first xs it;
-    kind = λ x i. has_kind records format.indexed some_entry x (below_in next (λ before x. test x && nat_eq (prev x) before) mark room format.nil first xs it x i)
+    kind = λ x i. has_kind records format.indexed some_entry x (below_in next (λ before x. test x && nat_eq (prev x) before) mark room format.nil first xs it x
+        i)
         (parts x (test_of_line next prev test mark format.nil first xs it x i)).0;
     hash = λ x i. (parts x (test_of_line next prev test mark format.nil first xs it x i)).1;
   }

@@ -55,7 +55,8 @@ module _ (records : Records) where
   definitions_of room xs it few = record {
     walk = walk_of_line (next_definition records) (λ _ x. test x) mark room format.nil (first_definition records) xs it;
     few = few;
-    defined = λ d i. has_kind records format.definition one_some d (below_in (next_definition records) (λ _ x. test x) mark room format.nil (first_definition records) xs it d i)
+    defined = λ d i. has_kind records format.definition one_some d (below_in (next_definition records) (λ _ x. test x) mark room format.nil
+        (first_definition records) xs it d i)
         (tested_in (next_definition records) test mark format.nil (first_definition records) xs it d i);
   }
 
@@ -86,7 +87,8 @@ module _ (records : Records) where
 
   twins_of : (d e : ℕ) → are_twins (at d) (at e) ≡ true → AreTwinsAt d e
   twins_of d e t =
-      let first = and_parts (not (nat_eq d e)) (nat_eq (indexed_label records d) (indexed_label records e) && nat_eq (indexed_key records d) (indexed_key records e)) t in
+      let first = and_parts (not (nat_eq d e)) (nat_eq (indexed_label records d) (indexed_label records e) && nat_eq (indexed_key records d)
+      (indexed_key records e)) t in
       let then = and_parts (nat_eq (indexed_label records d) (indexed_label records e)) (nat_eq (indexed_key records d) (indexed_key records e)) first.1 in
       record {
         other = λ same. true≢false (sym first.0 ∙ ap not (eq_true d e (sym same)));
@@ -95,7 +97,12 @@ module _ (records : Records) where
       }
 
   of_twins : (d e : ℕ) → AreTwinsAt d e → are_twins (at d) (at e) ≡ true
-  of_twins d e h = rw (eq_false d e (λ same. h.other (sym same)), eq_true (indexed_label records d) (indexed_label records e) (sym h.label), eq_true (indexed_key records d) (indexed_key records e) (sym h.key)) refl
+  of_twins d e h = rw (
+    eq_false d e (λ same. h.other (sym same)),
+    eq_true (indexed_label records d) (indexed_label records e) (sym h.label),
+    eq_true
+        (indexed_key records d) (indexed_key records e) (sym h.key),
+  ) refl
 
   any_twin : (d : ℕ) (ids : List ℕ) → list_any (are_twins (at d)) (map at ids) ≡ true → (e : ℕ) × In e ids × AreTwinsAt d e
   any_twin d [] h = absurd (true≢false (sym h))
@@ -123,8 +130,17 @@ module _ (records : Records) where
           → (twin_in (map at all) (map at ds) ≡ Some x → (e : ℕ) × In x ds × In e all × AreTwinsAt x e) → (e : ℕ) × In x (d ∷ ds) × In e all × AreTwinsAt x e
       by true any is later =
           let r = any_twin d all any in
-          let same : d ≡ x = cc in
-          (r.0, inl (sym same), r.1, record { other = λ q. r.2.other (q ∙ sym same); label = r.2.label ∙ ap (indexed_label records) same; key = r.2.key ∙ ap (indexed_key records) same })
+          let same : d ≡ x = cc in (
+            r.0,
+            inl (sym same),
+            r.1,
+            record {
+              other = λ q. r.2.other (q ∙ sym same);
+              label = r.2.label ∙ ap (indexed_label records) same;
+              key = r.2.key ∙ ap
+                  (indexed_key records) same;
+            },
+          )
       by false any is later = let r = later is in (r.0, inr r.1, r.2, r.3)
 
   -- or there is none
@@ -136,12 +152,18 @@ module _ (records : Records) where
   twin_none all (x ∷ xs) h d e i j l k = by (list_any (are_twins (at x)) (map at all)) refl h (twin_none all xs) i
     where
       by : (b : Bool) → list_any (are_twins (at x)) (map at all) ≡ b → cond b (Some x) (twin_in (map at all) (map at xs)) ≡ None
-          → (twin_in (map at all) (map at xs) ≡ None → (d e : ℕ) → In d xs → In e all → indexed_label records e ≡ indexed_label records d → indexed_key records e ≡ indexed_key records d → e ≡ d)
+          → (twin_in (map at all) (map at xs) ≡ None → (d e : ℕ) → In d xs → In e all → indexed_label records e ≡ indexed_label records d → indexed_key records
+          e ≡ indexed_key records d → e ≡ d)
           → In d (x ∷ xs) → e ≡ d
       by true any is later here = absurd cc
       by false any is later (inr m) = later is d e m j l k
       by false any is later (inl same) = ⊎_elim (λ q. q)
-          (λ (ne : e ≢ d). absurd (true≢false (sym (twin_any x all e j (record { other = λ q. ne (q ∙ sym same); label = l ∙ ap (indexed_label records) same; key = k ∙ ap (indexed_key records) same })) ∙ any)))
+          (λ (ne : e ≢ d). absurd (true≢false (sym (twin_any x all e j (record {
+            other = λ q. ne (q ∙ sym same);
+            label = l ∙ ap (indexed_label records)
+                same;
+            key = k ∙ ap (indexed_key records) same;
+          })) ∙ any)))
           (nat_cases e d)
 
   -- a twin breaks the rule

@@ -24,10 +24,22 @@ module _ (records : Records) (d : ℕ) where
   entries_more n xs ys h l = record {
     each = λ b lt. ⊎_elim
         (λ (low : b < n). let e = h.each b low in record { members = e.members; list = e.list; all = λ x i. in_left x xs ys (e.all x i) })
-        (λ (ge : n ≤ b). let same : n ≡ b = omega arith in subst (λ z. HasBucketIn records d z (xs ++ ys)) same (record { members = ys; list = l; all = λ x i. in_right x xs ys i }))
+        (λ (ge : n ≤ b). let same : n ≡ b = omega arith in subst (λ z. HasBucketIn records d z (xs ++ ys)) same (record {
+          members = ys;
+          list = l;
+          all = λ x i.
+              in_right x xs ys i;
+        }))
         (cases_lt b n);
     only = λ x i. ⊎_elim
-        (λ (j : In x xs). let e = h.only x j in let lt : e.bucket < n = e.below in record { bucket = e.bucket; below = omega arith; members = e.members; list = e.list; member = e.member })
+        (λ (j : In x xs). let e = h.only x j in let lt : e.bucket < n = e.below in record {
+          bucket = e.bucket;
+          below = omega arith;
+          members = e.members;
+          list =
+              e.list;
+          member = e.member;
+        })
         (λ (j : In x ys). record { bucket = n; below = omega arith; members = ys; list = l; member = j })
         (in_parts x xs ys i);
     once = once_both xs ys h.once (once_walk _ _ ys (walk_of_chain _ _ _ _ ys l.chain))

@@ -46,7 +46,17 @@ module _ (records : Records) (d : Definition) (given : IsGiven records d) where
   module _ (entries : List ℕ) (are : AreEntriesTo records d.id 180 entries) where
     -- each entry is in a bucket, and what is in a bucket is an entry
     pub bucket_of_entry : (x : ℕ) → In x entries → (b : ℕ) × IsInBucket records d.id b x
-    bucket_of_entry x i = let e = are.only x i in (e.bucket, record { definition = given.among; low = e.below; members = e.members; list = e.list; member = e.member })
+    bucket_of_entry x i = let e = are.only x i in (
+      e.bucket,
+      record {
+        definition = given.among;
+        low = e.below;
+        members = e.members;
+        list = e.list;
+        member =
+            e.member;
+      },
+    )
 
     entry_of_bucket : (b x : ℕ) → IsInBucket records d.id b x → In x entries
     entry_of_bucket b x at =
@@ -55,7 +65,8 @@ module _ (records : Records) (d : Definition) (given : IsGiven records d) where
 
     -- an entry that isn't wanted
     pub unwanted_breaks : (x : ℕ) → In x entries → wanted_in records (said_by records d x) ≡ false → IndexBreaks records (damage format.index_file x 8)
-    unwanted_breaks x i none = WrongEntry x (λ k. let at = bucket_of_entry x i in true≢false (sym (k.wanted d.id at.0 at.1) ∙ ap (wanted_in records) (sym (said-is x)) ∙ none))
+    unwanted_breaks x i none = WrongEntry x (λ k. let at = bucket_of_entry x i in true≢false (sym (k.wanted d.id at.0 at.1) ∙ ap (wanted_in records)
+        (sym (said-is x)) ∙ none))
 
     module _ (nodes : List ℕ) (nodes_are : nodes ≡ map (entry_node records) entries) where
       -- a node that has two entries, or none
@@ -67,7 +78,8 @@ module _ (records : Records) (d : Definition) (given : IsGiven records d) where
           t.apart (k.once d.id one.0 t.one other.0 t.other one.1 other.1 t.is t.also_is))
       wrong_breaks n (Lacking has out) = WrongNode n (λ k.
           let e = k.has d.id has.value given.among (sym (value-is n) ∙ has.is) in
-          out (subst (In n) (sym nodes_are) (subst (λ z. In z (map (entry_node records) entries)) e.node (in_map (entry_node records) e.entry entries (entry_of_bucket e.bucket e.entry e.there)))))
+          out (subst (In n) (sym nodes_are) (subst (λ z. In z (map (entry_node records) entries)) e.node (in_map (entry_node records) e.entry entries
+          (entry_of_bucket e.bucket e.entry e.there)))))
 
       -- nothing is wrong
       pub right_of : ((x : ℕ) → In x entries → wanted_in records (said_by records d x) ≡ true) → AreNodesRight records d nodes → IsRight records d.id

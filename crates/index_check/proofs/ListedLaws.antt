@@ -87,7 +87,16 @@ module _ (records : Records) (ids : List ℕ) (are : AreDefinitions records ids)
 
   -- a definition that keeps the rule has its records of heads
   head_kept : (k : ℕ) → k < 12 * length ids → DefinitionKeeps records (head_definition k) → HeadKeeps Always HeadLists k
-  head_kept k lt keeps = record { list = λ _. (heads_of records (head_definition k) (k % 12) ∷ [], record { kind = keeps.heads (k % 12) (twelve_place (length ids) k lt).1; are = refl }) }
+  head_kept k lt keeps = record {
+    list = λ _. (
+      heads_of records (head_definition k) (k % 12) ∷ [],
+      record {
+        kind = keeps.heads (k % 12)
+            (twelve_place (length ids) k lt).1;
+        are = refl;
+      },
+    );
+  }
 
   pub no_heads : (k : ℕ) → k < 12 * length ids → (HeadKeeps Always HeadLists k → ⊥) → IndexBreaks records (damage format.index_file (head_definition k) 8)
   no_heads k lt bad = WrongDefinition (head_definition k) (among (head_definition k) (head_in k lt)) (λ keeps. bad (head_kept k lt keeps))
@@ -114,7 +123,13 @@ module _ (records : Records) (ids : List ℕ) (are : AreDefinitions records ids)
     head_item : (d c : ℕ) (n : HeadNumber d c) → AtHead Always HeadLists n.number (heads_of records d c)
     head_item d c n =
         let l = (keeps n.number n.below).list tt in
-        record { must = tt; items = l.0; listed = l.1; member = subst (In (heads_of records d c)) (sym l.1.are) (inl (λ j. heads_of records (sym n.definition j) (sym n.place j))) }
+        record {
+          must = tt;
+          items = l.0;
+          listed = l.1;
+          member = subst (In (heads_of records d c)) (sym l.1.are) (inl (λ j. heads_of records (sym n.definition j)
+              (sym n.place j)));
+        }
 
     pub heads_kept : (d c : ℕ) → In d ids → c < 12 → kind_at records format.index_file (heads_of records d c) ≡ format.heads
     heads_kept d c i low =
@@ -194,7 +209,8 @@ module _ (records : Records) (ids : List ℕ) (are : AreDefinitions records ids)
       WrongEntry x (λ keeps. ⊎_elim
       (λ (m : marked marks x ≡ true). ⊎_elim
       (λ (i : In x ids). not_defined x format.indexed (λ e. absurd (omega arith)) kind i)
-      (λ (a : AmongHeads Always HeadLists (12 * length ids) x). let other = (head_of a.id x a.below a.here).1 in let both = sym kind ∙ other in absurd (omega arith))
+      (λ (a : AmongHeads Always HeadLists (12 * length ids) x). let other = (head_of a.id x a.below a.here).1 in let both = sym kind ∙ other in absurd
+      (omega arith))
       (told x m))
       (λ (a : AmongHeads Always BucketLists t.head x).
       let below : a.id < t.head = a.below in
@@ -267,7 +283,10 @@ left_over records ids marks all x bad = ⊎_elim
 -- and where each record in use has one, it is of an index
 pub all_held : (records : Records) (ids : List ℕ) (marks : List Bool) → AreAllMarked records ids marks
     → ((x : ℕ) → x < high records format.index_file → is_live records format.index_file x ≡ true → marked marks x ≡ true) → AreAllHeld records ids
-all_held records ids marks all each = record { listed = all.listed; held = λ x live. (all.told x).0 (each x (live_below records format.index_file x live) live) }
+all_held records ids marks all each = record {
+  listed = all.listed;
+  held = λ x live. (all.told x).0 (each x (live_below records format.index_file x live) live);
+}
 
 -- where each definition's lists are right, its rule holds, if no other has its pair
 pub each_keeps : (records : Records) (ids : List ℕ) → AreDefinitions records ids

@@ -75,9 +75,11 @@ zero_at text i short lt out =
     let two : get_or (name_record text).bytes i 0 ≡ get_or rest (i - 2) 0 = by i low in
     let long : length (replicate 6 0 ++ text) ≡ 6 + length text = length-append (replicate 6 0) text in
     two ∙ ⊎_elim
-    (λ (before : i < 8). get_or_append_left (replicate 6 0 ++ text) (replicate (56 - length text) 0) 0 (i - 2) (omega arith) ∙ get_or_append_left (replicate 6 0) text 0 (i - 2) (omega arith)
+    (λ (before : i < 8). get_or_append_left (replicate 6 0 ++ text) (replicate (56 - length text) 0) 0 (i - 2) (omega arith) ∙ get_or_append_left
+    (replicate 6 0) text 0 (i - 2) (omega arith)
     ∙ get_or-replicate 6 (i - 2) 0 0 (omega arith))
-    (λ (after : 8 + length text ≤ i). get_or-append_right (replicate 6 0 ++ text) (replicate (56 - length text) 0) (6 + length text) (i - 2) 0 long (omega arith)
+    (λ (after : 8 + length text ≤ i). get_or-append_right (replicate 6 0 ++ text) (replicate (56 - length text) 0) (6 + length text) (i - 2) 0 long
+    (omega arith)
     ∙ get_or-replicate (56 - length text) ((i - 2) - (6 + length text)) 0 0 (omega arith)) out.1
   where
     by : (n : ℕ) → 2 ≤ n → get_or (name_record text).bytes n 0 ≡ get_or ((replicate 6 0 ++ text) ++ replicate (56 - length text) 0) (n - 2) 0

@@ -65,7 +65,8 @@ other-named s id text key meta name =
 
 -- another name's text
 old_text : (s : State) (id : ℕ) (text : List ℕ) (x : ℕ) → x ≢ id → text_at (named s id text).records x ≡ text_at s.records x
-old_text s id text x ne = ap text_of (other-named s id text (key_in format.names_file x) (λ e. let file = ap (λ (k : Key). k.file) e in omega arith) (λ e. ne (ap (λ (k : Key). k.id) e)))
+old_text s id text x ne = ap text_of (other-named s id text (key_in format.names_file x) (λ e. let file = ap (λ (k : Key). k.file) e in omega arith)
+    (λ e. ne (ap (λ (k : Key). k.id) e)))
 
 -- the names are one more
 pub names_of-named : (s : State) (names : List (List ℕ)) (text : List ℕ) → length text ≤ 48 → length names < 4096 → names ≡ names_of s.records

@@ -13,7 +13,12 @@ reads_none most old new e = record { count = 0; within = omega arith; is = e ∙
 
 -- one more read
 pub reads_next : (most n : ℕ) (old mid new : State) → n < most → mid ≡ after_gets n old → new ≡ after_get mid → ReadsAtMost most old new
-reads_next most n old mid new lt first next = record { count = n + 1; within = omega arith; is = next ∙ ap after_get first ∙ sym (after_gets_more n (n + 1) old refl) }
+reads_next most n old mid new lt first next = record {
+  count = n + 1;
+  within = omega arith;
+  is = next ∙ ap after_get first ∙ sym (after_gets_more n (n + 1)
+      old refl);
+}
 
 -- one more comparison
 pub reads_compared : (names : List (List ℕ)) (n : ℕ) (old mid new : State) → n ≤ length names → mid ≡ after_gets n old → new ≡ after_compare mid names n

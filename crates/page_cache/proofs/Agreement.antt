@@ -91,7 +91,8 @@ agrees_forgotten old new key page before after its same once then is agrees = re
       (page_of other) before.entries once in
       let apart = kept_apart (page_eq page (page_of other)) (lookup (page_eq (page_of other)) before.entries) bytes (sym gone ∙ found) in
       let differ = other_key other key (ap (λ p. page_eq p (page_of other)) (sym its) ∙ apart) in
-      agrees.kept other bytes valid (Contains-remove_entry (page_eq page) before.entries (page_of other, bytes) (subst (λ pages. Contains pages (page_of other, bytes)) is i))
+      agrees.kept other bytes valid (Contains-remove_entry (page_eq page) before.entries (page_of other, bytes)
+      (subst (λ pages. Contains pages (page_of other, bytes)) is i))
       ∙ sym (record_at-other other key old new differ same);
 }
   where

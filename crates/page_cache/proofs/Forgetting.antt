@@ -36,7 +36,8 @@ forgotten_more pairs i write start now next is out gone before =
       within = λ entry there. before.within entry (fewer entry there);
       apart = λ key bytes there. ⊎_elim
           (λ (e : key ≡ write.0). absurd (gone bytes (subst (λ (k : Key). Contains next.entries (page_of k, bytes)) e there)))
-          (λ differ. before.apart key bytes (fewer (page_of key, bytes) there) ∙ find_pair-drop pairs i write key is differ ∙ ap (λ n. find_pair (drop n pairs) key) (sym more))
+          (λ differ. before.apart key bytes (fewer (page_of key, bytes) there) ∙ find_pair-drop pairs i write key is differ ∙ ap (λ n. find_pair (drop n pairs)
+          key) (sym more))
           (cases_key key write.0);
       left = ap (λ n. without_pages (drop n pairs) next) more ∙ ap (without_pages (drop (suc i) pairs)) out
           ∙ sym (ap (λ (ps : Pairs). without_pages ps now) (drop_at pairs i write is)) ∙ before.left;

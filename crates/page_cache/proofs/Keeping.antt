@@ -86,7 +86,8 @@ stay_pushed page bytes pages = record {
         ⊎ (pages.cap ≤ suc (length (take (pages.cap - 1) pages.entries)))
     by key kept true is =
         let least : length pages.entries ≤ pages.cap - 1 = grind (arith, nat_tests) in
-        inl (subst (λ entries. IsSome (cond (page_eq (page_of key) page) (Some bytes) (lookup (page_eq (page_of key)) entries))) (sym (take_all (pages.cap - 1) pages.entries least)) (there key (page_eq (page_of key) page) kept))
+        inl (subst (λ entries. IsSome (cond (page_eq (page_of key) page) (Some bytes) (lookup (page_eq (page_of key)) entries)))
+        (sym (take_all (pages.cap - 1) pages.entries least)) (there key (page_eq (page_of key) page) kept))
     by key kept false is = inr (filled (grind (arith, nat_tests)))
 
 -- where the page of the record wasn't kept
@@ -97,7 +98,10 @@ stay_missed key old new none keeps = ⊎_elim
     (λ (put : (bytes : List ℕ) × (new ≡ with_page key bytes old)).
     let is : with_page key put.0 old ≡ pushed (page_of key) put.0 old
     = ap
-    (λ (found : Option (PageKey × List ℕ)). record old { entries = option_map_or (λ e. (e.0, put.0) ∷ remove_entry (page_eq (page_of key)) old.entries) found ((page_of key, put.0) ∷ take (old.cap - 1) old.entries) })
+    (λ (found : Option (PageKey × List ℕ)). record old {
+      entries = option_map_or (λ e. (e.0, put.0) ∷ remove_entry (page_eq (page_of key)) old.entries) found
+          ((page_of key, put.0) ∷ take (old.cap - 1) old.entries);
+    })
     (unused_cases (page_eq (page_of key)) old.entries none) in
     subst (StayKept old) (sym (put.1 ∙ is)) (stay_pushed (page_of key) put.0 old))
     keeps

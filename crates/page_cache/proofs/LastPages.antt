@@ -124,11 +124,13 @@ lookup-pushed pages key page held bytes apart is fits room other = pick (lookup_
     past first rest e = ap (λ b. cond b (Some first.1) (lookup (page_eq page) rest)) e
 
     pick : (found : Option (PageKey × List ℕ)) → lookup_entry (page_eq key) pages.entries ≡ found
-        → lookup (page_eq page) (option_map_or (λ e. (e.0, held) ∷ remove_entry (page_eq key) pages.entries) found ((key, held) ∷ take (pages.cap - 1) pages.entries)) ≡ Some bytes
+        → lookup (page_eq page) (option_map_or (λ e. (e.0, held) ∷ remove_entry (page_eq key) pages.entries) found ((key, held) ∷ take (pages.cap - 1)
+        pages.entries)) ≡ Some bytes
     pick None none =
         past (key, held) (take (pages.cap - 1) pages.entries) (turned key page apart)
         ∙ lookup-take (pages.cap - 1) page bytes pages.entries is (omega (arith, fits, room))
-        (λ gone at. other gone (ap (λ (o : Option (List ℕ)). option_map_or (λ old. Some (key, old)) o (slice_get pages.entries (pages.cap - 1))) (lookup-unfound key pages.entries none) ∙ at))
+        (λ gone at. other gone (ap (λ (o : Option (List ℕ)). option_map_or (λ old. Some (key, old)) o (slice_get pages.entries (pages.cap - 1)))
+        (lookup-unfound key pages.entries none) ∙ at))
     pick (Some entry) found =
         past (entry.0, held) (remove_entry (page_eq key) pages.entries)
         (ap (λ (p : PageKey). page_eq page p) (sym (found_is key pages.entries entry found)) ∙ turned key page apart)
@@ -159,7 +161,8 @@ last_pushed old mid new pages after key held went fits room kept puts gone_is fo
     let stays = forgets other bytes is in
     ap (λ (p : Pages). lookup (page_eq other) p.entries) after_is
     ∙ ⊎_elim
-    (λ this. ap (λ (p : PageKey). lookup (page_eq p) (put_entries page_eq pages key held)) this.0 ∙ lookup-put_entries page_eq pages key held page_laws ∙ ap Some (sym this.1))
+    (λ this. ap (λ (p : PageKey). lookup (page_eq p) (put_entries page_eq pages key held)) this.0 ∙ lookup-put_entries page_eq pages key held page_laws
+    ∙ ap Some (sym this.1))
     (λ was. lookup-pushed pages key other held bytes was.0 (kept other bytes was.1) fits room (λ pair at. stays.0 pair (gone_is ∙ at)))
     (puts other bytes stays.1)
 

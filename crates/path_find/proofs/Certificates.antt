@@ -12,8 +12,10 @@ module _ (near : Adjacency) (levels : List NodeLevel) where
   one_level : AreLevels near levels → (node a b : ℕ) → Contains levels (level_of node a) → Contains levels (level_of node b) → a ≡ b
   one_level are node a b first second =
       places (a ≡ b) levels (level_of node a) (level_of node b) first second
-      (λ i j lt low x y. let d = level_of node a in absurd (are.distinct i j d lt low (ap (λ (r : NodeLevel). r.node) (x d ∙ ap (λ l. level_of node l) refl) ∙ sym (ap (λ (r : NodeLevel). r.node) (y d)))))
-      (λ i j lt low x y. let d = level_of node a in absurd (are.distinct i j d lt low (ap (λ (r : NodeLevel). r.node) (x d) ∙ sym (ap (λ (r : NodeLevel). r.node) (y d)))))
+      (λ i j lt low x y. let d = level_of node a in absurd (are.distinct i j d lt low (ap (λ (r : NodeLevel). r.node) (x d ∙ ap (λ l. level_of node l) refl)
+      ∙ sym (ap (λ (r : NodeLevel). r.node) (y d)))))
+      (λ i j lt low x y. let d = level_of node a in absurd (are.distinct i j d lt low (ap (λ (r : NodeLevel). r.node) (x d) ∙ sym
+      (ap (λ (r : NodeLevel). r.node) (y d)))))
       (λ e. ap (λ (r : NodeLevel). r.level) e)
 
   module _ (from to edges : ℕ) (rules : AreLevelsFor near from to edges levels) where

@@ -115,7 +115,12 @@ module _ (near : Adjacency) where
   leads_from : (later : List ℕ) (at to : ℕ) → ((k : ℕ) → k < length later → IsStep near (get_or (at ∷ later) k 0) (get_or later k 0))
       → get_or (at ∷ later) (length later) 0 ≡ to → near.is_node to ≡ true → LeadsTo near at later to
   leads_from [] at to steps last there = (subst (λ n. near.is_node n ≡ true) (sym last) there, last)
-  leads_from (node ∷ later) at to steps last there = ((steps 0 (omega arith)).there, (steps 0 (omega arith)).edge, leads_from later node to (λ k lt. steps (suc k) (omega arith)) last there)
+  leads_from (node ∷ later) at to steps last there = (
+    (steps 0 (omega arith)).there,
+    (steps 0 (omega arith)).edge,
+    leads_from later node to
+        (λ k lt. steps (suc k) (omega arith)) last there,
+  )
 
   step_in : (later : List ℕ) (at to : ℕ) → LeadsTo near at later to → (k : ℕ) → k < length later → IsStep near (get_or (at ∷ later) k 0) (get_or later k 0)
   step_in [] at to leads k lt = absurd (omega arith)
@@ -131,8 +136,11 @@ module _ (near : Adjacency) where
       → ((k : ℕ) → k < length walk - 1 → IsStep near (get_or walk k 0) (get_or walk (k + 1) 0)) → near.is_node to ≡ true → IsWalkOrNone near from to walk
   walk-from_steps from to [] first last steps there = tt
   walk-from_steps from to (node ∷ later) first last steps there =
-      let whole : length (node ∷ later) - 1 ≡ length later = omega arith in
-      (first, leads_from later node to (λ k lt. let more : k + 1 ≡ suc k = omega arith in subst (λ n. IsStep near (get_or (node ∷ later) k 0) (get_or (node ∷ later) n 0)) more (steps k (omega arith))) (subst (λ n. get_or (node ∷ later) n 0 ≡ to) whole last) there)
+      let whole : length (node ∷ later) - 1 ≡ length later = omega arith in (
+        first,
+        leads_from later node to (λ k lt. let more : k + 1 ≡ suc k = omega arith in subst (λ n. IsStep near (get_or (node ∷ later) k 0)
+            (get_or (node ∷ later) n 0)) more (steps k (omega arith))) (subst (λ n. get_or (node ∷ later) n 0 ≡ to) whole last) there,
+      )
 
   pub last-from_walk : (from to : ℕ) (walk : List ℕ) → 0 < length walk → IsWalkOrNone near from to walk → (get_or walk (length walk - 1) 0 ≡ to)
       × (near.is_node to ≡ true)

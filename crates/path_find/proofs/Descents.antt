@@ -29,7 +29,12 @@ pub next_from_first : (near : Adjacency) (rows : Rows) (at level row : ℕ) (end
     → (SomeAtLevel rows level ends → IsFirstAtLevel rows level ends row) → IsNextRow near rows at level row
 next_from_first near rows at level row ends are ascend nearer pick =
     let there = at_from_Contains ends (node_at rows nearer.row) (are.all (node_at rows nearer.row) nearer.edge) in
-    let first = pick (record { place = there.0; short = there.1; row = nearer.row; is = record { low = nearer.low; exact = nearer.exact; is = sym (there.2 0) } }) in
+    let first = pick (record {
+      place = there.0;
+      short = there.1;
+      row = nearer.row;
+      is = record { low = nearer.low; exact = nearer.exact; is = sym (there.2 0) };
+    }) in
     let place = first.place in
     let mine = first.is.is in
     record {
@@ -94,7 +99,11 @@ module _ (near back : Adjacency) (there : AreOpposite near back) (return : AreOp
 
   pub descent-leads : (way : List ℕ) (at : ℕ) → at < row_count rows → length way ≡ level_at rows at → IsDescent near rows at way
       → LeadsTo near (node_at rows at) way (node_at rows 0)
-  descent-leads [] at low long descends = (return.node (node_at rows at) (spans.nodes at low), ap (node_at rows) (row_first rows done layers.tree at low (sym long)))
+  descent-leads [] at low long descends = (
+    return.node (node_at rows at) (spans.nodes at low),
+    ap (node_at rows) (row_first rows done layers.tree at low
+        (sym long)),
+  )
   descent-leads (node ∷ way) at low long descends =
       let row = descends.0 in
       let next = descends.2 in (

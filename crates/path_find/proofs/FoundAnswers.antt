@@ -82,7 +82,8 @@ module _ (near : Adjacency) (rows : Rows) (from to : ℕ) (searched : IsSearched
       each = λ level has.
           let at = are.only level has in (
             subst IsAllowed at.is (allowed at.row at.low),
-            subst (λ n. IsDistance near from n level.level) at.node (subst (IsDistance near from (node_at rows at.row)) at.is (row_distance at.row at.low (bound at.row at.low))),
+            subst (λ n. IsDistance near from n level.level) at.node (subst (IsDistance near from (node_at rows at.row)) at.is (row_distance at.row at.low
+                (bound at.row at.low))),
           );
       all = all_held;
     }
@@ -143,7 +144,8 @@ module _ (near : Adjacency) (rows : Rows) (from to : ℕ) (searched : IsSearched
     none_complete : (n : ℕ) → IsComplete n
     none_complete n i lt less = elim (cases_lt i searched.done) [
       | inl early ↦ early
-      | inr late ↦ let found = searched.left i late lt in absurd (none (subst (Contains rows.nodes) found.is (Contains-get_or rows.nodes found.row 0 found.low)))
+      | inr late ↦ let found = searched.left i late lt in absurd (none (subst (Contains rows.nodes) found.is (Contains-get_or rows.nodes found.row 0
+          found.low)))
     ]
 
     none_leads : HasNoWalk near from to

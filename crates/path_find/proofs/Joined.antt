@@ -203,7 +203,8 @@ module _ (near back : Adjacency) (there : AreOpposite near back) (return : AreOp
           descent-least near back there return behind_rows behind_done behind_depth behind_layers behind_spans joined.way joined.last two.after joined.last_low
           joined.long joined.descends
           (subst (λ n. LeadsTo near n two.after to) (sym ends ∙ sym joined.shared) two.rest) (omega (arith, before_long, whole, count, last_full, way_long)) in
-          subst (IsNotAfter (way ++ joined.way)) (sym two.is) (not_after-join way two.before joined.way two.after (omega (arith, mine_long, mine_full, before_long)) upto onward)
+          subst (IsNotAfter (way ++ joined.way)) (sym two.is) (not_after-join way two.before joined.way two.after
+          (omega (arith, mine_long, mine_full, before_long)) upto onward)
 
       pub least_joined : IsLeastShortest near from to joined_walk
       least_joined = record {
@@ -216,7 +217,11 @@ module _ (near back : Adjacency) (there : AreOpposite near back) (return : AreOp
         where
           by : (other : List ℕ) → IsWalk near from to other → length other ≡ length joined_walk → IsNotAfter joined_walk other
           by [] is same = absurd is
-          by (node ∷ later) is same = inr (sym is.0, first later (subst (λ n. LeadsTo near n later to) is.0 is.1) (let mine = long in omega (arith, same, mine)))
+          by (node ∷ later) is same = inr (
+            sym is.0,
+            first later (subst (λ n. LeadsTo near n later to) is.0 is.1) (let mine = long in omega
+                (arith, same, mine)),
+          )
 
       pub least_walk : IsLeastOrNone near from to walk
       least_walk = subst (IsLeastOrNone near from to) (sym joined.is) least_joined

@@ -52,7 +52,8 @@ module _ (levels : List NodeLevel) (nodes : List ℕ) (count : ℕ) (some : AreS
           λ same.
           let mine : get_or nodes i 0 ≡ row.node = node_at_place i d (omega arith) ∙ same ∙ ap (λ k. (get_or levels k d).node) here ∙ ap node_of (at d) in
           let long = nodes_long in
-          clash (sym (list_any_at (nat_eq row.node) nodes i 0 (omega (arith, long)) (subst (λ n. nat_eq row.node n ≡ true) (sym mine) (nat_eq_equiv.refl row.node))) ∙ fresh)
+          clash (sym (list_any_at (nat_eq row.node) nodes i 0 (omega (arith, long)) (subst (λ n. nat_eq row.node n ≡ true) (sym mine)
+          (nat_eq_equiv.refl row.node))) ∙ fresh)
     ];
   }
 
@@ -61,4 +62,5 @@ module _ (levels : List NodeLevel) (nodes : List ℕ) (count : ℕ) (some : AreS
       let there = at_from_Contains nodes row.node (Contains-list_any nat_eq eqb-true nodes row.node known) in
       let long = nodes_long in
       let lt = there.1 in
-      distinct there.0 count row (omega (arith, long, lt)) short (sym (node_at_place there.0 row (omega (arith, long, lt))) ∙ there.2 0 ∙ sym (ap node_of (at row)))
+      distinct there.0 count row (omega (arith, long, lt)) short (sym (node_at_place there.0 row (omega (arith, long, lt))) ∙ there.2 0 ∙ sym
+      (ap node_of (at row)))

@@ -35,7 +35,8 @@ module _ (rows : Rows) where
 
     sorted_apart : (i j : ℕ) (d : NodeLevel) → i < j → j < length sorted → (get_or sorted i d).node ≢ (get_or sorted j d).node
     unfolding same_node
-    sorted_apart i j d lt low = eqb-false _ _ (apart_from_distinct same_node sorted i j d (IsDistinct-IsPermutation same_node flips levels sorted moved (IsDistinct-from_apart same_node levels differs)) lt low)
+    sorted_apart i j d lt low = eqb-false _ _ (apart_from_distinct same_node sorted i j d (IsDistinct-IsPermutation same_node flips levels sorted moved
+        (IsDistinct-from_apart same_node levels differs)) lt low)
 
     pub levels-sorted : AreLevelsOf rows sorted
     levels-sorted = record {

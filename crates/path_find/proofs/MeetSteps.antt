@@ -21,12 +21,14 @@ apart_begin from to differ (suc i) low has = absurd (omega (arith, low))
 pub met_start : (from to : ℕ) (ahead behind : Rows) → ahead ≡ one_row from → behind ≡ one_row to → OnTrue (nat_eq from to) (HaveMet ahead behind)
 met_start from to ahead behind first second =
     OnTrue_from (nat_eq from to) (HaveMet ahead behind)
-    (λ e. subst (λ (rows : Rows). HaveMet rows behind) (sym first) (subst (λ (rows : Rows). HaveMet (one_row from) rows) (sym second) (met_begin from to (eqb-true from to e))))
+    (λ e. subst (λ (rows : Rows). HaveMet rows behind) (sym first) (subst (λ (rows : Rows). HaveMet (one_row from) rows) (sym second)
+    (met_begin from to (eqb-true from to e))))
 
 pub apart_start : (from to : ℕ) (ahead behind : Rows) → ahead ≡ one_row from → behind ≡ one_row to → OnFalse (nat_eq from to) (AreApart ahead behind)
 apart_start from to ahead behind first second =
     OnFalse_from (nat_eq from to) (AreApart ahead behind)
-    (λ e. subst (λ (rows : Rows). AreApart rows behind) (sym first) (subst (λ (rows : Rows). AreApart (one_row from) rows) (sym second) (apart_begin from to (eqb-false from to e))))
+    (λ e. subst (λ (rows : Rows). AreApart rows behind) (sym first) (subst (λ (rows : Rows). AreApart (one_row from) rows) (sym second)
+    (apart_begin from to (eqb-false from to e))))
 
 -- ---- on by a level
 

@@ -55,7 +55,8 @@ module _ (s : State) (store : IsStore s) where
       let there = contains_collect (edge_row_at s.records) (high s.records format.relationships_file) row has in
       let x = there.0 in
       let used = some_row (kind_at s.records format.relationships_file x) (edge_at s.records x) row there.2 in
-      let both = store.linked.ends x _ (row_some (kind_at s.records format.relationships_file x) (rel_in (rec_at s.records format.relationships_file x) x) used.0) in (
+      let both = store.linked.ends x _ (row_some (kind_at s.records format.relationships_file x) (rel_in (rec_at s.records format.relationships_file x) x)
+      used.0) in (
         subst (λ (r : EdgeRow). has_node (graph_in s) r.from ≡ true) used.1 (node_there s.records (edge_at s.records x).from both.from),
         subst (λ (r : EdgeRow). has_node (graph_in s) r.to ≡ true) used.1 (node_there s.records (edge_at s.records x).to both.to),
       )

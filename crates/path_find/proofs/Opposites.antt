@@ -87,7 +87,8 @@ module _ (labels : List ℕ) (rows : List EdgeRow) where
 
   leaves_back : (a b : ℕ) → IsEdge a b → Contains (map (row_end a) (leaving a)) b
   leaves_back a b edge =
-      let kept = filter_contains (is_leaving a) rows edge.row edge.has (and-true (nat_eq edge.row.from a) (is_wanted labels edge.row.label) (equal edge.row.from a edge.from) edge.wanted) in
+      let kept = filter_contains (is_leaving a) rows edge.row edge.has (and-true (nat_eq edge.row.from a) (is_wanted labels edge.row.label)
+      (equal edge.row.from a edge.from) edge.wanted) in
       subst (Contains (map (row_end a) (leaving a))) (end_leaving edge.row a edge.from ∙ edge.to) (image_contains (row_end a) (leaving a) edge.row kept)
 
   enters_back : (a b : ℕ) → IsEdge b a → Contains (map (row_end a) (entering a)) b
@@ -104,9 +105,12 @@ module _ (labels : List ℕ) (rows : List EdgeRow) where
   both_back a b has =
       subst (λ (list : List ℕ). Contains list a) (sym (map-both b (leaving b) (entering b)))
       (⊎_elim
-      (λ (first : Contains (map (row_end a) (leaving a)) b). Contains-append_right (map (row_end b) (leaving b)) (map (row_end b) (entering b)) a (enters_back b a (leaves a b first)))
-      (λ (second : Contains (map (row_end a) (entering a)) b). Contains-append_left (map (row_end b) (leaving b)) (map (row_end b) (entering b)) a (leaves_back b a (enters a b second)))
-      (Contains-append_cases (map (row_end a) (leaving a)) (map (row_end a) (entering a)) b (subst (λ (list : List ℕ). Contains list b) (map-both a (leaving a) (entering a)) has)))
+      (λ (first : Contains (map (row_end a) (leaving a)) b). Contains-append_right (map (row_end b) (leaving b)) (map (row_end b) (entering b)) a
+      (enters_back b a (leaves a b first)))
+      (λ (second : Contains (map (row_end a) (entering a)) b). Contains-append_left (map (row_end b) (leaving b)) (map (row_end b) (entering b)) a
+      (leaves_back b a (enters a b second)))
+      (Contains-append_cases (map (row_end a) (leaving a)) (map (row_end a) (entering a)) b (subst (λ (list : List ℕ). Contains list b) (map-both a (leaving a)
+      (entering a)) has)))
 
   edge_back : (direction : Direction) (a b : ℕ) → Contains (map (row_end a) (rows_at direction labels a rows)) b
       → Contains (map (row_end b) (rows_at (reversed direction) labels b rows)) a

@@ -201,7 +201,8 @@ module _ (rows : Rows) (at : ℕ) (ends : List ℕ) (given : ℕ) (grows : IsGro
               let up : node_at new (parent_at new i) ≡ node_at rows at = ap (node_at new) (parent_last i last) ∙ nodes_kept at grows.low in
               subst (λ n. Contains (near.next n) (node_at new i)) (sym up) (subst (Contains (near.next (node_at rows at))) (sym (node_last i last)) next)
         ];
-        found = λ i end lt next'. let low = grows.low in row_found i end (spans.found i end lt (subst (λ n. Contains (near.next n) end) (nodes_kept i (omega (arith, low))) next'));
+        found = λ i end lt next'. let low = grows.low in row_found i end (spans.found i end lt (subst (λ n. Contains (near.next n) end)
+            (nodes_kept i (omega (arith, low))) next'));
       }
 
       before_kept : IsNonDecreasing ends → (k : ℕ) → k < length ends → slice_index ends k ≡ node → given ≡ k → (i : ℕ) → 0 < i → i < row_count new

@@ -30,7 +30,8 @@ name_once old name a b (inr h) (inr k) = h.1 ∙ sym k.1
 
 names_once : (old line a b : List (List ℕ)) → UsesNames old line a → UsesNames old line b → a ≡ b
 names_once old [] a b h k = h ∙ sym k
-names_once old (name ∷ later) a b h k = names_once k.0 later a b (subst (λ (known : List (List ℕ)). UsesNames known later a) (name_once old name h.0 k.0 h.1 k.1) h.2) k.2
+names_once old (name ∷ later) a b h k = names_once k.0 later a b (subst (λ (known : List (List ℕ)). UsesNames known later a)
+    (name_once old name h.0 k.0 h.1 k.1) h.2) k.2
 
 needs_once : (names line : List (List ℕ)) (a b : ℕ) → NeedsNames names line a → NeedsNames names line b → a ≡ b
 needs_once names line a b h k =
@@ -154,12 +155,14 @@ module _ (limit : ℕ) (g h new other : Graph) (from : ℕ) (label : List ℕ) (
 
   degrees_same : (node : ℕ) → degree_in other node ≡ degree_in new node
   degrees_same node =
-      length-filter (is_at node) other.edges ∙ sums (at node) refl (sym (length-filter (is_at node) h.edges) ∙ alike.degrees node ∙ length-filter (is_at node) g.edges) ∙ sym (length-filter (is_at node) new.edges)
+      length-filter (is_at node) other.edges ∙ sums (at node) refl (sym (length-filter (is_at node) h.edges) ∙ alike.degrees node ∙ length-filter (is_at node)
+      g.edges) ∙ sym (length-filter (is_at node) new.edges)
 
   edge_on : AreAlike new other
   edge_on = record {
     nodes = more.nodes ∙ alike.nodes ∙ sym made.nodes;
-    names = sym (names_once g.names (label ∷ keys_in pairs) new.names other.names made.names (subst (λ (known : List (List ℕ)). UsesNames known (label ∷ keys_in pairs) other.names) alike.names more.names));
+    names = sym (names_once g.names (label ∷ keys_in pairs) new.names other.names made.names (subst (λ (known : List (List ℕ)). UsesNames known
+        (label ∷ keys_in pairs) other.names) alike.names more.names));
     indexes = more.indexes ∙ alike.indexes ∙ sym made.indexes;
     edges =
         let a = ap length more.edges ∙ length_with_row (edge told) h.edges in
@@ -194,13 +197,22 @@ module _ (limit : ℕ) (g h : Graph) (from : ℕ) (label : List ℕ) (to : ℕ) 
                     (
                       λ why holds. holds,
                       (
-                        λ why holds. (holds.0, subst (λ (known : List (List ℕ)). UsesNames known (label ∷ keys_in pairs) holds.0) alike.names holds.1, holds.2, holds.3),
+                        λ why holds. (
+                          holds.0,
+                          subst (λ (known : List (List ℕ)). UsesNames known (label ∷ keys_in pairs) holds.0) alike.names holds.1,
+                          holds.2,
+                          holds.3,
+                        ),
                         (
                           λ why holds. holds,
                           (
                             λ why holds. subst (λ (n : ℕ). lacks_room limit (n + maps.len (with_pairs no_properties pairs)) refusals.FullProperties why)
                                 alike.properties holds,
-                            (λ why holds. subst (λ (n : ℕ). lacks_room limit (n + blocks_in (with_pairs no_properties pairs)) refusals.FullStrings why) alike.blocks holds, (λ why holds. holds, (λ why holds. holds, tt))),
+                            (
+                              λ why holds. subst (λ (n : ℕ). lacks_room limit (n + blocks_in (with_pairs no_properties pairs)) refusals.FullStrings why)
+                                  alike.blocks holds,
+                              (λ why holds. holds, (λ why holds. holds, tt)),
+                            ),
                           ),
                         ),
                       ),

@@ -49,7 +49,25 @@ HasIndexOf graph reading = (why : Refusal) → ¬ lacks_index (index_of_reading 
 -- No reason of a single change is one of a mutating query, but that it asks of an index that isn't there.
 none_single : (limit : ℕ) (graph : Graph) (reading : Option Query) (mutation : Mutation) → HasIndexOf graph reading
     → NoReason change_reasons limit graph (commands.Mutate reading mutation)
-none_single limit graph reading mutation there = (λ o h. h, (λ o h. h, (λ o h. h, (λ o h. h, (λ o h. h, (λ o h. h, (λ o h. h, (λ o h. h, (λ o h. h, (there, (λ o h. h, (λ o h. h, (λ o h. h, (λ o h. h, (λ o h. h, (λ o h. h, tt))))))))))))))))
+none_single limit graph reading mutation there = (
+  λ o h. h,
+  (
+    λ o h. h,
+    (
+      λ o h. h,
+      (
+        λ o h. h,
+        (
+          λ o h. h,
+          (
+            λ o h. h,
+            (λ o h. h, (λ o h. h, (λ o h. h, (there, (λ o h. h, (λ o h. h, (λ o h. h, (λ o h. h, (λ o h. h, (λ o h. h, tt)))))))))),
+          ),
+        ),
+      ),
+    ),
+  ),
+)
 
 pub mutation_free : (limit : ℕ) (graph : Graph) (reading : Option Query) (mutation : Mutation) → HasIndexOf graph reading
     → ((why : Refusal) → ¬ RefusesEach limit graph (asked_changes graph reading mutation) why)

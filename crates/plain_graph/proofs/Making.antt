@@ -13,12 +13,30 @@ module _ (limit threshold : ℕ) where
   pub each_changes : (old new : Graph) (commands : List Command) (replies : List Reply) (weight : ℕ) → MakesEach limit threshold old commands replies weight new
       → ChangesEach limit old commands replies new
   each_changes old new [] replies weight made = (made.0, made.2)
-  each_changes old new (command ∷ later) replies weight made = (made.0, made.3, made.2, made.5, made.7.changes, each_changes made.2 new later made.3 made.4 made.8)
+  each_changes old new (command ∷ later) replies weight made = (
+    made.0,
+    made.3,
+    made.2,
+    made.5,
+    made.7.changes,
+    each_changes made.2 new later made.3 made.4
+        made.8,
+  )
 
   pub each_weighs : (old new : Graph) (commands : List Command) (replies : List Reply) (weight : ℕ) → MakesEach limit threshold old commands replies weight new
       → WeighsEach limit threshold old commands weight
   each_weighs old new [] replies weight made = made.1
-  each_weighs old new (command ∷ later) replies weight made = (made.1, made.4, made.0, made.2, made.6, made.7.weighs, made.7.changes, each_weighs made.2 new later made.3 made.4 made.8)
+  each_weighs old new (command ∷ later) replies weight made = (
+    made.1,
+    made.4,
+    made.0,
+    made.2,
+    made.6,
+    made.7.weighs,
+    made.7.changes,
+    each_weighs made.2 new
+        later made.3 made.4 made.8,
+  )
 
 -- ---- one list and then another
 
@@ -30,7 +48,8 @@ module _ (limit threshold : ℕ) where
       let none = made.1 in
       let sum : v ≡ w + v = omega arith in
       subst (λ (n : ℕ). MakesEach limit threshold old ys (rs ++ ts) n new) sum
-      (subst (λ (r : List Reply). MakesEach limit threshold old ys (r ++ ts) v new) (sym made.0) (subst (λ (g : Graph). MakesEach limit threshold g ys ts v new) made.2 next))
+      (subst (λ (r : List Reply). MakesEach limit threshold old ys (r ++ ts) v new) (sym made.0) (subst (λ (g : Graph). MakesEach limit threshold g ys ts v new)
+      made.2 next))
   each_then old mid new (command ∷ later) ys rs ts w v made next = (
     made.0,
     made.1,
@@ -122,7 +141,8 @@ pub reasons_apart : (reasons : List Reason) (limit : ℕ) (g h : Graph) (command
 reasons_apart [] limit g h command why alike none first = first
 reasons_apart (reason ∷ later) limit g h command why alike none first =
     ⊎_elim (λ (holds : reason limit h command why). none.0 why (alike.0 why holds))
-    (λ (other : ((o : Refusal) → ¬ reason limit h command o) × FirstReason later limit h command why). reasons_apart later limit g h command why alike.1 none.1 other.1)
+    (λ (other : ((o : Refusal) → ¬ reason limit h command o) × FirstReason later limit h command why). reasons_apart later limit g h command why alike.1 none.1
+    other.1)
     first
 
 pub reasons_same : (reasons : List Reason) (limit : ℕ) (g : Graph) (command : Command) → HoldAlike reasons limit g g command

@@ -60,7 +60,45 @@ edge_shown = refl
 
 -- the second node is refused, after the first was deleted
 loop_refused : RefusesEach 16 two_nodes (asked_changes two_nodes all_nodes mutations.Drop) (refusals.HasRelationships 1)
-loop_refused = inr ((λ o h. h, (λ o h. h, (λ o h. h, (λ o h. h, (λ o h. absurd (true≢false h.0), (λ o h. h, (λ o h. h.0 refl, (λ o h. h, (λ o h. h, (λ o h. h, (λ o h. h, (λ o h. h, (λ o h. h, (λ o h. h, (λ o h. h, (λ o h. h, tt)))))))))))))))), Done, one_node, (refl, record { there = refl; lone = refl; nodes = refl; edges = refl; names = refl; indexes = refl }), inl (inr (λ o h. h, inr (λ o h. h, inr (λ o h. h, inr (λ o h. h, inr (λ o h. absurd (true≢false h.0), inr (λ o h. h, inl ((λ e. zero_not 1 0 refl refl e), refl)))))))))
+loop_refused = inr (
+  (
+    λ o h. h,
+    (
+      λ o h. h,
+      (
+        λ o h. h,
+        (
+          λ o h. h,
+          (
+            λ o h. absurd (true≢false h.0),
+            (λ o h. h, (λ o h. h.0 refl, (λ o h. h, (λ o h. h, (λ o h. h, (λ o h. h, (λ o h. h, (λ o h. h, (λ o h. h, (λ o h. h, (λ o h. h, tt))))))))))),
+          ),
+        ),
+      ),
+    ),
+  ),
+  Done,
+  one_node,
+  (refl, record { there = refl; lone = refl; nodes = refl; edges = refl; names = refl; indexes = refl }),
+  inl
+      (inr (
+        λ o h. h,
+        inr (
+          λ o h. h,
+          inr (
+            λ o h. h,
+            inr (
+              λ o h. h,
+              inr (
+                λ o h. absurd (true≢false h.0),
+                inr
+                    (λ o h. h, inl ((λ e. zero_not 1 0 refl refl e), refl)),
+              ),
+            ),
+          ),
+        ),
+      )),
+)
   where
     zero_not : (a b : ℕ) → a ≡ 1 → b ≡ 0 → ¬ (a ≡ b)
     zero_not a b one none same = absurd (omega arith)

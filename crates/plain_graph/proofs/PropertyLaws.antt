@@ -55,7 +55,8 @@ blocks_put k v [] sorted = let n = blocks_under-cons (k, v) [] in omega arith
 blocks_put k v (e ∷ es) sorted =
     let parts = both_true (entries.below_all order e.0 es) (entries.is_sorted order es) sorted in
     let old = blocks_under-cons e es in
-    elim (order k e.0) as (λ r. order k e.0 ≡ r → blocks_under (entries.by_order r ((k, v) ∷ e ∷ es) ((e.0, v) ∷ es) (e ∷ entries.put order k v es)) + blocks_if (cond (is_eq r) (Some e.1) (entries.find order k es)) ≡ blocks_under (e ∷ es) + blocks_of v) [
+    elim (order k e.0) as (λ r. order k e.0 ≡ r → blocks_under (entries.by_order r ((k, v) ∷ e ∷ es) ((e.0, v) ∷ es) (e ∷ entries.put order k v es)) + blocks_if
+    (cond (is_eq r) (Some e.1) (entries.find order k es)) ≡ blocks_under (e ∷ es) + blocks_of v) [
       | Less ↦ λ p.
           let new = blocks_under-cons (k, v) (e ∷ es) in
           let none = ap blocks_if (not_found k e.0 es p parts.0) in
@@ -105,7 +106,8 @@ len-from_entries [] apart = maps.len-empty order Value
 len-from_entries (e ∷ es) apart =
     let none = maps.get-from_entries nat_list_cmp_total es e.0 ∙ apart.0 in
     let later = len-from_entries es apart.1 in
-    let now = len-insert (maps.from_entries es) e.0 e.1 ∙ ap (λ o. cond (is_some o) (maps.len (maps.from_entries {R = order} es)) (maps.len (maps.from_entries {R = order} es) + 1)) none in
+    let now = len-insert (maps.from_entries es) e.0 e.1 ∙ ap (λ o. cond (is_some o) (maps.len (maps.from_entries {R = order} es))
+    (maps.len (maps.from_entries {R = order} es) + 1)) none in
     omega arith
 
 -- no properties take no blocks

@@ -32,7 +32,8 @@ module _ (text : List ℕ) (next : ℕ) (fits : length text ≤ 48) where
       ∙ text_in-with_text_same two format.block_text text (omega arith)
 
   pub next-block_record : next < 2 ^ 32 → field 4 (block_record text next) format.block_next ≡ next
-  next-block_record small = field-with_field_same 4 (with_text (with_field 1 (with_field 1 zeros format.kind format.block) format.block_length (length text)) format.block_text text) format.block_next next (omega arith) (omega arith)
+  next-block_record small = field-with_field_same 4 (with_text (with_field 1 (with_field 1 zeros format.kind format.block) format.block_length (length text))
+      format.block_text text) format.block_next next (omega arith) (omega arith)
 
 -- it is one in use
 pub used_block : (text : List ℕ) (next : ℕ) (rec : Rec) → length text ≤ 48 → rec ≡ block_record text next → field 1 rec format.kind ≢ format.free_kind

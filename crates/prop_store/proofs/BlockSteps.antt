@@ -110,7 +110,8 @@ module _ (old now : State) (rest : List ℕ) (first : ℕ) (same_shape : now.sha
       by : (bs : List ℕ) → first ≡ head_of bs → ((x : ℕ) → In x bs → is_live now.records format.strings_file x ≡ true) → MayFollow now first
       by [] e live = inl e
       by (b ∷ bs) e live = inr (subst (λ x. x < high now.records format.strings_file) (sym e)
-          (kind_below (high now.records format.strings_file) (rec_at now.records format.strings_file b) b (λ dead. true≢false (sym (live b (inl refl)) ∙ live_false (kind_at now.records format.strings_file b) dead))))
+          (kind_below (high now.records format.strings_file) (rec_at now.records format.strings_file b) b (λ dead. true≢false (sym (live b (inl refl))
+          ∙ live_false (kind_at now.records format.strings_file b) dead))))
 
   -- and its number fits four bytes
   first_small : first < 2 ^ 32
@@ -123,7 +124,11 @@ module _ (old now : State) (rest : List ℕ) (first : ℕ) (same_shape : now.sha
   -- there is no room for one more, and one more at least is needed
   pub no_room : (needed : ℕ) (fault : TakeFault) → blocks_for (length rest) + 1 ≤ needed → IsWriteFault now format.strings_file 1 fault
       → IsWriteFault old format.strings_file needed fault
-  no_room needed (Full full live) more is = (is.0, let a = is.1 in let l = stands.live in let e : room_of now.shape format.strings_file ≡ room_of old.shape format.strings_file = ap (λ z. room_of z format.strings_file) same_shape in omega arith)
+  no_room needed (Full full live) more is = (
+    is.0,
+    let a = is.1 in let l = stands.live in let e : room_of now.shape format.strings_file ≡ room_of old.shape
+        format.strings_file = ap (λ z. room_of z format.strings_file) same_shape in omega arith,
+  )
   no_room needed Memory more is = tt
   no_room needed Disk more is = tt
   no_room needed (Damaged damage) more is = is

@@ -73,7 +73,8 @@ none_past mark to le some low = ⊎_elim some (λ (lt : to < mark). omega arith)
 
 -- the kind that the bytes of a record in use say
 used_kind : (records : Records) (file x : ℕ) → kind_at records file x ≢ format.free_kind → field 1 (rec_at records file x) format.kind ≢ format.free_kind
-used_kind records file x used e = used (kind_low (high records file) (rec_at records file x) x (kind_below (high records file) (rec_at records file x) x used) ∙ e)
+used_kind records file x used e = used (kind_low (high records file) (rec_at records file x) x (kind_below (high records file) (rec_at records file x) x used)
+    ∙ e)
 
 pub properties_mark : (s : State) → room_of s.shape format.properties_file < high s.records format.properties_file
     → Breaks s.records s.shape (damage format.meta_file format.properties_file 1)
@@ -119,7 +120,8 @@ holder_more file key (x ∷ xs) at = holder_more file (key_in file x) xs at
 pub next_breaks : (s : State) (p : ℕ) → IsThere s.records p → LinkBreaks s (key_in format.properties_file p) format.properties_file (next_property s.records p)
 next_breaks s p there le some =
     RecordRange format.properties_file p refl (kind_below (high s.records format.properties_file) (rec_at s.records format.properties_file p) p there.used)
-    (λ fits. none_past (high s.records format.properties_file) (next_property s.records p) le some (next_low (high s.records) (rec_at s.records format.properties_file p) (used_kind s.records format.properties_file p there.used) fits))
+    (λ fits. none_past (high s.records format.properties_file) (next_property s.records p) le some (next_low (high s.records)
+    (rec_at s.records format.properties_file p) (used_kind s.records format.properties_file p there.used) fits))
 
 past_breaks : (s : State) (key : Key) (from : ℕ) (ps : List ℕ) (at : ℕ) → ArePast s.records from ps at → LinkBreaks s key format.properties_file from
     → LinkBreaks s (holder_of format.properties_file key ps) format.properties_file at
@@ -177,10 +179,13 @@ module _ (s : State) (owner : Owner) (is : IsOwner owner) (used : IsInUse s.reco
 
   owned : property_owner (node_at s.records) (rel_at s.records) file x ≡ Some (first_of s.records owner)
   owned = ⊎_elim
-      (λ (e : file ≡ format.nodes_file). (subst (λ f. kind_at s.records f x ≢ format.free_kind → property_owner (node_at s.records) (rel_at s.records) f x ≡ Some (property_from s.records f x)) (sym e)
+      (λ (e : file ≡ format.nodes_file). (subst (λ f. kind_at s.records f x ≢ format.free_kind → property_owner (node_at s.records) (rel_at s.records)
+      f x ≡ Some (property_from s.records f x)) (sym e)
       (λ u. ap rules.node_first (row_some (kind_at s.records format.nodes_file x) (node_in (rec_at s.records format.nodes_file x) x) u))) used)
-      (λ (e : file ≡ format.relationships_file). (subst (λ f. kind_at s.records f x ≢ format.free_kind → property_owner (node_at s.records) (rel_at s.records) f x ≡ Some (property_from s.records f x)) (sym e)
-      (λ u. ap rules.rel_first (row_some (kind_at s.records format.relationships_file x) (rel_in (rec_at s.records format.relationships_file x) x) u))) used) is.file
+      (λ (e : file ≡ format.relationships_file). (subst (λ f. kind_at s.records f x ≢ format.free_kind → property_owner (node_at s.records) (rel_at s.records)
+      f x ≡ Some (property_from s.records f x)) (sym e)
+      (λ u. ap rules.rel_first (row_some (kind_at s.records format.relationships_file x) (rel_in (rec_at s.records format.relationships_file x) x) u))) used)
+      is.file
       ∙ ap Some (sym (first_of-is s.records owner is))
 
   element : is_element_file file ≡ true
@@ -194,7 +199,8 @@ module _ (s : State) (owner : Owner) (is : IsOwner owner) (used : IsInUse s.reco
   first_breaks : LinkBreaks s owner.key format.properties_file (first_of s.records owner)
   first_breaks le some = RecordRange file x (meta_of_element file is.file) low
       (λ fits. none_past (high s.records format.properties_file) (first_of s.records owner) le some
-      (subst (IsLow (high s.records format.properties_file)) (sym (first_of-is s.records owner is)) (element_low (high s.records) file (rec_at s.records file x) is.file (used_kind s.records file x used) fits)))
+      (subst (IsLow (high s.records format.properties_file)) (sym (first_of-is s.records owner is)) (element_low (high s.records) file (rec_at s.records file x)
+      is.file (used_kind s.records file x used) fits)))
 
   module _ (from : Key) (at count : ℕ) (r : Reached s.records owner from at count) (some : at ≢ format.nil) where
     -- the property at hand is one of its list
@@ -240,7 +246,8 @@ text_begins records p from first size is from_is = record { blocks = []; passed 
 block_breaks : (s : State) (b size : ℕ) → IsBlockOf s.records b size → LinkBreaks s (key_in format.strings_file b) format.strings_file (next_block s.records b)
 block_breaks s b size here le some =
     RecordRange format.strings_file b refl (kind_below (high s.records format.strings_file) (rec_at s.records format.strings_file b) b here.used)
-    (λ fits. none_past (high s.records format.strings_file) (next_block s.records b) le some (next_block_low (high s.records) (rec_at s.records format.strings_file b) (used_kind s.records format.strings_file b here.used) fits))
+    (λ fits. none_past (high s.records format.strings_file) (next_block s.records b) le some (next_block_low (high s.records)
+    (rec_at s.records format.strings_file b) (used_kind s.records format.strings_file b here.used) fits))
 
 passed_breaks : (s : State) (key : Key) (from size : ℕ) (bs : List ℕ) (at left : ℕ) → ArePassed s.records from size bs at left
     → LinkBreaks s key format.strings_file from → LinkBreaks s (holder_of format.strings_file key bs) format.strings_file at
@@ -306,7 +313,11 @@ passed_pieces records from size (b ∷ c ∷ bs) at left p over =
 pub passed_once : (records : Records) (from size : ℕ) (bs : List ℕ) (at left : ℕ) → ArePassed records from size bs at left → at ≡ format.nil
     → AreUsedOnce records bs
 passed_once records from size bs at left passed end =
-    record { once = once_walk (next_block records) from bs (passed_walk records from size bs at left passed end); used = passed_used records from size bs at left passed }
+    record {
+      once = once_walk (next_block records) from bs (passed_walk records from size bs at left passed end);
+      used = passed_used records from size bs at
+          left passed;
+    }
 
 -- and the property has them
 pub passed_blocks : (records : Records) (p from size : ℕ) (bs : List ℕ) (at left : ℕ) → IsTextOf records p from size → ArePassed records from size bs at left
@@ -332,7 +343,13 @@ record TextRest (records : Records) (bs members : List ℕ) (at left : ℕ) : Ty
 text_rest : (records : Records) (from size : ℕ) (bs : List ℕ) (at left : ℕ) → ArePassed records from size bs at left → (members : List ℕ)
     → IsWalk (next_block records) from members → ArePieces (block_size records) size members → TextRest records bs members at left
 text_rest records from size [] at left passed members walk pieces =
-    record { rest = members; all = refl; walk = subst (λ z. IsWalk (next_block records) z members) passed.0 walk; pieces = subst (λ n. ArePieces (block_size records) n members) passed.1 pieces }
+    record {
+      rest = members;
+      all = refl;
+      walk = subst (λ z. IsWalk (next_block records) z members) passed.0 walk;
+      pieces = subst
+          (λ n. ArePieces (block_size records) n members) passed.1 pieces;
+    }
 text_rest records from size (b ∷ bs) at left passed [] walk pieces = absurd (passed.2.some (sym passed.0 ∙ walk))
 text_rest records from size (b ∷ bs) at left passed (y ∷ ys) walk pieces =
     let same : y ≡ b = sym walk.0 ∙ passed.0 in
@@ -354,7 +371,8 @@ module _ (s : State) (p : ℕ) (long : IsLong s.records p) where
   first_block_breaks : LinkBreaks s (key_in format.properties_file p) format.strings_file (first_block s.records p)
   first_block_breaks le some =
       RecordRange format.properties_file p refl property_low
-      (λ fits. none_past (high s.records format.strings_file) (first_block s.records p) le some (first_low (high s.records) (rec_at s.records format.properties_file p) (used_kind s.records format.properties_file p in_use) fits
+      (λ fits. none_past (high s.records format.strings_file) (first_block s.records p) le some (first_low (high s.records)
+      (rec_at s.records format.properties_file p) (used_kind s.records format.properties_file p in_use) fits
       (sym (kind_low (high s.records format.properties_file) (rec_at s.records format.properties_file p) p property_low) ∙ long)))
 
   text_breaks : ((members : List ℕ) → IsBlockList s.records p members → ⊥) → Breaks s.records s.shape (damage format.properties_file p 5)
@@ -369,7 +387,12 @@ module _ (s : State) (p : ℕ) (long : IsLong s.records p) where
       here : (y : ℕ) (ys : List ℕ) → members ≡ bs ++ y ∷ ys → IsWalk (next_block s.records) at (y ∷ ys) → block_size s.records y ≡ min 48 left
           → IsBlockOf s.records at (min 48 left)
       here y ys all walk size = subst (λ z. IsBlockOf s.records z (min 48 left)) (sym walk.0)
-          (record { some = walk.1; used = used_of_live s.records format.strings_file y (list.live y (subst (In y) (sym all) (in_right y bs (y ∷ ys) (inl refl)))); size_is = size })
+          (record {
+            some = walk.1;
+            used = used_of_live s.records format.strings_file y
+                (list.live y (subst (In y) (sym all) (in_right y bs (y ∷ ys) (inl refl))));
+            size_is = size;
+          })
 
       by : (rest : List ℕ) → members ≡ bs ++ rest → IsWalk (next_block s.records) at rest → ArePieces (block_size s.records) left rest
           → IsBlockOf s.records at (min 48 left)
@@ -395,7 +418,8 @@ module _ (s : State) (p : ℕ) (long : IsLong s.records p) where
   text_damage d (NoBlock bs at left _ passed more (blocks.Unknown unknown)) =
       let there : kind_at s.records format.strings_file at ≢ format.free_kind = λ e. unknown (inl e) in
       RecordRange format.strings_file at refl (kind_below (high s.records format.strings_file) (rec_at s.records format.strings_file at) at there)
-      (λ fits. unknown (inr (kind_low (high s.records format.strings_file) (rec_at s.records format.strings_file at) at (kind_below (high s.records format.strings_file) (rec_at s.records format.strings_file at) at there)
+      (λ fits. unknown (inr (kind_low (high s.records format.strings_file) (rec_at s.records format.strings_file at) at
+      (kind_below (high s.records format.strings_file) (rec_at s.records format.strings_file at) at there)
       ∙ block_if_fits (high s.records) (rec_at s.records format.strings_file at) (used_kind s.records format.strings_file at there) fits)))
   text_damage d (NoBlock bs at left _ passed more (NotSuch not)) = text_breaks (λ members list. not (such bs at left passed more members list))
   text_damage d (TooMany bs at passed some) = text_breaks (λ members list. some (ended bs at passed members list))
@@ -410,7 +434,8 @@ text_blames s p (Damaged d) why = text_damage s p why.0 d why.1
 module _ (s t : State) (records_stay : t.records ≡ s.records) (shape_stays : t.shape ≡ s.shape) where
   link_same : (from : Key) (file id : ℕ) (d : Damage) → IsLinkDamage t from file id d → IsLinkDamage s from file id d
   link_same from file id d (PastMark le) = PastMark (subst (λ (r : Records). high r file ≤ id) records_stay le)
-  link_same from file id d (HighMark over) = HighMark (subst (λ (r : Records). room_of s.shape file < high r file) records_stay (subst (λ (h : Shape). room_of h file < high t.records file) shape_stays over))
+  link_same from file id d (HighMark over) = HighMark (subst (λ (r : Records). room_of s.shape file < high r file) records_stay
+      (subst (λ (h : Shape). room_of h file < high t.records file) shape_stays over))
 
   row_same : (owner from : Key) (id : ℕ) (d : Damage) → rows.IsRowDamage t owner from id d → rows.IsRowDamage s owner from id d
   row_same owner from id d (rows.BadLink _ link) = rows.BadLink d (link_same from format.properties_file id d link)
@@ -426,7 +451,8 @@ module _ (s t : State) (records_stay : t.records ≡ s.records) (shape_stays : t
 
   block_same : (p : ℕ) (from : Key) (b size : ℕ) (d : Damage) → blocks.IsBlockDamage t p from b size d → blocks.IsBlockDamage s p from b size d
   block_same p from b size d (blocks.BadLink _ some link) = blocks.BadLink d some (link_same from format.strings_file b d link)
-  block_same p from b size d (blocks.Unknown unknown) = blocks.Unknown (subst (λ (r : Records). ¬ blocks.IsBlockKind (kind_at r format.strings_file b)) records_stay unknown)
+  block_same p from b size d (blocks.Unknown unknown) = blocks.Unknown (subst (λ (r : Records). ¬ blocks.IsBlockKind (kind_at r format.strings_file b))
+      records_stay unknown)
   block_same p from b size d (NotSuch not) = NotSuch (subst (λ (r : Records). ¬ IsBlockOf r b size) records_stay not)
 
   -- a block that is no such one is none of the text
@@ -436,7 +462,8 @@ module _ (s t : State) (records_stay : t.records ≡ s.records) (shape_stays : t
   block_fault p from at left piece Disk long r more piece_is why = tt
   block_fault p from at left piece (Damaged d) long r more piece_is why = (
     long,
-    NoBlock r.blocks at left d r.passed more (subst (λ n. blocks.IsBlockDamage s p (holder_of format.strings_file (key_in format.properties_file p) r.blocks) at n d) piece_is
+    NoBlock r.blocks at left d r.passed more (subst (λ n. blocks.IsBlockDamage s p (holder_of format.strings_file (key_in format.properties_file p) r.blocks)
+        at n d) piece_is
         (subst (λ (k : Key). blocks.IsBlockDamage s p k at piece d) r.from_is (block_same p from at piece d why))),
   )
 
@@ -454,7 +481,11 @@ module _ (s t : State) (records_stay : t.records ≡ s.records) (shape_stays : t
 -- there is a block where no byte is left
 pub text_too_long : (s : State) (p : ℕ) (from : Key) (at left : ℕ) → IsLong s.records p → TextReached s.records p from at left → left ≡ 0 → at ≢ format.nil
     → IsTextFault s p (Damaged (damage format.properties_file p 5))
-text_too_long s p from at left long r over some = (long, TooMany r.blocks at (subst (ArePassed s.records (first_block s.records p) (text_size s.records p) r.blocks at) over r.passed) some)
+text_too_long s p from at left long r over some = (
+  long,
+  TooMany r.blocks at (subst (ArePassed s.records (first_block s.records p) (text_size s.records p)
+      r.blocks at) over r.passed) some,
+)
 
 -- a row of a long text is that of its first block and its size
 long_form : (r : Rec) (size first : ℕ) → form_in r ≡ Some (forms.Long size first) → (field 1 r format.kind ≡ format.text_in_blocks)
@@ -465,8 +496,12 @@ long_form r size first is =
     (nat_eq (field 1 r format.kind) format.text_inline && nat_le bytes 40)
     (nat_eq (field 1 r format.kind) format.text_in_blocks && (nat_lt 40 bytes && nat_le bytes 1024)) (cast_signed w64 (field 8 r format.property_number))
     (nat_eq (field 1 r format.property_truth) 1)
-    (text_in r format.property_text bytes) bytes (field 4 r format.property_first_block) (sym (form_in-content r) ∙ is) in
-    (eqb-true (field 1 r format.kind) format.text_in_blocks (and_parts (nat_eq (field 1 r format.kind) format.text_in_blocks) (nat_lt 40 bytes && nat_le bytes 1024) k.0).0, k.1, k.2)
+    (text_in r format.property_text bytes) bytes (field 4 r format.property_first_block) (sym (form_in-content r) ∙ is) in (
+      eqb-true (field 1 r format.kind) format.text_in_blocks (and_parts (nat_eq (field 1 r format.kind) format.text_in_blocks)
+          (nat_lt 40 bytes && nat_le bytes 1024) k.0).0,
+      k.1,
+      k.2,
+    )
   where
     by : (a b c d : Bool) (number : _) (truth : Bool) (text : List ℕ) (bytes block : ℕ)
         → option_map form_of (cond a (Some (Number number)) (cond b (Some (Truth truth)) (cond c (Some (Inline text)) (cond d (Some (Long bytes block)) None))))

@@ -34,7 +34,11 @@ blocks_small string_file text (b ∷ bs) are x (inr i) = blocks_small string_fil
 -- blocks in use that have a text were given out
 pub blocks_given_out : (s : Records) (shape : Shape) (text blocks : List ℕ) → ChangesFile s s shape format.strings_file blocks blocks
     → AreBlocks (rec_at s format.strings_file) text blocks → AreGivenOut s format.strings_file blocks
-blocks_given_out s shape text blocks h are x i = record { low = live_low s format.strings_file x (h.live x i); small = blocks_small (rec_at s format.strings_file) text blocks are x i }
+blocks_given_out s shape text blocks h are x i = record {
+  low = live_low s format.strings_file x (h.live x i);
+  small = blocks_small
+      (rec_at s format.strings_file) text blocks are x i;
+}
 
 -- A record given back leaves the others.
 pub given_beside : (s t : Records) (file id : ℕ) (free : List ℕ) → HasGiven s t file id free → IsSameBeside file s t
@@ -54,7 +58,8 @@ record_given b t shape id now none given =
 -- Its blocks are given back.
 pub blocks_released : (s a b : State) (held ids blocks : List ℕ) → SameButReads s a → ids ≡ blocks → AreOnce blocks
     → ChangesFile s.records s.records s.shape format.properties_file held held → ChangesFile s.records s.records s.shape format.strings_file blocks blocks
-    → (AreOnce ids → ChangesFile a.records a.records a.shape format.strings_file ids ids → ChangesFile a.records b.records a.shape format.strings_file ids [] × HasFewer a b format.strings_file (length ids))
+    → (AreOnce ids → ChangesFile a.records a.records a.shape format.strings_file ids ids → ChangesFile a.records b.records a.shape format.strings_file ids []
+    × HasFewer a b format.strings_file (length ids))
     → IsSameBeside format.strings_file a.records b.records → ChangesRecords s.records b.records s.shape held held blocks []
 blocks_released s a b held ids blocks same ids_are once properties strings released beside =
     let now : IsSameBeside format.strings_file s.records b.records = subst (λ (z : State). IsSameBeside format.strings_file z.records b.records) same beside in
@@ -62,29 +67,36 @@ blocks_released s a b held ids blocks same ids_are once properties strings relea
     strings_moved s.records b.records s.shape held blocks [] properties now less
   where
     by : SameButReads s a → ids ≡ blocks → ChangesFile s.records b.records s.shape format.strings_file blocks []
-    by same ids_are = (subst (λ (z : State). AreOnce blocks → ChangesFile z.records z.records z.shape format.strings_file blocks blocks → ChangesFile z.records b.records z.shape format.strings_file blocks []) same
-        (subst (λ (bs : List ℕ). AreOnce bs → ChangesFile a.records a.records a.shape format.strings_file bs bs → ChangesFile a.records b.records a.shape format.strings_file bs []) ids_are (λ o h. (released o h).0))) once strings
+    by same ids_are = (subst (λ (z : State). AreOnce blocks → ChangesFile z.records z.records z.shape format.strings_file blocks blocks → ChangesFile z.records
+        b.records z.shape format.strings_file blocks []) same
+        (subst (λ (bs : List ℕ). AreOnce bs → ChangesFile a.records a.records a.shape format.strings_file bs bs → ChangesFile a.records b.records a.shape
+        format.strings_file bs []) ids_are (λ o h. (released o h).0))) once strings
 
 -- Its blocks are given back, and then its record.
 pub property_dropped : (s a b t : State) (row : PropertyRow) (e : Property) (ids : List ℕ) → IsHeld s row e → SameButReads s a → ids ≡ e.blocks
-    → (AreOnce ids → ChangesFile a.records a.records a.shape format.strings_file ids ids → ChangesFile a.records b.records a.shape format.strings_file ids [] × HasFewer a b format.strings_file (length ids))
+    → (AreOnce ids → ChangesFile a.records a.records a.shape format.strings_file ids ids → ChangesFile a.records b.records a.shape format.strings_file ids []
+    × HasFewer a b format.strings_file (length ids))
     → IsSameBeside format.strings_file a.records b.records
     → ((free : List ℕ) → CanGive b format.properties_file row.id free → HasGiven b.records t.records format.properties_file row.id free)
     → ChangesRecords s.records t.records s.shape (e.id ∷ []) [] e.blocks []
 property_dropped s a b t row e ids held same ids_are released beside given =
     let first = blocks_released s a b (e.id ∷ []) ids e.blocks same ids_are held.once held.properties held.strings released beside in
-    let second = record_given b t s.shape e.id (file_now s.records b.records s.shape format.properties_file (e.id ∷ []) (e.id ∷ []) first.properties (e.id ∷ []) first.properties.live)
+    let second = record_given b t s.shape e.id (file_now s.records b.records s.shape format.properties_file (e.id ∷ []) (e.id ∷ []) first.properties (e.id ∷ [])
+    first.properties.live)
     (keeps_file s.records b.records s.shape format.strings_file e.blocks [] first.strings)
-    (subst (λ (id : ℕ). (free : List ℕ) → CanGive b format.properties_file id free → HasGiven b.records t.records format.properties_file id free) held.id_is given) in
+    (subst (λ (id : ℕ). (free : List ℕ) → CanGive b format.properties_file id free → HasGiven b.records t.records format.properties_file id free)
+    held.id_is given) in
     records_then s.records b.records t.records s.shape (e.id ∷ []) (e.id ∷ []) [] e.blocks [] [] (e.id ∷ []) [] [] []
     (middle [] (e.id ∷ []) [] [] ((λ i. i), tt)) (middle [] [] [] [] tt) first second
 
 -- What an element's properties have was found, and it was given back: all blocks, and then all properties.
 pub all_dropped : (s a b t : State) (es : List Property) (first : ℕ) (ids blocks : List ℕ) → AreHeld s first es → SameButReads s a → ids ≡ ids_of es
     → blocks ≡ blocks_of es → b.shape ≡ s.shape
-    → (AreOnce blocks → ChangesFile a.records a.records a.shape format.strings_file blocks blocks → ChangesFile a.records b.records a.shape format.strings_file blocks [] × HasFewer a b format.strings_file (length blocks))
+    → (AreOnce blocks → ChangesFile a.records a.records a.shape format.strings_file blocks blocks → ChangesFile a.records b.records a.shape format.strings_file
+    blocks [] × HasFewer a b format.strings_file (length blocks))
     → IsSameBeside format.strings_file a.records b.records
-    → (AreOnce ids → ChangesFile b.records b.records b.shape format.properties_file ids ids → ChangesFile b.records t.records b.shape format.properties_file ids [])
+    → (AreOnce ids → ChangesFile b.records b.records b.shape format.properties_file ids ids → ChangesFile b.records t.records b.shape format.properties_file ids
+    [])
     → IsSameBeside format.properties_file b.records t.records
     → ChangesRecords s.records t.records s.shape (ids_of es) [] (blocks_of es) []
 all_dropped s a b t es first ids blocks held same ids_are blocks_are shape released beside returned aside =
@@ -94,8 +106,10 @@ all_dropped s a b t es first ids blocks held same ids_are blocks_are shape relea
     let gone : ChangesFile b.records t.records s.shape format.properties_file all []
     = subst (λ (z : Shape). ChangesFile b.records b.records z format.properties_file all all → ChangesFile b.records t.records z format.properties_file all [])
     shape
-    (subst (λ (xs : List ℕ). AreOnce xs → ChangesFile b.records b.records b.shape format.properties_file xs xs → ChangesFile b.records t.records b.shape format.properties_file xs []) ids_are returned held.are.ids_once) now in
-    let last = properties_moved b.records t.records s.shape all [] [] (keeps_file s.records b.records s.shape format.strings_file (blocks_of es) [] freed.strings) aside gone in
+    (subst (λ (xs : List ℕ). AreOnce xs → ChangesFile b.records b.records b.shape format.properties_file xs xs → ChangesFile b.records t.records b.shape
+    format.properties_file xs []) ids_are returned held.are.ids_once) now in
+    let last = properties_moved b.records t.records s.shape all [] [] (keeps_file s.records b.records s.shape format.strings_file (blocks_of es)
+    [] freed.strings) aside gone in
     records_then s.records b.records t.records s.shape all all [] (blocks_of es) [] [] all [] [] []
     (subst (λ xs. Replaces xs all [] []) (append-nil all) (middle [] all [] [] (subst AreOnce (sym (append-nil all)) held.are.ids_once)))
     (middle [] [] [] [] tt) freed last

@@ -31,7 +31,12 @@ module _ (s : State) (owner : Owner) (es : List Property) (owns : OwnsProperties
   -- reads leave them so
   pub owns_read : (z : State) → SameButReads s z → OwnsProperties z owner es
   owns_read z same = subst (λ (y : State). OwnsProperties y owner es) (sym same)
-      (record { used = owns.used; fits = owns.fits; held = record { are = owns.held.are; properties = owns.held.properties; strings = owns.held.strings }; known = owns.known })
+      (record {
+        used = owns.used;
+        fits = owns.fits;
+        held = record { are = owns.held.are; properties = owns.held.properties; strings = owns.held.strings };
+        known = owns.known;
+      })
 
   module _ (is : IsOwner owner) where
     abbrev file : ℕ
@@ -56,12 +61,14 @@ module _ (s : State) (owner : Owner) (es : List Property) (owns : OwnsProperties
         first_set t to set small low = writes_first m.records t.records file x to is.file
             (λ e. owns.used (record_kind ∙ ap (λ r. field 1 r format.kind) (sym same_record) ∙ e))
             small low
-            (ap (λ (z : State). z.records owner.key) set ∙ put_same m.records owner.key (with_field 4 (m.records owner.key) owner.field to) ∙ ap (λ at. with_field 4 (m.records owner.key) at to) is.place)
+            (ap (λ (z : State). z.records owner.key) set ∙ put_same m.records owner.key (with_field 4 (m.records owner.key) owner.field to) ∙ ap
+            (λ at. with_field 4 (m.records owner.key) at to) is.place)
             (λ key ne. ap (λ (z : State). z.records key) set ∙ put_other m.records owner.key (with_field 4 (m.records owner.key) owner.field to) key ne)
 
         -- or it is that already
         pub first_kept : first_of s.records owner ≡ first_property new → SetsFirst m.records m.records file x (first_property new)
-        first_kept e = subst (SetsFirst m.records m.records file x) (ap (λ r. field 4 r (property_place file)) same_record ∙ sym (first_of-is s.records owner is) ∙ e) (stays_first m.records file x)
+        first_kept e = subst (SetsFirst m.records m.records file x) (ap (λ r. field 4 r (property_place file)) same_record ∙ sym
+            (first_of-is s.records owner is) ∙ e) (stays_first m.records file x)
 
         pub list_changed : (t : State) → SetsFirst m.records t.records file x (first_property new)
             → AreProperties (property_records m.records) (first_property new) new
@@ -73,7 +80,14 @@ module _ (s : State) (owner : Owner) (es : List Property) (owns : OwnsProperties
     pub all_dropped : (m t : State) (dropped : Dropped) (drops : DropsProperties s m es dropped) → SetsFirst m.records t.records file x format.nil
         → DropsAllAlone s t owner es dropped
     all_dropped m t dropped drops set = record {
-      changes = list_changed m [] drops.changes t set (record { first_is = refl; linked = tt; few = omega arith; ids_once = tt; blocks_once = tt; keys_once = tt }) (λ k i. elim i [ ]);
+      changes = list_changed m [] drops.changes t set (record {
+        first_is = refl;
+        linked = tt;
+        few = omega arith;
+        ids_once = tt;
+        blocks_once = tt;
+        keys_once = tt;
+      }) (λ k i. elim i [ ]);
       properties = drops.properties;
       blocks = drops.blocks;
     }

@@ -63,7 +63,8 @@ module _ {E : Type 0} (of : E → ℕ) (id : ℕ) where
   sum_changed measure change [] e once is = absurd cc
   sum_changed measure change (d ∷ rows) e once is = by (test d) (λ h. eqb-true (of d) id h) (sum_changed measure change rows e once.1) is
     where
-      by : (b : Bool) → (b ≡ true → of d ≡ id) → (find test rows ≡ Some e → sum_by measure (with_change of id change rows) + measure e ≡ sum_by measure rows + measure (change e)) → cond b (Some d) (find test rows) ≡ Some e
+      by : (b : Bool) → (b ≡ true → of d ≡ id) → (find test rows ≡ Some e → sum_by measure (with_change of id change rows) + measure e ≡ sum_by measure rows +
+          measure (change e)) → cond b (Some d) (find test rows) ≡ Some e
           → sum_by measure (cond b (change d) d ∷ with_change of id change rows) + measure e ≡ sum_by measure (d ∷ rows) + measure (change e)
       by true f rest k =
           let same : d ≡ e = cc in
@@ -137,7 +138,8 @@ module _ {E : Type 0} (of : E → ℕ) where
   once_collect : (row : ℕ → Option E) (n : ℕ) → AreNumbered of row → AreOnce (map of (collect row n))
   once_collect row zero num = tt
   once_collect row (suc n) num = subst AreOnce (sym (map-append of (collect row n) (option_list (row n))))
-      (once_both (map of (collect row n)) (map of (option_list (row n))) (once_collect row n num) (option_once (row n)) (λ x i j. let l = collect_low row n x num i in let e = option_in n x (row n) (num n) j in omega arith))
+      (once_both (map of (collect row n)) (map of (option_list (row n))) (once_collect row n num) (option_once (row n)) (λ x i j. let l = collect_low row n x
+      num i in let e = option_in n x (row n) (num n) j in omega arith))
 
 -- the identifiers of a store's elements
 pub distinct_in_store : (s : Records) → AreDistinct (graph_of s)

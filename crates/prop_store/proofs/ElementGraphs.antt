@@ -125,7 +125,8 @@ module _ (s : State) (owner : Owner) (is : IsOwner owner) (has : HasElement s ow
 
     found_blocks : length e.blocks ≡ plain.blocks_at (properties_of s owner) (text_at s key)
     found_blocks = sym (ap plain.blocks_if found_value
-        ∙ sym (length-property_blocks names mark has.store.names (property_records s.records) e (first_property back) (linked_after (property_records s.records) front (e ∷ back) parts.linked).0))
+        ∙ sym (length-property_blocks names mark has.store.names (property_records s.records) e (first_property back) (linked_after (property_records s.records)
+        front (e ∷ back) parts.linked).0))
 
     as_many : (value : Value) → maps.len (set_properties s owner key value) ≤ 32
     as_many value = let same = len_with key value (Some e.value) found_value in let n = count_is in let few = are_listed.few in omega arith
@@ -145,7 +146,13 @@ module _ (s : State) (owner : Owner) (is : IsOwner owner) (has : HasElement s ow
 
   changed : (t : State) (after : List Property) → ChangesProperties s.records t.records s.shape file x listed_at after → t.shape ≡ s.shape
       → IsWellFormed t.records s.shape → ChangesElement s t owner
-  changed t after changes shape store = record { before = listed_at; after = after; changes = changes; store = subst (IsWellFormed t.records) (sym shape) store }
+  changed t after changes shape store = record {
+    before = listed_at;
+    after = after;
+    changes = changes;
+    store = subst (IsWellFormed t.records) (sym shape)
+        store;
+  }
 
   pub drops_graph : (t : State) (dropped : Dropped) → DropsAllAlone s t owner listed_at dropped → t.shape ≡ s.shape → DropsAll s t owner dropped
   drops_graph t dropped drops shape =

@@ -72,21 +72,27 @@ module _ (s : State) (owner : Owner) (es : List Property) (owns : OwnsProperties
         (record { properties = owns.held.properties; strings = owns.held.strings; others = λ key a b c d. refl }) in
         records_like s.records m s.shape ids (ids_of es) (ids_of front ++ (ids_of now ++ ids_of back)) (ids_of (front ++ (now ++ back))) blocks (blocks_of es)
         (blocks_of front ++ (blocks_of now ++ blocks_of back)) (blocks_of (front ++ (now ++ back)))
-        (sym ids_are) (sym (map-append (λ (z : Property). z.id) front (now ++ back) ∙ ap (λ l. ids_of front ++ l) (map-append (λ (z : Property). z.id) now back))) (sym blocks_are)
+        (sym ids_are) (sym (map-append (λ (z : Property). z.id) front (now ++ back) ∙ ap (λ l. ids_of front ++ l) (map-append (λ (z : Property). z.id)
+        now back))) (sym blocks_are)
         (sym (blocks_both front (now ++ back) ∙ ap (λ l. blocks_of front ++ l) (blocks_both now back)))
-        (records_then s.records s.records m s.shape ids ids (ids_of front ++ (ids_of now ++ ids_of back)) blocks blocks (blocks_of front ++ (blocks_of now ++ blocks_of back)) (e.id ∷ []) (ids_of now) e.blocks (blocks_of now)
-        (middle (ids_of front) (e.id ∷ []) (ids_of now) (ids_of back) (ids_apart (property_records s.records) (property_records s.records) first front e back are_parts))
-        (middle (blocks_of front) e.blocks (blocks_of now) (blocks_of back) (blocks_apart (property_records s.records) (property_records s.records) first front e back are_parts)) still changes)
+        (records_then s.records s.records m s.shape ids ids (ids_of front ++ (ids_of now ++ ids_of back)) blocks blocks
+        (blocks_of front ++ (blocks_of now ++ blocks_of back)) (e.id ∷ []) (ids_of now) e.blocks (blocks_of now)
+        (middle (ids_of front) (e.id ∷ []) (ids_of now) (ids_of back) (ids_apart (property_records s.records) (property_records s.records) first front e back
+        are_parts))
+        (middle (blocks_of front) e.blocks (blocks_of now) (blocks_of back) (blocks_apart (property_records s.records) (property_records s.records)
+        first front e back are_parts)) still changes)
 
     -- the other properties and their blocks stay
     pub other_kept : (m : Records) (new : List ℕ) → ChangesFile s.records m s.shape format.properties_file (e.id ∷ []) new → (x : ℕ) → In x (ids_of front)
         ⊎ In x (ids_of back)
         → (is_live m format.properties_file x ≡ true) × (rec_at m format.properties_file x ≡ rec_at s.records format.properties_file x)
-    other_kept m new h x i = h.kept x (id_live x (⊎_elim (λ f. in_left x (ids_of front) ((e.id ∷ []) ++ ids_of back) f) (λ b. in_right x (ids_of front) ((e.id ∷ []) ++ ids_of back) (in_right x (e.id ∷ []) (ids_of back) b)) i))
+    other_kept m new h x i = h.kept x (id_live x (⊎_elim (λ f. in_left x (ids_of front) ((e.id ∷ []) ++ ids_of back) f) (λ b. in_right x (ids_of front)
+        ((e.id ∷ []) ++ ids_of back) (in_right x (e.id ∷ []) (ids_of back) b)) i))
         (not_its_id (property_records s.records) (property_records s.records) first front e back are_parts x i)
 
     pub other_blocks_kept : (m : Records) (new : List ℕ) → ChangesFile s.records m s.shape format.strings_file e.blocks new → (x : ℕ) → In x (blocks_of front)
         ⊎ In x (blocks_of back)
         → (is_live m format.strings_file x ≡ true) × (rec_at m format.strings_file x ≡ rec_at s.records format.strings_file x)
-    other_blocks_kept m new h x i = h.kept x (block_in_use x (⊎_elim (λ f. in_left x (blocks_of front) (e.blocks ++ blocks_of back) f) (λ b. in_right x (blocks_of front) (e.blocks ++ blocks_of back) (in_right x e.blocks (blocks_of back) b)) i))
+    other_blocks_kept m new h x i = h.kept x (block_in_use x (⊎_elim (λ f. in_left x (blocks_of front) (e.blocks ++ blocks_of back) f)
+        (λ b. in_right x (blocks_of front) (e.blocks ++ blocks_of back) (in_right x e.blocks (blocks_of back) b)) i))
         (not_its_block (property_records s.records) (property_records s.records) first front e back are_parts x i)

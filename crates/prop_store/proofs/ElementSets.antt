@@ -41,7 +41,8 @@ use Rattle.prop_store.proofs.RecordMoves.{records_then}
 leads_to : (s : State) (fs : List Property) (first : ℕ) → first ≡ first_property fs
     → ((x : ℕ) → In x (ids_of fs) → is_live s.records format.properties_file x ≡ true) → MayLead s first
 leads_to s [] first e live = inl e
-leads_to s (f ∷ fs) first e live = inr (subst (λ z. z < high s.records format.properties_file) (sym e) (live_low s.records format.properties_file f.id (live f.id (inl refl))))
+leads_to s (f ∷ fs) first e live = inr (subst (λ z. z < high s.records format.properties_file) (sym e) (live_low s.records format.properties_file f.id
+    (live f.id (inl refl))))
 
 module _ (s : State) (owner : Owner) (es : List Property) (owns : OwnsProperties s owner es) where
   -- the files keep their rules, and the first property may follow
@@ -58,7 +59,8 @@ module _ (s : State) (owner : Owner) (es : List Property) (owns : OwnsProperties
   pub next_leads : (z : State) → SameButReads s z → (front : List Property) (e : Property) (back : List Property) → es ≡ front ++ e ∷ back → (next : ℕ)
       → next ≡ first_property back → MayLead z next
   next_leads z same front e back all next next_is = subst (λ (y : State). MayLead y next) (sym same)
-      (leads_to s back next next_is (λ x i. id_live s owner es owns front e back all x (in_right x (ids_of front) ((e.id ∷ []) ++ ids_of back) (in_right x (e.id ∷ []) (ids_of back) i))))
+      (leads_to s back next next_is (λ x i. id_live s owner es owns front e back all x (in_right x (ids_of front) ((e.id ∷ []) ++ ids_of back)
+      (in_right x (e.id ∷ []) (ids_of back) i))))
 
   -- ---- why a value is not set
 
@@ -115,10 +117,15 @@ module _ (s : State) (owner : Owner) (es : List Property) (owns : OwnsProperties
       first_is = refl;
       linked = (
         subst (IsProperty (property_records m.records) added) (next_is ∙ owns.held.are.first_is) puts.is,
-        (properties_stay (property_records s.records) (property_records m.records) (first_of s.records owner) es (λ p i. (puts.changes.properties.kept p (owns.held.properties.live p i) (λ j. j)).1) (λ b i. (puts.changes.strings.kept b (owns.held.strings.live b i) (λ j. j)).1) owns.held.are).linked,
+        (properties_stay (property_records s.records) (property_records m.records) (first_of s.records owner) es
+            (λ p i. (puts.changes.properties.kept p (owns.held.properties.live p i) (λ j. j)).1)
+            (λ b i. (puts.changes.strings.kept b (owns.held.strings.live b i) (λ j. j)).1) owns.held.are).linked,
       );
       few = omega arith;
-      ids_once = ((λ i. ⊎_elim (λ (j : ⊥). j) (λ dead. true≢false (sym (owns.held.properties.live id i) ∙ dead)) (puts.changes.properties.from id (inl refl))), owns.held.are.ids_once);
+      ids_once = (
+        (λ i. ⊎_elim (λ (j : ⊥). j) (λ dead. true≢false (sym (owns.held.properties.live id i) ∙ dead)) (puts.changes.properties.from id (inl refl))),
+        owns.held.are.ids_once,
+      );
       blocks_once = once_join puts.blocks (blocks_of es) puts.once owns.held.are.blocks_once
           (λ x i j. ⊎_elim (λ (k : ⊥). k) (λ dead. true≢false (sym (owns.held.strings.live x j) ∙ dead)) (puts.changes.strings.from x i));
       keys_once = (no_key es key absent, owns.held.are.keys_once);
@@ -175,7 +182,8 @@ module _ (s : State) (owner : Owner) (es : List Property) (owns : OwnsProperties
       -- the new blocks are none of the others'
       fresh_block : (x : ℕ) → In x puts.blocks → In x (blocks_of front) ⊎ In x (blocks_of back) → ⊥
       fresh_block x j i = ⊎_elim (λ old. not_its_block was_records was_records first front e back parts x i old)
-          (λ dead. true≢false (sym (block_in_use s owner es owns front e back all x (⊎_elim (λ f. in_left x (blocks_of front) (e.blocks ++ blocks_of back) f) (λ b. in_right x (blocks_of front) (e.blocks ++ blocks_of back) (in_right x e.blocks (blocks_of back) b)) i)) ∙ dead))
+          (λ dead. true≢false (sym (block_in_use s owner es owns front e back all x (⊎_elim (λ f. in_left x (blocks_of front) (e.blocks ++ blocks_of back) f)
+          (λ b. in_right x (blocks_of front) (e.blocks ++ blocks_of back) (in_right x e.blocks (blocks_of back) b)) i)) ∙ dead))
           (puts.changes.strings.from x j)
 
       keys_same : keys_of (front ++ e ∷ back) ≡ keys_of new
@@ -188,19 +196,24 @@ module _ (s : State) (owner : Owner) (es : List Property) (owns : OwnsProperties
           record {
             first_is = refl;
             linked = linked_before was_records now_records front (e ∷ back) (now ∷ back) refl (λ p i. same_record p (inl i)) (λ b i. same_block b (inl i))
-                parts.linked
-                (subst (IsProperty now_records now) next_is puts.is, linked_stay was_records now_records back (λ p i. same_record p (inr i)) (λ b i. same_block b (inr i)) (linked_after was_records front (e ∷ back) parts.linked).1);
+                parts.linked (
+                  subst (IsProperty now_records now) next_is puts.is,
+                  linked_stay was_records now_records back (λ p i. same_record p (inr i))
+                      (λ b i. same_block b (inr i)) (linked_after was_records front (e ∷ back) parts.linked).1,
+                );
             few = let a = length-append front (now ∷ back) in let b = length-append front (e ∷ back) in let c = parts.few in omega arith;
             ids_once = subst AreOnce (ids_parts front e back ∙ sym (ids_parts front now back)) parts.ids_once;
             blocks_once = subst AreOnce (sym (blocks_parts front now back)) (once_join (blocks_of front) (puts.blocks ++ blocks_of back) outer.left
                 (once_join puts.blocks (blocks_of back) puts.once inner.right (λ x i j. fresh_block x i (inr j)))
-                (λ x i j. ⊎_elim (λ k. fresh_block x k (inl i)) (λ k. outer.apart x i (in_right x e.blocks (blocks_of back) k)) (in_either x puts.blocks (blocks_of back) j)));
+                (λ x i j. ⊎_elim (λ k. fresh_block x k (inl i)) (λ k. outer.apart x i (in_right x e.blocks (blocks_of back) k)) (in_either x puts.blocks
+                (blocks_of back) j)));
             keys_once = subst AreOnce keys_same parts.keys_once;
           }
 
       pub value_replaced : SetsAlone s m owner es key value (length e.blocks)
       value_replaced =
-          let kept = first_kept s owner es owns is m new now_changes (owns.held.are.first_is ∙ ap first_property all ∙ first_same front (e ∷ back) (now ∷ back) refl) in
+          let kept = first_kept s owner es owns is m new now_changes (owns.held.are.first_is ∙ ap first_property all ∙ first_same front (e ∷ back) (now ∷ back)
+          refl) in
           record {
             after = new;
             changes = list_changed s owner es owns is m new now_changes m kept now_are
@@ -208,7 +221,16 @@ module _ (s : State) (owner : Owner) (es : List Property) (owns : OwnsProperties
             property = now;
             key_is = refl;
             value_is = refl;
-            place = inr (record { before = front; was = e; rest = back; found = record { all = all; key_is = key_is }; all = refl; id_is = refl; released_is = refl });
+            place = inr (record {
+              before = front;
+              was = e;
+              rest = back;
+              found = record { all = all; key_is = key_is };
+              all = refl;
+              id_is = refl;
+              released_is =
+                  refl;
+            });
           }
 
 -- a read before leaves it so

@@ -50,7 +50,8 @@ module _ (s t : Records) (file x to : ℕ) (is : IsElementFile file) (used : fie
   node_kind : Fits (high s) format.nodes_file r → (field 1 r format.kind ≡ format.sparse) ⊎ (field 1 r format.kind ≡ format.dense)
   node_kind h = ⊎_elim (λ (e : field 1 r format.kind ≡ format.sparse). inl e)
       (λ (ne : field 1 r format.kind ≢ format.sparse). ⊎_elim (λ (e : field 1 r format.kind ≡ format.dense). inr e)
-      (λ (thin : field 1 r format.kind ≢ format.dense). absurd (by (nat_eq (field 1 r format.kind) 0) (nat_eq (field 1 r format.kind) 1) (nat_eq (field 1 r format.kind) 2) h.layout
+      (λ (thin : field 1 r format.kind ≢ format.dense). absurd (by (nat_eq (field 1 r format.kind) 0) (nat_eq (field 1 r format.kind) 1)
+      (nat_eq (field 1 r format.kind) 2) h.layout
       (eq_false (field 1 r format.kind) 0 used) (eq_false (field 1 r format.kind) 1 ne) (eq_false (field 1 r format.kind) 2 thin) h.is)) (nat_cases (field 1 r
       format.kind) format.dense)) (nat_cases (field 1 r format.kind) format.sparse)
     where
@@ -64,7 +65,8 @@ module _ (s t : Records) (file x to : ℕ) (is : IsElementFile file) (used : fie
 
   rel_kind : Fits (high s) format.relationships_file r → field 1 r format.kind ≡ format.related
   rel_kind h = ⊎_elim (λ (e : field 1 r format.kind ≡ format.related). e)
-      (λ (ne : field 1 r format.kind ≢ format.related). absurd (by (nat_eq (field 1 r format.kind) 0) (nat_eq (field 1 r format.kind) 1) h.layout (eq_false (field 1 r format.kind) 0 used) (eq_false (field 1 r format.kind) 1 ne) h.is)) (nat_cases (field 1 r format.kind) format.related)
+      (λ (ne : field 1 r format.kind ≢ format.related). absurd (by (nat_eq (field 1 r format.kind) 0) (nat_eq (field 1 r format.kind) 1) h.layout
+      (eq_false (field 1 r format.kind) 0 used) (eq_false (field 1 r format.kind) 1 ne) h.is)) (nat_cases (field 1 r format.kind) format.related)
     where
       by : (free related : Bool) (layout : Layout) → free ≡ false → related ≡ false
           → cond free (free_layout format.relationships_file) (cond related relationship_layout None) ≡ Some layout → ⊥
@@ -83,7 +85,8 @@ module _ (s t : Records) (file x to : ℕ) (is : IsElementFile file) (used : fie
     fits = λ h. subst (Fits (high s) file) (sym here) (⊎_elim
         (λ (e : file ≡ format.nodes_file). (subst (λ f. Fits (high s) f r → Fits (high s) f (with_field 4 r (property_place f) to)) (sym e)
         (λ k. fits_node_property (high s) r to small low (node_kind k) k)) h)
-        (λ (e : file ≡ format.relationships_file). (subst (λ f. Fits (high s) f r → Fits (high s) f (with_field 4 r (property_place f) to)) (sym e) (λ k. fits_rel_property (high s) r to small low (rel_kind k) k)) h) is);
+        (λ (e : file ≡ format.relationships_file). (subst (λ f. Fits (high s) f r → Fits (high s) f (with_field 4 r (property_place f) to)) (sym e)
+        (λ k. fits_rel_property (high s) r to small low (rel_kind k) k)) h) is);
     others = others;
   }
 
@@ -95,7 +98,8 @@ marks_records s t shape ids new_ids blocks new_blocks h f = ⊎_elim
     (λ (a : f ≢ format.properties_file). ⊎_elim
     (λ (e : f ≡ format.strings_file). subst (λ g. high s g ≤ high t g) (sym e) h.strings.grows)
     (λ (b : f ≢ format.strings_file).
-    let same : high t f ≡ high s f = ap (λ r. (metas.meta_of r).high) (h.others (meta_key_of f) (λ e. absurd (omega arith)) (λ e. absurd (omega arith)) (λ e. a (ap (λ (k : Key). k.id) e)) (λ e. b (ap (λ (k : Key). k.id) e))) in
+    let same : high t f ≡ high s f = ap (λ r. (metas.meta_of r).high) (h.others (meta_key_of f) (λ e. absurd (omega arith)) (λ e. absurd (omega arith))
+    (λ e. a (ap (λ (k : Key). k.id) e)) (λ e. b (ap (λ (k : Key). k.id) e))) in
     omega arith) (nat_cases f format.strings_file)) (nat_cases f format.properties_file)
 
 -- A change of an element's properties: their records and blocks changed, and then the place of the first one.
@@ -138,12 +142,20 @@ module _ (s m t : Records) (shape : Shape) (file x : ℕ) (old new : List Proper
       was = was;
       now =
           let right : AreProperties (property_records m) (property_from t file x) new =
-          record { first_is = set.first; linked = now.linked; few = now.few; ids_once = now.ids_once; blocks_once = now.blocks_once; keys_once = now.keys_once } in
+          record {
+            first_is = set.first;
+            linked = now.linked;
+            few = now.few;
+            ids_once = now.ids_once;
+            blocks_once = now.blocks_once;
+            keys_once = now.keys_once;
+          } in
           properties_stay (property_records m) (property_records t) (property_from t file x) new (λ p i. property_stays p) (λ b i. string_stays b) right;
       known = known;
       own = λ n at inside apart. set.own n at inside apart ∙ ap (λ r. field n r at) element_stays;
       fits = fits_more (high m) (high t) file (rec_at t file x) no_fall
-          (set.fits (subst (Fits (high m) file) (sym element_stays) (fits_more (high s) (high m) file (rec_at s file x) (marks_records s m shape (ids_of old) (ids_of new) (blocks_of old) (blocks_of new) changes) fits)));
+          (set.fits (subst (Fits (high m) file) (sym element_stays) (fits_more (high s) (high m) file (rec_at s file x) (marks_records s m shape (ids_of old)
+          (ids_of new) (blocks_of old) (blocks_of new) changes) fits)));
       properties = framed shape format.properties_file s m t (ids_of old) (ids_of new) changes.properties (meta_stays format.properties_file) property_stays
           no_fall;
       strings = framed shape format.strings_file s m t (blocks_of old) (blocks_of new) changes.strings (meta_stays format.strings_file) string_stays no_fall;

@@ -39,7 +39,8 @@ middle front a b back once =
       there = λ x i. in_right x front (a ++ back) (in_left x a back i);
       from = λ x i. ⊎_elim
           (λ (f : In x front). inr (in_left x front (a ++ back) f, (λ (j : In x a). outer.apart x f (in_left x a back j))))
-          (λ r. ⊎_elim (λ (j : In x b). inl j) (λ (k : In x back). inr (in_right x front (a ++ back) (in_right x a back k), (λ (j : In x a). rest.apart x j k))) (in_either x b back r))
+          (λ r. ⊎_elim (λ (j : In x b). inl j) (λ (k : In x back). inr (in_right x front (a ++ back) (in_right x a back k), (λ (j : In x a). rest.apart x j k)))
+          (in_either x b back r))
           (in_either x front (b ++ back) i);
       placed = λ x i. in_right x front (b ++ back) (in_left x b back i);
       kept = λ x i out. ⊎_elim (λ (f : In x front). in_left x front (b ++ back) f)

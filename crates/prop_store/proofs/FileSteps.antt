@@ -146,7 +146,8 @@ beside_then file s t u h g key out other = g key out other ∙ h key out other
 -- No mark falls where one file grows, and the others are the same.
 pub marks_beside : (file : ℕ) (s t : Records) → is_meta_file file ≡ true → IsSameBeside file s t → high s file ≤ high t file → (f : ℕ) → high s f ≤ high t f
 marks_beside file s t is beside grows f = ⊎_elim (λ (e : f ≡ file). subst (λ g. high s g ≤ high t g) (sym e) grows)
-    (λ (ne : f ≢ file). let e : high t f ≡ high s f = ap (λ r. (metas.meta_of r).high) (beside (meta_key_of f) (λ (q : format.meta_file ≡ file). is_meta_file-not_meta file is (sym q)) (λ q. ne (ap (λ (k : Key). k.id) q))) in omega arith) (nat_cases f file)
+    (λ (ne : f ≢ file). let e : high t f ≡ high s f = ap (λ r. (metas.meta_of r).high) (beside (meta_key_of f) (λ (q : format.meta_file ≡ file).
+    is_meta_file-not_meta file is (sym q)) (λ q. ne (ap (λ (k : Key). k.id) q))) in omega arith) (nat_cases f file)
 
 -- A file whose records are the same keeps its rules where no mark of another falls.
 pub file_same : (s t : Records) (shape : Shape) (file : ℕ) (old new : List ℕ) → ChangesFile s s shape file old new → t (meta_key_of file) ≡ s (meta_key_of file)
@@ -158,7 +159,8 @@ file_same s t shape file old new h meta each marks xs live =
     record {
       grows = marks file;
       meta = subst (IsMetaInRange shape file) (sym meta) h.meta;
-      fits = λ x lt. subst (Fits (high t) file) (sym (each x)) (fits_more (high s) (high t) file (rec_at s file x) marks (h.fits x (subst (λ (m : Meta). x < m.high) same_meta lt)));
+      fits = λ x lt. subst (Fits (high t) file) (sym (each x)) (fits_more (high s) (high t) file (rec_at s file x) marks
+          (h.fits x (subst (λ (m : Meta). x < m.high) same_meta lt)));
       free = h.free;
       split = split_same s t file h.free (record { meta = same_meta; each = each }) h.split;
       live = λ x i. ap (λ l. l x) lives ∙ live x i;
@@ -229,7 +231,8 @@ module _ (s t : Records) (shape : Shape) (file id : ℕ) (old new : List ℕ) (i
     meta = let room = gone.meta.high in let m = gone.mark in let b = h.meta.high in
         within_room narrow shape file (t (meta_key_of file)) gone.meta (omega arith);
     fits = λ x lt. ⊎_elim (λ (e : x ≡ id). subst (λ z. Fits (high t) file (rec_at t file z)) (sym e) gone.fits)
-        (λ (ne : x ≢ id). subst (Fits (high t) file) (sym (same x ne)) (fits_more (high s) (high t) file (rec_at s file x) (marks_le s t file id gone.change) (h.fits x (let m = gone.mark in omega arith)))) (nat_cases x id);
+        (λ (ne : x ≢ id). subst (Fits (high t) file) (sym (same x ne)) (fits_more (high s) (high t) file (rec_at s file x) (marks_le s t file id gone.change)
+        (h.fits x (let m = gone.mark in omega arith)))) (nat_cases x id);
     free = gone.free;
     split = gone.split;
     live = λ x i. elim i [ ];
@@ -288,16 +291,20 @@ module _ (s m t : Records) (shape : Shape) (file id : ℕ) (rec : Rec) (old new 
       (within_room shape roomy file (s (meta_key_of file)) h.meta within)
 
   live_now : is_live t file id ≡ true
-  live_now = live_true (kind_at t file id) (λ e. used (ap (λ r. field 1 r format.kind) (sym here) ∙ sym (kind_low (high t file) (rec_at t file id) id made.below) ∙ e))
+  live_now = live_true (kind_at t file id) (λ e. used (ap (λ r. field 1 r format.kind) (sym here) ∙ sym (kind_low (high t file) (rec_at t file id)
+      id made.below) ∙ e))
 
   -- A record taken and written.
   pub file_taken : ChangesFile s t shape file [] (id ∷ [])
   file_taken = record {
     grows = made.change.more;
     meta = within_room roomy shape file (t (meta_key_of file)) made.meta
-        (⊎_elim (λ (e : high t file ≡ high s file). let b = h.meta.high in omega arith) (λ (k : (id ≡ high s file) × (high t file ≡ high s file + 1)). let a = k.0 in let b = k.1 in omega arith) made.grows);
-    fits = λ x lt. ⊎_elim (λ (e : x ≡ id). subst (λ z. Fits (high t) file (rec_at t file z)) (sym e) (subst (Fits (high t) file) (sym here) (fits_more (high s) (high t) file rec (marks_le s t file id made.change) right)))
-        (λ (ne : x ≢ id). subst (Fits (high t) file) (sym (same x ne)) (fits_more (high s) (high t) file (rec_at s file x) (marks_le s t file id made.change) (h.fits x (made.change.covers x lt ne)))) (nat_cases x id);
+        (⊎_elim (λ (e : high t file ≡ high s file). let b = h.meta.high in omega arith) (λ (k : (id ≡ high s file) × (high t file ≡ high s file + 1)).
+        let a = k.0 in let b = k.1 in omega arith) made.grows);
+    fits = λ x lt. ⊎_elim (λ (e : x ≡ id). subst (λ z. Fits (high t) file (rec_at t file z)) (sym e) (subst (Fits (high t) file) (sym here)
+        (fits_more (high s) (high t) file rec (marks_le s t file id made.change) right)))
+        (λ (ne : x ≢ id). subst (Fits (high t) file) (sym (same x ne)) (fits_more (high s) (high t) file (rec_at s file x) (marks_le s t file id made.change)
+        (h.fits x (made.change.covers x lt ne)))) (nat_cases x id);
     free = made.free;
     split = made.split;
     live = λ x i. ⊎_elim (λ (e : x ≡ id). ap (is_live t file) e ∙ live_now) (λ j. elim j [ ]) i;

@@ -68,7 +68,13 @@ module _ (records : Records) (ids pushed blocks all more : List ℕ) (at : ℕ) 
 -- a walk along these came to this one
 pub reached : (records : Records) (owner : Owner) (from : Key) (first at : ℕ) (ids : List ℕ) → first ≡ first_of records owner → ArePast records first ids at
     → from ≡ holder_of format.properties_file owner.key ids → Reached records owner from at (length ids)
-reached records owner from first at ids first_is past from_is = record { passed = ids; past = subst (λ z. ArePast records z ids at) first_is past; from_is = from_is; count_is = refl }
+reached records owner from first at ids first_is past from_is = record {
+  passed = ids;
+  past = subst (λ z. ArePast records z ids at) first_is past;
+  from_is =
+      from_is;
+  count_is = refl;
+}
 
 -- where the properties end, they are different ones
 pub past_walk : (records : Records) (from : ℕ) (ids : List ℕ) (at : ℕ) → ArePast records from ids at → at ≡ format.nil → IsWalk (next_property records) from ids
@@ -95,7 +101,8 @@ pub told_begins : (records : Records) (owner : Owner) (first : ℕ) (es : List P
     → Walked (property_records records) es first (length ids) (Told ids blocks None)
 told_begins records owner first es ids blocks no_ids no_blocks first_is has =
     subst (λ n. Walked (property_records records) es first n (Told ids blocks None)) (sym (ap (λ (z : List ℕ). length z) no_ids))
-    (walk_begins (property_records records) (first_of records owner) first es (Told ids blocks None) first_is has.are (record { ids_are = no_ids; blocks_are = no_blocks; none = refl }))
+    (walk_begins (property_records records) (first_of records owner) first es (Told ids blocks None) first_is has.are
+    (record { ids_are = no_ids; blocks_are = no_blocks; none = refl }))
 
 blocks_append : (xs ys : List Property) → blocks_of (xs ++ ys) ≡ blocks_of xs ++ blocks_of ys
 blocks_append xs ys = flat_map-append (λ (e : Property). e.blocks) xs ys
@@ -115,7 +122,8 @@ told_more es passed e later es_is once ids blocks pushed all more at known share
     none : (shared : Option ℕ) → IfSome shared (λ b. (known ≡ Some b) ⊎ (In b blocks × In b more)) → shared ≡ None
     none None found = refl
     none (Some b) (inl is) = absurd (let e : Some b ≡ None = sym is ∙ told.none in cc)
-    none (Some b) (inr i) = absurd ((once_split (blocks_of passed) (blocks_of (e ∷ later)) (subst AreOnce (ap blocks_of es_is ∙ blocks_append passed (e ∷ later)) once)).apart b
+    none (Some b) (inr i) = absurd ((once_split (blocks_of passed) (blocks_of (e ∷ later)) (subst AreOnce (ap blocks_of es_is ∙ blocks_append passed
+        (e ∷ later)) once)).apart b
         (subst (In b) told.blocks_are i.0) (in_left b e.blocks (blocks_of later) (subst (In b) more_is i.1)))
 
 -- ---- small ones

@@ -32,7 +32,8 @@ module _ (tells : Type 0) (properties blocks : ℕ) (s t : State) (owner : Owner
 
   stays : (q : Key) → q.file ≢ format.properties_file → q.file ≢ format.strings_file → q ≢ meta_key_of format.properties_file
       → q ≢ meta_key_of format.strings_file → t.records q ≡ s.records q
-  stays q a b c d = ⊎_elim (λ e. e) (λ (i : IsAmong q (property_keys touches.ids touches.block_ids)). absurd (beyond_keys touches.ids touches.block_ids q a b c d i)) ((touches.only.stays does).each q)
+  stays q a b c d = ⊎_elim (λ e. e) (λ (i : IsAmong q (property_keys touches.ids touches.block_ids)). absurd (beyond_keys touches.ids touches.block_ids q a b c
+      d i)) ((touches.only.stays does).each q)
 
   -- the element's own record is as it was, and so is the mark of its file
   pub owner_stays : t.records owner.key ≡ s.records owner.key
@@ -41,7 +42,8 @@ module _ (tells : Type 0) (properties blocks : ℕ) (s t : State) (owner : Owner
       (λ e. by format.meta_file (omega arith) (omega arith) (ap (λ (k : Key). k.file) e))
 
   pub owner_used : IsInUse s.records owner → IsInUse t.records owner
-  owner_used used e = used (sym (ap (λ m. kind_in m (t.records owner.key) owner.key.id) mark ∙ ap (λ r. kind_in (high s.records owner.key.file) r owner.key.id) owner_stays) ∙ e)
+  owner_used used e = used (sym (ap (λ m. kind_in m (t.records owner.key) owner.key.id) mark ∙ ap (λ r. kind_in (high s.records owner.key.file) r owner.key.id)
+      owner_stays) ∙ e)
     where
       mark : high t.records owner.key.file ≡ high s.records owner.key.file
       mark = ap (λ r. (metas.meta_of r).high) (stays (meta_key_of owner.key.file) (λ e. absurd (omega arith)) (λ e. absurd (omega arith))

@@ -44,7 +44,8 @@ replaces_same mid a there = record {
 pub records_like : (s t : Records) (shape : Shape) (ids ids' new new' blocks blocks' after after' : List ℕ) → ids ≡ ids' → new ≡ new' → blocks ≡ blocks'
     → after ≡ after' → ChangesRecords s t shape ids new blocks after → ChangesRecords s t shape ids' new' blocks' after'
 records_like s t shape ids ids' new new' blocks blocks' after after' p q r z h =
-    subst (λ l. ChangesRecords s t shape ids' new' blocks' l) z (subst (λ l. ChangesRecords s t shape ids' new' l after) r (subst (λ l. ChangesRecords s t shape ids' l blocks after) q (subst (λ l. ChangesRecords s t shape l new blocks after) p h)))
+    subst (λ l. ChangesRecords s t shape ids' new' blocks' l) z (subst (λ l. ChangesRecords s t shape ids' new' l after) r
+    (subst (λ l. ChangesRecords s t shape ids' l blocks after) q (subst (λ l. ChangesRecords s t shape l new blocks after) p h)))
 
 -- ---- the link of one property is written
 module _ (m t : State) (shape : Shape) (p to : ℕ) (set : t ≡ after_set m (key_in format.properties_file p) 4 format.property_next to) where
@@ -78,9 +79,11 @@ module _ (m t : State) (shape : Shape) (p to : ℕ) (set : t ≡ after_set m (ke
       (subst (λ mark. IsLow mark to) (sym (mark_stays format.properties_file)) low)
       (subst (λ marks. Fits marks format.properties_file r) (λ i f. sym (mark_stays f) i) fits)) in
       properties_moved m.records t.records shape (p ∷ []) (p ∷ []) [] strings link_beside
-      (rewritten shape format.properties_file m.records t.records p (file_now m.records m.records shape format.properties_file old new h (p ∷ []) (λ x i. ⊎_elim (λ (e : x ≡ p). ap (is_live m.records format.properties_file) e ∙ live) (λ j. elim j [ ]) i))
+      (rewritten shape format.properties_file m.records t.records p (file_now m.records m.records shape format.properties_file old new h (p ∷ [])
+      (λ x i. ⊎_elim (λ (e : x ≡ p). ap (is_live m.records format.properties_file) e ∙ live) (λ j. elim j [ ]) i))
       (meta_stays format.properties_file) (λ x ne. link_others (key_in format.properties_file x) (λ e. ne (ap (λ (k : Key). k.id) e)))
-      (λ e. used (sym (field-with_field_other 4 r format.property_next to 1 format.kind (omega arith) (inr (omega arith))) ∙ ap (λ q. field 1 q format.kind) (sym link_here) ∙ e))
+      (λ e. used (sym (field-with_field_other 4 r format.property_next to 1 format.kind (omega arith) (inr (omega arith))) ∙ ap (λ q. field 1 q format.kind)
+      (sym link_here) ∙ e))
       now (λ f. let e = mark_stays f in omega arith))
 
 -- ---- lists without one

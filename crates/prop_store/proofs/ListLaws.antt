@@ -51,11 +51,20 @@ pub once_split : (xs ys : List ℕ) → AreOnce (xs ++ ys) → Once xs ys
 once_split [] ys h = record { left = tt; right = h; apart = λ x i j. i }
 once_split (x ∷ xs) ys h =
     let r = once_split xs ys h.1 in
-    record { left = ((λ i. h.0 (in_left x xs ys i)), r.left); right = r.right; apart = λ y i j. ⊎_elim (λ (e : y ≡ x). h.0 (in_right x xs ys (subst (λ z. In z ys) e j))) (λ k. r.apart y k j) i }
+    record {
+      left = ((λ i. h.0 (in_left x xs ys i)), r.left);
+      right = r.right;
+      apart = λ y i j. ⊎_elim
+          (λ (e : y ≡ x). h.0 (in_right x xs ys (subst (λ z. In z ys) e j))) (λ k. r.apart y k j) i;
+    }
 
 pub once_join : (xs ys : List ℕ) → AreOnce xs → AreOnce ys → ((x : ℕ) → In x xs → In x ys → ⊥) → AreOnce (xs ++ ys)
 once_join [] ys h k apart = k
-once_join (x ∷ xs) ys h k apart = ((λ i. ⊎_elim (λ j. h.0 j) (λ j. apart x (inl refl) j) (in_either x xs ys i)), once_join xs ys h.1 k (λ y i j. apart y (inr i) j))
+once_join (x ∷ xs) ys h k apart = (
+  (λ i. ⊎_elim (λ j. h.0 j) (λ j. apart x (inl refl) j) (in_either x xs ys i)),
+  once_join xs ys h.1 k (λ y i j. apart y (inr i)
+      j),
+)
 
 -- the middle of a list left out
 pub once_without : (xs ys zs : List ℕ) → AreOnce (xs ++ (ys ++ zs)) → AreOnce (xs ++ zs)

@@ -210,4 +210,5 @@ pub set_cause : {T : Type 0} (before now : ℕ) (r : Result T SetFault) (fault :
     → fault ≡ faults.Damaged d → before ≤ now → HasSetCause before now r
 set_cause {T} before now r fault d h is later =
     let p = err_from_is_err_and r h in
-    subst (HasSetCause {T = T} before now) (sym p.1) (subst (λ f. HasSetCause {T = T} before now (Err f)) (sym (p.2 ∙ ap of_fault is)) (record { later = later; disk = λ e. absurd cc }))
+    subst (HasSetCause {T = T} before now) (sym p.1) (subst (λ f. HasSetCause {T = T} before now (Err f)) (sym (p.2 ∙ ap of_fault is))
+    (record { later = later; disk = λ e. absurd cc }))

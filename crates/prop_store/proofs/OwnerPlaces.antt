@@ -10,7 +10,8 @@ use Rattle.prop_store.specs.declared.owner.Owner.{Owner}
 -- it is within the record
 pub place_within : (owner : Owner) → IsOwner owner → owner.field + 4 ≤ format.record_bytes
 place_within owner is = subst (λ n. n + 4 ≤ format.record_bytes) (sym is.place)
-    (⊎_elim (λ e. subst (λ f. property_place f + 4 ≤ format.record_bytes) (sym e) (omega arith)) (λ e. subst (λ f. property_place f + 4 ≤ format.record_bytes) (sym e) (omega arith)) is.file)
+    (⊎_elim (λ e. subst (λ f. property_place f + 4 ≤ format.record_bytes) (sym e) (omega arith)) (λ e. subst (λ f. property_place f + 4 ≤ format.record_bytes)
+    (sym e) (omega arith)) is.file)
 
 -- it is the one of the rules
 pub first_of-is : (s : Records) (owner : Owner) → IsOwner owner → first_of s owner ≡ property_from s owner.key.file owner.key.id

@@ -76,19 +76,23 @@ rel_has false false layout e h = absurd (none_laid layout h)
 node_low : (marks : ℕ → ℕ) (r : Rec) → field 1 r format.kind ≢ format.free_kind → Fits marks format.nodes_file r
     → IsLow (marks format.properties_file) (field 4 r format.node_first_property)
 node_low marks r used h = low_pointer marks format.nodes_file r format.node_first_property format.properties_file h
-    (node_has (nat_eq (field 1 r format.kind) format.free_kind) (nat_eq (field 1 r format.kind) format.sparse) (nat_eq (field 1 r format.kind) format.dense) h.layout (eq_false (field 1 r format.kind) format.free_kind used) h.is)
+    (node_has (nat_eq (field 1 r format.kind) format.free_kind) (nat_eq (field 1 r format.kind) format.sparse) (nat_eq (field 1 r format.kind) format.dense)
+    h.layout (eq_false (field 1 r format.kind) format.free_kind used) h.is)
 
 rel_low : (marks : ℕ → ℕ) (r : Rec) → field 1 r format.kind ≢ format.free_kind → Fits marks format.relationships_file r
     → IsLow (marks format.properties_file) (field 4 r format.relationship_first_property)
 rel_low marks r used h = low_pointer marks format.relationships_file r format.relationship_first_property format.properties_file h
-    (rel_has (nat_eq (field 1 r format.kind) format.free_kind) (nat_eq (field 1 r format.kind) format.related) h.layout (eq_false (field 1 r format.kind) format.free_kind used) h.is)
+    (rel_has (nat_eq (field 1 r format.kind) format.free_kind) (nat_eq (field 1 r format.kind) format.related) h.layout (eq_false (field 1 r format.kind)
+    format.free_kind used) h.is)
 
 -- the first property of an element in use
 pub element_low : (marks : ℕ → ℕ) (file : ℕ) (r : Rec) → IsElementFile file → field 1 r format.kind ≢ format.free_kind → Fits marks file r
     → IsLow (marks format.properties_file) (field 4 r (property_place file))
 element_low marks file r is used h = ⊎_elim
-    (λ (e : file ≡ format.nodes_file). subst (λ f. Fits marks f r → IsLow (marks format.properties_file) (field 4 r (property_place f))) (sym e) (node_low marks r used) h)
-    (λ (e : file ≡ format.relationships_file). subst (λ f. Fits marks f r → IsLow (marks format.properties_file) (field 4 r (property_place f))) (sym e) (rel_low marks r used) h) is
+    (λ (e : file ≡ format.nodes_file). subst (λ f. Fits marks f r → IsLow (marks format.properties_file) (field 4 r (property_place f))) (sym e)
+    (node_low marks r used) h)
+    (λ (e : file ≡ format.relationships_file). subst (λ f. Fits marks f r → IsLow (marks format.properties_file) (field 4 r (property_place f))) (sym e)
+    (rel_low marks r used) h) is
 
 -- ---- properties
 
@@ -106,7 +110,11 @@ property_has true a b c d size layout e h = absurd (true≢false e)
 property_has false true b c d size layout e h = (laid_out next_property _ layout h (inl refl), λ x y z. absurd (true≢false x))
 property_has false false true c d size layout e h = (laid_out next_property _ layout h (inl refl), λ x y z. absurd (true≢false y))
 property_has false false false true d size layout e h = (laid_out next_property _ layout h (inl refl), λ x y z. absurd (true≢false z))
-property_has false false false false true size layout e h = (laid_out next_property _ layout h (inl refl), λ x y z. laid_out first_block _ layout h (inr (inl refl)))
+property_has false false false false true size layout e h = (
+  laid_out next_property _ layout h (inl refl),
+  λ x y z. laid_out first_block _ layout h
+      (inr (inl refl)),
+)
 property_has false false false false false size layout e h = absurd (none_laid layout h)
 
 module _ (marks : ℕ → ℕ) (r : Rec) (used : field 1 r format.kind ≢ format.free_kind) (h : Fits marks format.properties_file r) where
@@ -125,7 +133,8 @@ module _ (marks : ℕ → ℕ) (r : Rec) (used : field 1 r format.kind ≢ forma
   abbrev is_long : Bool
   is_long = nat_eq kind format.text_in_blocks && (nat_lt 40 size && nat_le size 1024)
 
-  has : HasPointer next_property h.layout.pointers × ((nat_eq kind format.int ≡ false) → (is_bool ≡ false) → (is_inline ≡ false) → HasPointer first_block h.layout.pointers)
+  has : HasPointer next_property h.layout.pointers × ((nat_eq kind format.int ≡ false) → (is_bool ≡ false) → (is_inline ≡ false) → HasPointer first_block
+      h.layout.pointers)
   has = property_has (nat_eq kind format.free_kind) (nat_eq kind format.int) is_bool is_inline is_long size h.layout (eq_false kind format.free_kind used) h.is
 
   -- the next property
@@ -135,7 +144,8 @@ module _ (marks : ℕ → ℕ) (r : Rec) (used : field 1 r format.kind ≢ forma
   -- the first block of a text in blocks
   pub first_low : kind ≡ format.text_in_blocks → IsLow (marks format.strings_file) (field 4 r format.property_first_block)
   first_low long = low_pointer marks format.properties_file r format.property_first_block format.strings_file h
-      (has.1 (eq_false kind format.int (λ e. omega arith)) (ap (λ b. b && nat_le (field 1 r format.property_truth) 1) (eq_false kind format.bool (λ e. omega arith))) (ap (λ b. b && nat_le size 40) (eq_false kind format.text_inline (λ e. omega arith))))
+      (has.1 (eq_false kind format.int (λ e. omega arith)) (ap (λ b. b && nat_le (field 1 r format.property_truth) 1) (eq_false kind format.bool
+      (λ e. omega arith))) (ap (λ b. b && nat_le size 40) (eq_false kind format.text_inline (λ e. omega arith))))
 
   -- it says a value
   pub content_if_fits : HasContent r

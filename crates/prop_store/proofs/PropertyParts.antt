@@ -38,7 +38,8 @@ pub linked_before : (was now : PropertyRecords) (front rest other : List Propert
     → AreLinked was (front ++ rest) → AreLinked now other → AreLinked now (front ++ other)
 linked_before was now [] rest other e same blocks h k = k
 linked_before was now (f ∷ front) rest other e same blocks h k = (
-  subst (IsProperty now f) (first_same front rest other e) (property_stays was now f (first_property (front ++ rest)) (same f.id (inl refl)) (λ b i. blocks b (in_left b f.blocks (blocks_of front) i)) h.0),
+  subst (IsProperty now f) (first_same front rest other e) (property_stays was now f (first_property (front ++ rest)) (same f.id (inl refl))
+      (λ b i. blocks b (in_left b f.blocks (blocks_of front) i)) h.0),
   linked_before was now front rest other e (λ p i. same p (inr i)) (λ b i. blocks b (in_right b f.blocks (blocks_of front) i)) h.1 k,
 )
 

@@ -172,7 +172,8 @@ key-property_record key first next value small = before_next (property_body key 
 
     in_text : (text : List ℕ) (b : Bool) → (b ≡ true → length text ≤ 40)
         → field 4 (cond b (with_text (with_field 2 (keyed format.text_inline key) format.property_length (length text)) format.property_text text)
-        (with_field 4 (with_field 2 (keyed format.text_in_blocks key) format.property_length (length text)) format.property_first_block first)) format.property_key ≡ key
+        (with_field 4 (with_field 2 (keyed format.text_in_blocks key) format.property_length (length text)) format.property_first_block first))
+        format.property_key ≡ key
     in_text text true short = field-with_text_other (with_field 2 (keyed format.text_inline key) format.property_length (length text)) format.property_text text
         4 format.property_key (omega arith) (inl (omega arith)) ∙ in_sized format.text_inline (length text)
     in_text text false short = field-with_field_other 4 (with_field 2 (keyed format.text_in_blocks key) format.property_length (length text))
@@ -205,7 +206,8 @@ content_of-with_next r next =
         → field 1 (with_field 4 r format.property_next next) format.property_truth ≡ field 1 r format.property_truth
         → field 4 (with_field 4 r format.property_next next) format.property_first_block ≡ field 4 r format.property_first_block
         → content_by (with_field 4 r format.property_next next) kind size ≡ content_by r kind size
-    by kind size number truth first = rw (number, truth, first) (inline (nat_eq kind format.int) (nat_eq kind format.bool && nat_le (field 1 r format.property_truth) 1) (nat_eq kind format.text_inline && nat_le size 40)
+    by kind size number truth first = rw (number, truth, first) (inline (nat_eq kind format.int) (nat_eq kind format.bool && nat_le
+        (field 1 r format.property_truth) 1) (nat_eq kind format.text_inline && nat_le size 40)
         (Some (Number (cast_signed w64 (field 8 r format.property_number)))) (Some (Truth (nat_eq (field 1 r format.property_truth) 1)))
         (cond (nat_eq kind format.text_in_blocks && (nat_lt 40 size && nat_le size 1024)) (Some (Long size (field 4 r format.property_first_block))) None)
         (text_in (with_field 4 r format.property_next next) format.property_text size) (text_in r format.property_text size)
@@ -250,8 +252,10 @@ form_in-content r =
     same : (int bool inline long low short right one : Bool) (truth : Option Form) (text : List ℕ) (size : ℕ) (number : ℤ) (first : ℕ)
         → truth ≡ cond low (Some (forms.Truth one)) None → (bool ≡ true → inline ≡ false) → (bool ≡ true → long ≡ false) → (inline ≡ true → long ≡ false)
         → (short ≡ true → length text ≡ size)
-        → cond int (Some (forms.Number number)) (cond bool truth (cond inline (cond short (Some (forms.Inline size)) None) (cond long (cond right (Some (forms.Long size first)) None) None)))
-        ≡ option_map form_of (cond int (Some (Number number)) (cond (bool && low) (Some (Truth one)) (cond (inline && short) (Some (Inline text)) (cond (long && right) (Some (Long size first)) None))))
+        → cond int (Some (forms.Number number)) (cond bool truth (cond inline (cond short (Some (forms.Inline size)) None)
+        (cond long (cond right (Some (forms.Long size first)) None) None)))
+        ≡ option_map form_of (cond int (Some (Number number)) (cond (bool && low) (Some (Truth one)) (cond (inline && short) (Some (Inline text))
+        (cond (long && right) (Some (Long size first)) None))))
     same true bool inline long low short right one truth text size number first t b c d len = refl
     same false true inline long true short right one truth text size number first t b c d len = t
     same false true inline long false short right one truth text size number first t b c d len = t ∙ rw (b refl, c refl) refl

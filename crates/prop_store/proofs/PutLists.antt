@@ -31,8 +31,10 @@ pub put_harms_no_lists : (s a m t : State) (id key first next : ℕ) (value : Va
     → t ≡ after_put m (key_in format.properties_file id) rec → HarmsNoLists s t
 put_harms_no_lists s a m t id key first next value rec kept rec_is text beside shape took is right fresh few room put = record {
   properties = harms_none_then s a t format.properties_file (text_harms_none s a beside shape)
-      (put_harms_none a m t format.properties_file id rec refl took is right fresh few room put (λ e. used-property_record key first next value kept (ap (λ (r : Rec). field 1 r format.kind) (sym rec_is) ∙ e)));
-  blocks = harms_none_then s a t format.strings_file text (beside_harms_none a t format.strings_file (shape_put a m t format.properties_file id rec took put) (strings (meta_key_of format.strings_file) (λ e. absurd (omega (arith, e))) (λ e. let k = ap (λ (q : Key). q.id) e in absurd (omega arith)))
+      (put_harms_none a m t format.properties_file id rec refl took is right fresh few room put (λ e. used-property_record key first next value kept
+      (ap (λ (r : Rec). field 1 r format.kind) (sym rec_is) ∙ e)));
+  blocks = harms_none_then s a t format.strings_file text (beside_harms_none a t format.strings_file (shape_put a m t format.properties_file id rec took put)
+      (strings (meta_key_of format.strings_file) (λ e. absurd (omega (arith, e))) (λ e. let k = ap (λ (q : Key). q.id) e in absurd (omega arith)))
       (λ x. strings (key_in format.strings_file x) (λ e. absurd (omega (arith, e))) (λ e. let k = ap (λ (q : Key). q.file) e in absurd (omega arith))));
 }
   where
@@ -53,7 +55,12 @@ module _ (s t u : State) (owner : Owner) (to : ℕ) (is : IsOwner owner) (put : 
       not_meta file known = is_meta_file-not_meta file known
 
   not_these : (owner.key.file ≢ format.properties_file) × (owner.key.file ≢ format.strings_file)
-  not_these = ((λ e. ⊎_elim (λ (k : owner.key.file ≡ format.nodes_file). omega arith) (λ (k : owner.key.file ≡ format.relationships_file). omega arith) is.file), (λ e. ⊎_elim (λ (k : owner.key.file ≡ format.nodes_file). omega arith) (λ (k : owner.key.file ≡ format.relationships_file). omega arith) is.file))
+  not_these = (
+    (λ e. ⊎_elim (λ (k : owner.key.file ≡ format.nodes_file). omega arith) (λ (k : owner.key.file ≡ format.relationships_file). omega arith)
+        is.file),
+    (λ e. ⊎_elim (λ (k : owner.key.file ≡ format.nodes_file). omega arith) (λ (k : owner.key.file ≡ format.relationships_file). omega arith)
+        is.file),
+  )
 
   pub led_harms_no_lists : HarmsNoLists s u
   led_harms_no_lists = record {

@@ -142,7 +142,8 @@ property_put s a b t text first id key next value rec kept key_small small text_
     let taken_one = file_taken a.records b.records t.records s.shape format.properties_file id rec [] [] (inl refl) keeps_now
     (took keeps_now.free keeps_now.split.walk) (subst (λ z. id < room_of z format.properties_file) shape room) here others
     (used s a text first key next value rec kept key_small small text_is rec_is w)
-    (right s a text first key next value rec kept key_small small text_is rec_is w (low_more (high s.records format.properties_file) (high a.records format.properties_file) next one.properties.grows may)) in
+    (right s a text first key next value rec kept key_small small text_is rec_is w (low_more (high s.records format.properties_file)
+    (high a.records format.properties_file) next one.properties.grows may)) in
     let two = properties_moved a.records t.records s.shape [] (id ∷ []) w.blocks
     (file_now s.records a.records s.shape format.strings_file [] w.blocks w.changes w.blocks w.changes.live) out taken_one in
     record {
@@ -184,7 +185,8 @@ property_put_again s a b d t row e ids text first key next value rec kept key_sm
     (meta format.properties_file)
     (λ x ne. others (key_in format.properties_file x) (λ k. ne (ap (λ (z : Key). z.id) k)))
     (λ k. used b d text first key next value rec kept key_small small text_is rec_is w (ap (λ r. field 1 r format.kind) (sym here) ∙ k))
-    (subst (λ (marks : ℕ → ℕ). Fits marks format.properties_file (rec_at t.records format.properties_file e.id)) (λ i f. sym (marks f) i) (subst (Fits (high d.records) format.properties_file) (sym here) fits))
+    (subst (λ (marks : ℕ → ℕ). Fits marks format.properties_file (rec_at t.records format.properties_file e.id)) (λ i f. sym (marks f) i)
+    (subst (Fits (high d.records) format.properties_file) (sym here) fits))
     (λ f. let q = marks f in omega arith) in
     let three = properties_moved d.records t.records s.shape (e.id ∷ []) (e.id ∷ []) w.blocks
     (file_now b.records d.records s.shape format.strings_file [] w.blocks blocks_now w.blocks blocks_now.live) out anew in
@@ -215,20 +217,25 @@ pub take_put_fault : (s a : State) (text : List ℕ) (first needed : ℕ) (fault
     → (meta_of s format.properties_file).live ≢ room_of s.shape format.properties_file → IsPutFault s 0 needed (of_take fault)
 take_put_fault s a text first needed (Full full live) w beside shape is sound keeps room =
     let same : (meta_of a format.properties_file).live ≡ (meta_of s format.properties_file).live =
-    ap (λ r. (metas.meta_of r).live) (meta_beside s.records a.records format.strings_file format.properties_file (inr refl) (inl refl) (λ e. absurd (omega arith)) beside) in
+    ap (λ r. (metas.meta_of r).live) (meta_beside s.records a.records format.strings_file format.properties_file (inr refl) (inl refl)
+    (λ e. absurd (omega arith)) beside) in
     absurd (room (sym same ∙ sym is.1 ∙ is.2 ∙ ap (λ z. room_of z format.properties_file) shape))
 take_put_fault s a text first needed Memory w beside shape is sound keeps room = tt
 take_put_fault s a text first needed Disk w beside shape is sound keeps room = tt
 take_put_fault s a text first needed (Damaged damage) w beside shape is sound keeps room =
     let now = keeps_file s.records a.records s.shape format.properties_file [] [] (text_written s a text first [] keeps beside w).properties in
-    sound now.free (can_take a format.properties_file now.free (subst (λ z. high a.records format.properties_file ≤ room_of z format.properties_file) (sym shape) now.meta.high) now.split)
+    sound now.free (can_take a format.properties_file now.free (subst (λ z. high a.records format.properties_file ≤ room_of z format.properties_file)
+    (sym shape) now.meta.high) now.split)
 
 -- there is no room for the blocks, where others were given back
 pub text_put_fault : (s b : State) (gone count needed : ℕ) (fault : TakeFault) → b.shape ≡ s.shape
     → (meta_of b format.strings_file).live + gone ≡ (meta_of s format.strings_file).live → count ≡ needed → IsWriteFault b format.strings_file count fault
     → IsPutFault s gone needed (of_take fault)
-text_put_fault s b gone count needed (Full full live) shape fewer e is =
-    (is.0, let a = is.1 in let r : room_of b.shape format.strings_file ≡ room_of s.shape format.strings_file = ap (λ z. room_of z format.strings_file) shape in omega arith)
+text_put_fault s b gone count needed (Full full live) shape fewer e is = (
+  is.0,
+  let a = is.1 in let r : room_of b.shape format.strings_file ≡ room_of s.shape format.strings_file = ap (λ z. room_of z format.strings_file)
+      shape in omega arith,
+)
 text_put_fault s b gone count needed Memory shape fewer e is = tt
 text_put_fault s b gone count needed Disk shape fewer e is = tt
 text_put_fault s b gone count needed (Damaged damage) shape fewer e is = is
@@ -236,7 +243,8 @@ text_put_fault s b gone count needed (Damaged damage) shape fewer e is = is
 -- ---- put again, where its blocks were given back
 
 module _ (s a b : State) (row : PropertyRow) (e : Property) (ids : List ℕ) (held : IsHeld s row e) (same : SameButReads s a) (ids_are : ids ≡ e.blocks)
-    (released : AreOnce ids → ChangesFile a.records a.records a.shape format.strings_file ids ids → ChangesFile a.records b.records a.shape format.strings_file ids [] × HasFewer a b format.strings_file (length ids))
+    (released : AreOnce ids → ChangesFile a.records a.records a.shape format.strings_file ids ids → ChangesFile a.records b.records a.shape format.strings_file
+    ids [] × HasFewer a b format.strings_file (length ids))
     (gave : IsSameBeside format.strings_file a.records b.records) (b_shape : b.shape ≡ a.shape) where
   shape_back : b.shape ≡ s.shape
   shape_back = b_shape ∙ ap (λ (z : State). z.shape) same
@@ -248,8 +256,10 @@ module _ (s a b : State) (row : PropertyRow) (e : Property) (ids : List ℕ) (he
   fewer_now = by same ids_are
     where
       by : SameButReads s a → ids ≡ e.blocks → (meta_of b format.strings_file).live + length e.blocks ≡ (meta_of s format.strings_file).live
-      by same ids_are = (subst (λ (z : State). AreOnce e.blocks → ChangesFile z.records z.records z.shape format.strings_file e.blocks e.blocks → HasFewer z b format.strings_file (length e.blocks)) same
-          (subst (λ (bs : List ℕ). AreOnce bs → ChangesFile a.records a.records a.shape format.strings_file bs bs → HasFewer a b format.strings_file (length bs)) ids_are (λ o h. (released o h).1))) held.once held.strings
+      by same ids_are = (subst (λ (z : State). AreOnce e.blocks → ChangesFile z.records z.records z.shape format.strings_file e.blocks e.blocks → HasFewer z b
+          format.strings_file (length e.blocks)) same
+          (subst (λ (bs : List ℕ). AreOnce bs → ChangesFile a.records a.records a.shape format.strings_file bs bs → HasFewer a b format.strings_file
+          (length bs)) ids_are (λ o h. (released o h).1))) held.once held.strings
 
   keeps_back : KeepsFile b format.strings_file
   keeps_back = subst (λ z. ChangesFile b.records b.records z format.strings_file [] []) (sym shape_back)
@@ -269,4 +279,5 @@ module _ (s a b : State) (row : PropertyRow) (e : Property) (ids : List ℕ) (he
   again_put d t text first key next key_in_row next_in_row value rec key_is next_is kept key_small small text_is rec_is low writes beside put_at may =
       subst (λ k. PutsProperty s t (e.id ∷ []) e.blocks e.id k value next_in_row) key_is
       (subst (λ n. PutsProperty s t (e.id ∷ []) e.blocks e.id key value n) next_is
-      (property_put_again s a b d t row e ids text first key next value rec kept key_small small text_is rec_is held low given_back shape_back writes beside put_at (subst (MayLead s) (sym next_is) may)))
+      (property_put_again s a b d t row e ids text first key next value rec kept key_small small text_is rec_is held low given_back shape_back writes beside
+      put_at (subst (MayLead s) (sym next_is) may)))

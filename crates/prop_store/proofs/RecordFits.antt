@@ -79,7 +79,13 @@ all_low marks r next is low = rw (is, low_points next (marks format.properties_f
 long_low : (marks : ℕ → ℕ) (r : Rec) (first next : ℕ) → field 4 r format.property_next ≡ next → field 4 r format.property_first_block ≡ first
     → IsLow (marks format.properties_file) next → IsLow (marks format.strings_file) first
     → all_point marks r (next_property ∷ may format.property_first_block format.strings_file ∷ []) ≡ true
-long_low marks r first next next_is first_is low first_low = rw (next_is, first_is, low_points next (marks format.properties_file) low, low_points first (marks format.strings_file) first_low) refl
+long_low marks r first next next_is first_is low first_low = rw (
+  next_is,
+  first_is,
+  low_points next (marks format.properties_file) low,
+  low_points first
+      (marks format.strings_file) first_low,
+) refl
 
 -- ---- the record of a property
 
@@ -88,7 +94,11 @@ abbrev layout_with : List Range → Layout
 layout_with used = record { pointers = next_property ∷ []; used = used }
 
 abbrev long_layout : Layout
-long_layout = record { pointers = next_property ∷ may format.property_first_block format.strings_file ∷ []; used = bytes_of format.kind 1 ∷ bytes_of format.property_length 14 ∷ [] }
+long_layout = record {
+  pointers = next_property ∷ may format.property_first_block format.strings_file ∷ [];
+  used = bytes_of format.kind 1 ∷ bytes_of
+      format.property_length 14 ∷ [];
+}
 
 module _ (marks : ℕ → ℕ) (key first next : ℕ) (small : next < 2 ^ 32) (low : IsLow (marks format.properties_file) next) where
   int_fits : (n : _) → Fits marks format.properties_file (property_record key (values.Int n) first next)
@@ -101,7 +111,8 @@ module _ (marks : ℕ → ℕ) (key first next : ℕ) (small : next < 2 ^ 32) (l
         blank = λ i lt out.
             let o = outside i (bytes_of format.kind 1 ∷ bytes_of format.property_key 8 ∷ bytes_of format.property_number 8 ∷ []) out in
             byte_stays 4 (property_body key (values.Int n) first) format.property_next next i 4 8 lt o.1.0 (omega arith) (omega arith)
-            (byte_stays 8 (keyed format.int key) format.property_number (cast_unsigned w64 n) i 16 8 lt o.1.1.0 (omega arith) (omega arith) (byte_of_keyed format.int key i lt o.0 (part_out i 4 4 8 (omega arith) o.1.0)));
+            (byte_stays 8 (keyed format.int key) format.property_number (cast_unsigned w64 n) i 16 8 lt o.1.1.0 (omega arith) (omega arith)
+            (byte_of_keyed format.int key i lt o.0 (part_out i 4 4 8 (omega arith) o.1.0)));
       }
 
   bool_fits : (b : Bool) → Fits marks format.properties_file (property_record key (values.Bool b) first next)
@@ -110,12 +121,16 @@ module _ (marks : ℕ → ℕ) (key first next : ℕ) (small : next < 2 ^ 32) (l
       record {
         layout = layout_with (bytes_of format.kind 1 ∷ bytes_of format.property_key 8 ∷ bytes_of format.property_truth 1 ∷ []);
         is = ap (layout_by format.properties_file r) (kind-bool_record key first next b)
-            ∙ rw (truth-bool_record key first next b) (elim b as (λ z. cond (nat_le (cond z 1 0) 1) (Some (layout_with (bytes_of format.kind 1 ∷ bytes_of format.property_key 8 ∷ bytes_of format.property_truth 1 ∷ []))) None ≡ Some (layout_with (bytes_of format.kind 1 ∷ bytes_of format.property_key 8 ∷ bytes_of format.property_truth 1 ∷ []))) [ true ↦ refl | false ↦ refl ]);
+            ∙ rw (truth-bool_record key first next b) (elim b as (λ z. cond (nat_le (cond z 1 0) 1)
+            (Some (layout_with (bytes_of format.kind 1 ∷ bytes_of format.property_key 8 ∷ bytes_of format.property_truth 1 ∷ []))) None ≡ Some
+            (layout_with (bytes_of format.kind 1 ∷ bytes_of format.property_key 8 ∷ bytes_of format.property_truth 1 ∷ [])))
+            [ true ↦ refl | false ↦ refl ]);
         point = all_low marks r next (next-property_record key first next (values.Bool b) small) low;
         blank = λ i lt out.
             let o = outside i (bytes_of format.kind 1 ∷ bytes_of format.property_key 8 ∷ bytes_of format.property_truth 1 ∷ []) out in
             byte_stays 4 (property_body key (values.Bool b) first) format.property_next next i 4 8 lt o.1.0 (omega arith) (omega arith)
-            (byte_stays 1 (keyed format.bool key) format.property_truth (cond b 1 0) i 16 1 lt o.1.1.0 (omega arith) (omega arith) (byte_of_keyed format.bool key i lt o.0 (part_out i 4 4 8 (omega arith) o.1.0)));
+            (byte_stays 1 (keyed format.bool key) format.property_truth (cond b 1 0) i 16 1 lt o.1.1.0 (omega arith) (omega arith)
+            (byte_of_keyed format.bool key i lt o.0 (part_out i 4 4 8 (omega arith) o.1.0)));
       }
 
   inline_fits : (text : List ℕ) → length text ≤ 40 → Fits marks format.properties_file (property_record key (values.Text text) first next)
@@ -135,7 +150,8 @@ module _ (marks : ℕ → ℕ) (key first next : ℕ) (small : next < 2 ^ 32) (l
             ap (λ q. field 1 q i) (inline-is key first next text short)
             ∙ byte_stays 4 (with_text sized format.property_text text) format.property_next next i 2 10 lt o.1.0 (omega arith) (omega arith)
             (text_stays sized format.property_text text i lt o.1.1.0
-            (byte_stays 2 (keyed format.text_inline key) format.property_length size i 2 10 lt o.1.0 (omega arith) (omega arith) (byte_of_keyed format.text_inline key i lt o.0 (within_out i o.1.0))));
+            (byte_stays 2 (keyed format.text_inline key) format.property_length size i 2 10 lt o.1.0 (omega arith) (omega arith)
+            (byte_of_keyed format.text_inline key i lt o.0 (within_out i o.1.0))));
       }
 
   long_fits : (text : List ℕ) → 40 < length text → length text ≤ 1024 → first < 2 ^ 32 → IsLow (marks format.strings_file) first
@@ -156,7 +172,8 @@ module _ (marks : ℕ → ℕ) (key first next : ℕ) (small : next < 2 ^ 32) (l
             ap (λ q. field 1 q i) (long-is key first next text long most)
             ∙ byte_stays 4 (with_field 4 sized format.property_first_block first) format.property_next next i 2 14 lt o.1.0 (omega arith) (omega arith)
             (byte_stays 4 sized format.property_first_block first i 2 14 lt o.1.0 (omega arith) (omega arith)
-            (byte_stays 2 (keyed format.text_in_blocks key) format.property_length size i 2 14 lt o.1.0 (omega arith) (omega arith) (byte_of_keyed format.text_in_blocks key i lt o.0 (within_out i (part_out i 2 10 14 (omega arith) o.1.0)))));
+            (byte_stays 2 (keyed format.text_in_blocks key) format.property_length size i 2 14 lt o.1.0 (omega arith) (omega arith)
+            (byte_of_keyed format.text_in_blocks key i lt o.0 (within_out i (part_out i 2 10 14 (omega arith) o.1.0)))));
       }
 
 -- the record of a property fits, where what it names is none or below the marks
@@ -195,7 +212,8 @@ module _ (r : Rec) (kind size : ℕ) (layout : Layout) where
           → cond a (laid (next_property ∷ []) (bytes_of format.kind 1 ∷ bytes_of format.property_key 8 ∷ bytes_of format.property_number 8 ∷ []))
           (cond b (laid (next_property ∷ []) (bytes_of format.kind 1 ∷ bytes_of format.property_key 8 ∷ bytes_of format.property_truth 1 ∷ []))
           (cond c (laid (next_property ∷ []) (bytes_of format.kind 1 ∷ bytes_of format.property_length 10 ∷ bytes_of format.property_text size ∷ []))
-          (cond d (laid (next_property ∷ may format.property_first_block format.strings_file ∷ []) (bytes_of format.kind 1 ∷ bytes_of format.property_length 14 ∷ [])) None))) ≡ Some layout
+          (cond d (laid (next_property ∷ may format.property_first_block format.strings_file ∷ []) (bytes_of format.kind 1 ∷ bytes_of format.property_length 14
+          ∷ [])) None))) ≡ Some layout
           → HasNext layout
       by true b c d e = short (bytes_of format.kind 1 ∷ bytes_of format.property_key 8 ∷ bytes_of format.property_number 8 ∷ []) (λ i o. keyed_out i o.1.0) e
       by false true c d e = short (bytes_of format.kind 1 ∷ bytes_of format.property_key 8 ∷ bytes_of format.property_truth 1 ∷ []) (λ i o. keyed_out i o.1.0) e
@@ -268,5 +286,6 @@ Fits-block_record marks text next some few small low =
           let o = outside i used out in
           byte_stays 4 (with_text two format.block_text text) format.block_next next i 4 4 lt o.1.0 (omega arith) (omega arith)
           (text_stays two format.block_text text i lt o.1.1.0
-          (byte_stays 1 one format.block_length size i 0 2 lt o.0 (omega arith) (omega arith) (byte_stays 1 zeros format.kind format.block i 0 2 lt o.0 (omega arith) (omega arith) (byte_of_zeros i lt))));
+          (byte_stays 1 one format.block_length size i 0 2 lt o.0 (omega arith) (omega arith) (byte_stays 1 zeros format.kind format.block i 0 2 lt o.0
+          (omega arith) (omega arith) (byte_of_zeros i lt))));
     }

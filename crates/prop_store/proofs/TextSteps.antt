@@ -45,7 +45,11 @@ block_here string_file at left P some l = open_here l.text l.blocks l.has.are l.
           text = text;
           later = bs;
           kept = subst (λ z. P text (z ∷ bs)) (sym first) kept;
-          form = record { kind = ap (λ z. field 1 (string_file z) format.kind) first ∙ are.0.kind; length_is = ap (λ z. field 1 (string_file z) format.block_length) first ∙ are.0.size ∙ long };
+          form = record {
+            kind = ap (λ z. field 1 (string_file z) format.kind) first ∙ are.0.kind;
+            length_is = ap (λ z. field 1 (string_file z)
+                format.block_length) first ∙ are.0.size ∙ long;
+          };
           piece = ap (λ z. text_in (string_file z) format.block_text (min 48 left)) first ∙ ap (text_in (string_file b) format.block_text) (sym long)
               ∙ are.0.piece;
           left_is = size;

@@ -64,7 +64,8 @@ among_all : (q : Key) (links more : List Key) (ids others blocks later : List �
 among_all q links more ids others blocks later first second third i =
     ⊎_elim first
     (λ j. ⊎_elim (λ k. among_ids q more others later (among_more format.properties_file q ids others second k))
-    (λ k. among_blocks q more others later (⊎_elim (λ l. among_left q (map (key_in format.strings_file) later) metas (among_more format.strings_file q blocks later third l)) (λ l. among_right q (map (key_in format.strings_file) later) metas l)
+    (λ k. among_blocks q more others later (⊎_elim (λ l. among_left q (map (key_in format.strings_file) later) metas (among_more format.strings_file q blocks
+    later third l)) (λ l. among_right q (map (key_in format.strings_file) later) metas l)
     (among_either q (map (key_in format.strings_file) blocks) metas k)))
     (among_either q (map (key_in format.properties_file) ids) _ j))
     (among_either q links (property_keys ids blocks) i)
@@ -75,7 +76,10 @@ pub only_then : {tells : Type 0} (s t u : State) (xs ys zs : List Key) → ((q :
     → TouchesOnly tells s t xs → TouchesOnly tells t u ys → TouchesOnly tells s u zs
 only_then s t u xs ys zs left right h g = record {
   writes = record { each = λ q w. ⊎_elim (λ k. ⊎_elim (λ o. inl o) (λ i. inr (left q i)) (h.writes.each q k)) (λ i. inr (right q i)) (g.writes.each q w) };
-  stays = λ tells. record { each = λ q. ⊎_elim (λ e. ⊎_elim (λ f. inl (e ∙ f)) (λ i. inr (left q i)) ((h.stays tells).each q)) (λ i. inr (right q i)) ((g.stays tells).each q) };
+  stays = λ tells. record {
+    each = λ q. ⊎_elim (λ e. ⊎_elim (λ f. inl (e ∙ f)) (λ i. inr (left q i)) ((h.stays tells).each q)) (λ i. inr (right q i))
+        ((g.stays tells).each q);
+  };
 }
 
 pub only_more : {tells : Type 0} (s t : State) (xs ys : List Key) → ((q : Key) → IsAmong q xs → IsAmong q ys) → TouchesOnly tells s t xs
@@ -105,16 +109,34 @@ only_put s t key rec is = record {
 
 pub only_set : {tells : Type 0} (s t : State) (key : Key) (n at value : ℕ) → WritesOnly s t (key ∷ []) → (tells → t ≡ after_set s key n at value)
     → TouchesOnly tells s t (key ∷ [])
-only_set {tells = tells} s t key n at value writes is = record { writes = writes; stays = λ told. record { each = ((only_put {tells = tells} (after_get s) t key _ (is told)).stays told).each } }
+only_set {tells = tells} s t key n at value writes is = record {
+  writes = writes;
+  stays = λ told.
+      record { each = ((only_put {tells = tells} (after_get s) t key _ (is told)).stays told).each };
+}
 
 -- ---- properties and blocks
 
 pub touches_reads : {tells : Type 0} (links : List Key) (n m : ℕ) (s t : State) → SameButReads s t → TouchesProperties tells links n m s t
-touches_reads links n m s t same = record { ids = []; block_ids = []; few_ids = omega arith; few_blocks = omega arith; only = only_reads s t (links ++ property_keys [] []) same }
+touches_reads links n m s t same = record {
+  ids = [];
+  block_ids = [];
+  few_ids = omega arith;
+  few_blocks = omega arith;
+  only = only_reads s t
+      (links ++ property_keys [] []) same;
+}
 
 pub touches_more : {tells : Type 0} (links : List Key) (n m n2 m2 : ℕ) (s t : State) → n ≤ n2 → m ≤ m2 → TouchesProperties tells links n m s t
     → TouchesProperties tells links n2 m2 s t
-touches_more links n m n2 m2 s t le le2 h = record { ids = h.ids; block_ids = h.block_ids; few_ids = let f = h.few_ids in omega arith; few_blocks = let f = h.few_blocks in omega arith; only = h.only }
+touches_more links n m n2 m2 s t le le2 h = record {
+  ids = h.ids;
+  block_ids = h.block_ids;
+  few_ids = let f = h.few_ids in omega arith;
+  few_blocks = let f =
+      h.few_blocks in omega arith;
+  only = h.only;
+}
 
 -- a call that left the space as it was
 pub touches_same : {tells : Type 0} (links : List Key) (n m n2 m2 : ℕ) (s t u : State) → n ≤ n2 → m ≤ m2 → u ≡ t → TouchesProperties tells links n m s t
@@ -124,7 +146,14 @@ touches_same {tells = tells} links n m n2 m2 s t u le le2 same h = subst (λ (z 
 
 -- besides links
 pub touches_beside : {tells : Type 0} (links : List Key) (n m : ℕ) (s t : State) → TouchesProperties tells [] n m s t → TouchesProperties tells links n m s t
-touches_beside links n m s t h = record { ids = h.ids; block_ids = h.block_ids; few_ids = h.few_ids; few_blocks = h.few_blocks; only = only_more s t (property_keys h.ids h.block_ids) (links ++ property_keys h.ids h.block_ids) (λ q i. among_right q links _ i) h.only }
+touches_beside links n m s t h = record {
+  ids = h.ids;
+  block_ids = h.block_ids;
+  few_ids = h.few_ids;
+  few_blocks = h.few_blocks;
+  only = only_more s t
+      (property_keys h.ids h.block_ids) (links ++ property_keys h.ids h.block_ids) (λ q i. among_right q links _ i) h.only;
+}
 
 -- one after the other
 pub touches_then : {tells : Type 0} (links : List Key) (n m n2 m2 n3 m3 : ℕ) (s t u : State) → n + n2 ≤ n3 → m + m2 ≤ m3 → TouchesProperties tells links n m s t
@@ -136,28 +165,61 @@ touches_then links n m n2 m2 n3 m3 s t u le le2 h g = record {
   few_blocks = let a = h.few_blocks in let b = g.few_blocks in omega (arith, length-append h.block_ids g.block_ids);
   only = only_then s t u (links ++ property_keys h.ids h.block_ids) (links ++ property_keys g.ids g.block_ids)
       (links ++ property_keys (h.ids ++ g.ids) (h.block_ids ++ g.block_ids))
-      (λ q i. among_all q links links h.ids (h.ids ++ g.ids) h.block_ids (h.block_ids ++ g.block_ids) (λ j. among_left q links _ j) (λ x j. in_left x h.ids g.ids j) (λ x j. in_left x h.block_ids g.block_ids j) i)
-      (λ q i. among_all q links links g.ids (h.ids ++ g.ids) g.block_ids (h.block_ids ++ g.block_ids) (λ j. among_left q links _ j) (λ x j. in_right x h.ids g.ids j) (λ x j. in_right x h.block_ids g.block_ids j) i)
+      (λ q i. among_all q links links h.ids (h.ids ++ g.ids) h.block_ids (h.block_ids ++ g.block_ids) (λ j. among_left q links _ j)
+      (λ x j. in_left x h.ids g.ids j) (λ x j. in_left x h.block_ids g.block_ids j) i)
+      (λ q i. among_all q links links g.ids (h.ids ++ g.ids) g.block_ids (h.block_ids ++ g.block_ids) (λ j. among_left q links _ j)
+      (λ x j. in_right x h.ids g.ids j) (λ x j. in_right x h.block_ids g.block_ids j) i)
       h.only g.only;
 }
 
 -- the record of a property
 pub touches_put : {tells : Type 0} (s t : State) (id : ℕ) (rec : Rec) → t ≡ after_put s (key_in format.properties_file id) rec
     → TouchesProperties tells [] 1 0 s t
-touches_put s t id rec is = record { ids = id ∷ []; block_ids = []; few_ids = omega arith; few_blocks = omega arith; only = only_more s t (key_in format.properties_file id ∷ []) (property_keys (id ∷ []) []) (λ q i. among_left q (key_in format.properties_file id ∷ []) metas i) (only_put s t (key_in format.properties_file id) rec is) }
+touches_put s t id rec is = record {
+  ids = id ∷ [];
+  block_ids = [];
+  few_ids = omega arith;
+  few_blocks = omega arith;
+  only = only_more s t
+      (key_in format.properties_file id ∷ []) (property_keys (id ∷ []) []) (λ q i. among_left q (key_in format.properties_file id ∷ []) metas i)
+      (only_put s t (key_in format.properties_file id) rec is);
+}
 
 -- the record of a block
 pub touches_block : {tells : Type 0} (s t : State) (id : ℕ) (rec : Rec) → t ≡ after_put s (key_in format.strings_file id) rec
     → TouchesProperties tells [] 0 1 s t
-touches_block s t id rec is = record { ids = []; block_ids = id ∷ []; few_ids = omega arith; few_blocks = omega arith; only = only_more s t (key_in format.strings_file id ∷ []) (property_keys [] (id ∷ [])) (λ q i. among_left q (key_in format.strings_file id ∷ []) metas i) (only_put s t (key_in format.strings_file id) rec is) }
+touches_block s t id rec is = record {
+  ids = [];
+  block_ids = id ∷ [];
+  few_ids = omega arith;
+  few_blocks = omega arith;
+  only = only_more s t
+      (key_in format.strings_file id ∷ []) (property_keys [] (id ∷ [])) (λ q i. among_left q (key_in format.strings_file id ∷ []) metas i)
+      (only_put s t (key_in format.strings_file id) rec is);
+}
 
 -- an identifier that is taken, of a property or of a block
 pub touches_property_taken : {tells : Type 0} (s t : State) → TouchesOnly tells s t (meta_key_of format.properties_file ∷ [])
     → TouchesProperties tells [] 0 0 s t
-touches_property_taken s t h = record { ids = []; block_ids = []; few_ids = omega arith; few_blocks = omega arith; only = only_more s t (meta_key_of format.properties_file ∷ []) (property_keys [] []) (λ q i. among_left q (meta_key_of format.properties_file ∷ []) (meta_key_of format.strings_file ∷ []) i) h }
+touches_property_taken s t h = record {
+  ids = [];
+  block_ids = [];
+  few_ids = omega arith;
+  few_blocks = omega arith;
+  only = only_more s t
+      (meta_key_of format.properties_file ∷ []) (property_keys [] []) (λ q i. among_left q (meta_key_of format.properties_file ∷ [])
+      (meta_key_of format.strings_file ∷ []) i) h;
+}
 
 pub touches_block_taken : {tells : Type 0} (s t : State) → TouchesOnly tells s t (meta_key_of format.strings_file ∷ []) → TouchesProperties tells [] 0 0 s t
-touches_block_taken s t h = record { ids = []; block_ids = []; few_ids = omega arith; few_blocks = omega arith; only = only_more s t (meta_key_of format.strings_file ∷ []) (property_keys [] []) (λ q i. inr i) h }
+touches_block_taken s t h = record {
+  ids = [];
+  block_ids = [];
+  few_ids = omega arith;
+  few_blocks = omega arith;
+  only = only_more s t
+      (meta_key_of format.strings_file ∷ []) (property_keys [] []) (λ q i. inr i) h;
+}
 
 -- a property that is given back
 pub touches_given : {tells : Type 0} (s t : State) (id : ℕ) → TouchesOnly tells s t (key_in format.properties_file id ∷ meta_key_of format.properties_file ∷ [])
@@ -180,7 +242,8 @@ touches_released s t blocks h = record {
   few_ids = omega arith;
   few_blocks = omega arith;
   only = only_more s t (meta_key_of format.strings_file ∷ map (key_in format.strings_file) blocks) (property_keys [] blocks)
-      (λ q i. ⊎_elim (λ (e : q ≡ meta_key_of format.strings_file). among_right q (map (key_in format.strings_file) blocks) metas (inr (inl e))) (λ j. among_left q (map (key_in format.strings_file) blocks) metas j) i) h;
+      (λ q i. ⊎_elim (λ (e : q ≡ meta_key_of format.strings_file). among_right q (map (key_in format.strings_file) blocks) metas (inr (inl e)))
+      (λ j. among_left q (map (key_in format.strings_file) blocks) metas j) i) h;
 }
 
 -- properties that are given back
@@ -192,7 +255,8 @@ touches_returned s t ids h = record {
   few_ids = omega arith;
   few_blocks = omega arith;
   only = only_more s t (meta_key_of format.properties_file ∷ map (key_in format.properties_file) ids) (property_keys ids [])
-      (λ q i. ⊎_elim (λ (e : q ≡ meta_key_of format.properties_file). among_right q (map (key_in format.properties_file) ids) metas (inl e)) (λ j. among_left q (map (key_in format.properties_file) ids) metas j) i) h;
+      (λ q i. ⊎_elim (λ (e : q ≡ meta_key_of format.properties_file). among_right q (map (key_in format.properties_file) ids) metas (inl e))
+      (λ j. among_left q (map (key_in format.properties_file) ids) metas j) i) h;
 }
 
 -- one of several blocks

@@ -100,11 +100,13 @@ module _ (s : State) (owner : Owner) (is : IsOwner owner) (es : List Property) (
     in_front x i = subst (λ z. In x (ids_of z)) (sym front_is) (subst (In x) (sym (ids_parts before last [])) (in_left x (ids_of before) (last.id ∷ []) i))
 
     last_front : In last.id (ids_of front)
-    last_front = subst (λ z. In last.id (ids_of z)) (sym front_is) (subst (In last.id) (sym (ids_parts before last [])) (in_right last.id (ids_of before) (last.id ∷ []) (inl refl)))
+    last_front = subst (λ z. In last.id (ids_of z)) (sym front_is) (subst (In last.id) (sym (ids_parts before last [])) (in_right last.id (ids_of before)
+        (last.id ∷ []) (inl refl)))
 
     block_front : (x : ℕ) → In x (blocks_of before) ⊎ In x last.blocks → In x (blocks_of front)
     block_front x i = subst (λ z. In x (blocks_of z)) (sym front_is) (subst (In x) (sym (blocks_both before (last ∷ [])))
-        (⊎_elim (λ b. in_left x (blocks_of before) (last.blocks ++ []) b) (λ l. in_right x (blocks_of before) (last.blocks ++ []) (in_left x last.blocks [] l)) i))
+        (⊎_elim (λ b. in_left x (blocks_of before) (last.blocks ++ []) b) (λ l. in_right x (blocks_of before) (last.blocks ++ []) (in_left x last.blocks [] l))
+        i))
 
     -- no other has its identifier
     not_last : (x : ℕ) → In x (ids_of before) ⊎ In x (ids_of back) → x ≢ last.id
@@ -119,22 +121,28 @@ module _ (s : State) (owner : Owner) (is : IsOwner owner) (es : List Property) (
     by_link =
         let kept = id_kept last.id (inl last_front) in
         let moved = link_moved m t s.shape last.id to set (ids_of front ++ ids_of back) (ids_of front ++ ids_of back)
-        (file_now s.records m.records s.shape format.properties_file (e.id ∷ []) [] drops.changes.properties (ids_of front ++ ids_of back) (λ x i. (id_kept x (in_either x (ids_of front) (ids_of back) i)).0))
+        (file_now s.records m.records s.shape format.properties_file (e.id ∷ []) [] drops.changes.properties (ids_of front ++ ids_of back)
+        (λ x i. (id_kept x (in_either x (ids_of front) (ids_of back) i)).0))
         (keeps_file s.records m.records s.shape format.strings_file e.blocks [] drops.changes.strings) kept.0
-        (subst (λ r. field 1 r format.kind ≢ format.free_kind) (sym kept.1) (used-content (rec_at s.records format.properties_file last.id) _ (last_property before (subst (AreLinked (property_records s.records)) whole (are_parts s owner es owns front e back all).linked)))) small to_low in
+        (subst (λ r. field 1 r format.kind ≢ format.free_kind) (sym kept.1) (used-content (rec_at s.records format.properties_file last.id) _
+        (last_property before (subst (AreLinked (property_records s.records)) whole (are_parts s owner es owns front e back all).linked)))) small to_low in
         let changes = records_then s.records m.records t.records s.shape (ids_of es) (ids_of (front ++ back)) (ids_of (front ++ back)) (blocks_of es)
         (blocks_of (front ++ back)) (blocks_of (front ++ back)) (last.id ∷ []) (last.id ∷ []) [] []
-        (replaces_same (ids_of (front ++ back)) (last.id ∷ []) (λ x i. ⊎_elim (λ (q : x ≡ last.id). subst (λ z. In z (ids_of (front ++ back))) (sym q) (last_left)) (λ j. elim j [ ]) i))
+        (replaces_same (ids_of (front ++ back)) (last.id ∷ []) (λ x i. ⊎_elim (λ (q : x ≡ last.id). subst (λ z. In z (ids_of (front ++ back))) (sym q)
+        (last_left)) (λ j. elim j [ ]) i))
         (replaces_same (blocks_of (front ++ back)) [] (λ x i. elim i [ ])) taken_out moved in
         record {
           last = t;
           changes = changes;
           set = first_kept s owner es owns is t (front ++ back) changes
-              (owns.held.are.first_is ∙ ap first_property all ∙ ap (λ z. first_property (z ++ e ∷ back)) front_is ∙ first_behind before last (e ∷ back) back ∙ ap (λ z. first_property (z ++ back)) (sym front_is));
+              (owns.held.are.first_is ∙ ap first_property all ∙ ap (λ z. first_property (z ++ e ∷ back)) front_is ∙ first_behind before last (e ∷ back) back
+              ∙ ap (λ z. first_property (z ++ back)) (sym front_is));
           linked = subst (AreLinked (property_records t.records)) (sym left)
               (linked_around (property_records s.records) (property_records t.records) before last e back to to_is small
-              (λ x i. link_others m t s.shape last.id to set (key_in format.properties_file x) (λ q. not_last x i (ap (λ (k : Key). k.id) q)) ∙ (id_kept x (⊎_elim (λ b. inl (in_front x b)) (λ b. inr b) i)).1)
-              (λ b i. string_same b ∙ (block_kept b (⊎_elim (λ z. inl (block_front b (inl z))) (λ z. ⊎_elim (λ l. inl (block_front b (inr l))) (λ k. inr k) z) i)).1)
+              (λ x i. link_others m t s.shape last.id to set (key_in format.properties_file x) (λ q. not_last x i (ap (λ (k : Key). k.id) q)) ∙
+              (id_kept x (⊎_elim (λ b. inl (in_front x b)) (λ b. inr b) i)).1)
+              (λ b i. string_same b ∙ (block_kept b (⊎_elim (λ z. inl (block_front b (inl z))) (λ z. ⊎_elim (λ l. inl (block_front b (inr l))) (λ k. inr k) z)
+              i)).1)
               (link_here m t s.shape last.id to set ∙ ap (λ r. with_field 4 r format.property_next to) kept.1)
               (subst (AreLinked (property_records s.records)) whole (are_parts s owner es owns front e back all).linked));
         }
@@ -145,7 +153,8 @@ module _ (s : State) (owner : Owner) (is : IsOwner owner) (es : List Property) (
         last_property (b ∷ before) h = last_property before h.1
 
         last_left : In last.id (ids_of (front ++ back))
-        last_left = subst (λ z. In last.id (ids_of z)) (sym left) (subst (In last.id) (sym (ids_parts before last back)) (in_right last.id (ids_of before) ((last.id ∷ []) ++ ids_of back) (inl refl)))
+        last_left = subst (λ z. In last.id (ids_of z)) (sym left) (subst (In last.id) (sym (ids_parts before last back)) (in_right last.id (ids_of before)
+            ((last.id ∷ []) ++ ids_of back) (inl refl)))
 
   relinked : (link : Link) → link ≡ link_after (link_of owner) front → t ≡ after_set m link.key 4 link.field to → Relinked
   relinked link link_is set = ⊎_elim
@@ -167,7 +176,8 @@ module _ (s : State) (owner : Owner) (is : IsOwner owner) (es : List Property) (
         rest = back;
         found = record { all = all; key_is = key_is };
         changes = list_changed s owner es owns is r.last (front ++ back) r.changes t r.set
-            (without_one (property_records s.records) (property_records r.last.records) (first_of s.records owner) front e back (are_parts s owner es owns front e back all) r.linked)
+            (without_one (property_records s.records) (property_records r.last.records) (first_of s.records owner) front e back
+            (are_parts s owner es owns front e back all) r.linked)
             (λ k i. owns.known k (subst (λ z. In k (keys_of z)) (sym all) (fewer_keys front e back k i)));
         released_is = drops.released_is;
       }

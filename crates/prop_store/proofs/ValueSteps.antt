@@ -102,7 +102,8 @@ module _ (old new : State) (owner : Owner) (es : List Property) (key : ℕ) (nod
       once = subst (λ ps. AreOnce (keys_of ps)) gone.found.all gone.changes.was.keys_once
 
       none : value_in (gone.before ++ gone.rest) key ≡ None
-      none = value_behind gone.before gone.rest key (λ i. once_before gone.before gone.was gone.rest once (subst (λ k. In k (keys_of gone.before)) (sym gone.found.key_is) i))
+      none = value_behind gone.before gone.rest key (λ i. once_before gone.before gone.was gone.rest once (subst (λ k. In k (keys_of gone.before))
+          (sym gone.found.key_is) i))
           ∙ value_lacked gone.rest key (λ i. once_after gone.before gone.was gone.rest once (subst (λ k. In k (keys_of gone.rest)) (sym gone.found.key_is) i))
 
       same : (k : ℕ) → k ≢ key → value_in (gone.before ++ gone.rest) k ≡ value_in es k
@@ -113,7 +114,8 @@ pub drops_values : (old new : State) (owner : Owner) (es : List Property) (dropp
     → KeepsRules old.records old.shape most empty → DropsAllAlone old new owner es dropped
     → (l k n : ℕ) → node_value new.records l k n ≡ cond (nat_eq n owner.key.id) None (node_value old.records l k n)
 drops_values old new owner es dropped node well drops l k n = ⊎_elim
-    (λ (here : n ≡ owner.key.id). ap (node_value new.records l k) here ∙ value_now old.records new.records old.shape owner.key.file owner.key.id es [] drops.changes well node l k ∙ both (nat_eq (field 4 (rec_at old.records format.nodes_file owner.key.id) format.node_label) l) None refl
+    (λ (here : n ≡ owner.key.id). ap (node_value new.records l k) here ∙ value_now old.records new.records old.shape owner.key.file owner.key.id es []
+    drops.changes well node l k ∙ both (nat_eq (field 4 (rec_at old.records format.nodes_file owner.key.id) format.node_label) l) None refl
     ∙ sym (ap (λ b. cond b None (node_value old.records l k n)) (eq_true n owner.key.id here)))
     (λ (other : n ≢ owner.key.id). value_elsewhere old.records new.records old.shape owner.key.file owner.key.id es [] drops.changes well node l k n other
     ∙ sym (ap (λ b. cond b None (node_value old.records l k n)) (eq_false n owner.key.id other)))

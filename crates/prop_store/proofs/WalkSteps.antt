@@ -28,7 +28,15 @@ pub record Walked (files : PropertyRecords) (es : List Property) (at count : ℕ
 
 pub walk_begins : (files : PropertyRecords) (first at : ℕ) (es : List Property) (P : List Property → Type 0) → at ≡ first → AreProperties files first es → P []
     → Walked files es at 0 P
-walk_begins files first at es P is are kept = record { passed = []; left = es; all = refl; linked = are.linked; at_is = is ∙ are.first_is; count_is = refl; kept = kept }
+walk_begins files first at es P is are kept = record {
+  passed = [];
+  left = es;
+  all = refl;
+  linked = are.linked;
+  at_is = is ∙ are.first_is;
+  count_is = refl;
+  kept = kept;
+}
 
 -- the property at hand
 pub record WalkHere (files : PropertyRecords) (es : List Property) (at count : ℕ) (P : List Property → Type 0) : Type 0 where
@@ -48,7 +56,17 @@ walk_here files es at count P some w = open_here w.left w.all w.linked w.at_is
   where
     open_here : (left : List Property) → es ≡ w.passed ++ left → AreLinked files left → at ≡ first_property left → WalkHere files es at count P
     open_here [] all linked is = absurd (some is)
-    open_here (e ∷ later) all linked is = record { passed = w.passed; property = e; later = later; all = all; is = linked.0; linked = linked.1; at_is = is; count_is = w.count_is; kept = w.kept }
+    open_here (e ∷ later) all linked is = record {
+      passed = w.passed;
+      property = e;
+      later = later;
+      all = all;
+      is = linked.0;
+      linked = linked.1;
+      at_is = is;
+      count_is = w.count_is;
+      kept = w.kept;
+    }
 
 -- it is one of them, so fewer were passed
 pub fewer_passed : (files : PropertyRecords) (es : List Property) (at count : ℕ) (P : List Property → Type 0) → WalkHere files es at count P → count < length es
@@ -107,10 +125,15 @@ pub right_property : (records now : Records) (owner : Owner) (es : List Property
 right_property records now owner es at count P same has here =
     subst (λ (r : Records). IsGivenOut r format.properties_file at × HasContent (rec_at r format.properties_file at)) (sym same) (
       record {
-        low = has.ids_low at (subst (λ z. In z (ids_of es)) (sym here.at_is) (subst (λ z. In here.property.id (ids_of z)) (sym here.all) (id_in here.passed here.property here.later)));
+        low = has.ids_low at (subst (λ z. In z (ids_of es)) (sym here.at_is) (subst (λ z. In here.property.id (ids_of z)) (sym here.all)
+            (id_in here.passed here.property here.later)));
         small = subst (λ z. z < format.most_ids) (sym here.at_is) here.is.low;
       },
-      record { content = content_for here.property.value (head_of here.property.blocks); is = ap (λ z. content_of (rec_at records format.properties_file z)) here.at_is ∙ here.is.content },
+      record {
+        content = content_for here.property.value (head_of here.property.blocks);
+        is = ap (λ z. content_of (rec_at records format.properties_file z))
+            here.at_is ∙ here.is.content;
+      },
     )
 
 -- its record and its blocks have its value

@@ -18,7 +18,13 @@ reads_write n s t same = record { keys = []; few = omega arith; own = tt; only =
 
 -- one record
 pub one_writes : (s t : State) (key : Key) → is_meta_file key.file ≡ true → WritesOnly s t (key ∷ []) → WritesAtMost 1 s t
-one_writes s t key is only = record { keys = key ∷ []; few = omega arith; own = (is, tt); only = writes_more s t (key ∷ []) (key ∷ meta_keys) (λ q i. among_left q (key ∷ []) meta_keys i) only }
+one_writes s t key is only = record {
+  keys = key ∷ [];
+  few = omega arith;
+  own = (is, tt);
+  only = writes_more s t (key ∷ []) (key ∷ meta_keys)
+      (λ q i. among_left q (key ∷ []) meta_keys i) only;
+}
 
 own_both : (xs ys : List Key) → AreOwn xs → AreOwn ys → AreOwn (xs ++ ys)
 own_both [] ys p q = q
@@ -73,7 +79,8 @@ module _ (ids blocks : List ℕ) where
       let strings = map (key_in format.strings_file) blocks in
       let here : IsAmong q (named ids blocks) → IsAmong q (named ids blocks ++ meta_keys) = λ j. among_left q (named ids blocks) meta_keys j in
       ⊎_elim (λ j. here (among_left q (map (key_in format.properties_file) ids) strings j))
-      (λ j. ⊎_elim (λ k. here (among_right q (map (key_in format.properties_file) ids) strings k)) (λ k. among_right q (named ids blocks) meta_keys (own_metas q k)) (among_either q strings _ j))
+      (λ j. ⊎_elim (λ k. here (among_right q (map (key_in format.properties_file) ids) strings k)) (λ k. among_right q (named ids blocks) meta_keys
+      (own_metas q k)) (among_either q strings _ j))
       (among_either q (map (key_in format.properties_file) ids) _ i)
 
 -- properties and blocks

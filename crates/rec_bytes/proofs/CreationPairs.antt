@@ -27,7 +27,8 @@ meta_pairs files = map (λ (room : _). (meta_key_of room.0, first_meta room.0)) 
 pub creation_pairs-merged : (shape : Shape) (files : List RecordFile) → rooms_of files ≡ meta_rooms
     → merged (with_pair [] own_key (shape_record shape)) (meta_pairs files) ≡ creation_pairs shape
 unfolding with_pair
-creation_pairs-merged shape files e = ap (λ (rooms : Rooms). merged (with_pair [] own_key (shape_record shape)) (map (λ room. (meta_key_of room.0, first_meta room.0)) rooms)) e
+creation_pairs-merged shape files e = ap (λ (rooms : Rooms). merged (with_pair [] own_key (shape_record shape))
+    (map (λ room. (meta_key_of room.0, first_meta room.0)) rooms)) e
 
 -- the two records of the raise, put one by one
 pub raising_pairs-put : (shape : Shape) → with_pair (with_pair [] own_key (shape_record shape)) (meta_key_of index_file) (first_meta index_file) ≡ raising_pairs
@@ -82,7 +83,8 @@ first_rest : (file : ℕ) → zeros_from (rest_of file) (first_meta file) ≡ tr
 unfolding zeros_from with_field with_bytes as_64
 first_rest file = pick (has_definition file)
   where
-    pick : (b : Bool) → zeros_from (cond b meta_index_rest meta_rest) (cond b (with_field 4 (meta_record empty_meta) meta_definition nil) (meta_record empty_meta)) ≡ true
+    pick : (b : Bool) → zeros_from (cond b meta_index_rest meta_rest) (cond b (with_field 4 (meta_record empty_meta) meta_definition nil)
+        (meta_record empty_meta)) ≡ true
     pick true = refl
     pick false = refl
 
@@ -93,6 +95,7 @@ IsMetaInRange-empty shape file =
     record {
       high = omega arith;
       free = inl (ap (λ (m : Meta). m.free) read);
-      first = λ is. inl (ap (λ (b : Bool). field 4 (cond b (with_field 4 (meta_record empty_meta) meta_definition nil) (meta_record empty_meta)) meta_definition) is ∙ field-with_field_same 4 (meta_record empty_meta) meta_definition nil (omega arith) (omega arith));
+      first = λ is. inl (ap (λ (b : Bool). field 4 (cond b (with_field 4 (meta_record empty_meta) meta_definition nil) (meta_record empty_meta))
+          meta_definition) is ∙ field-with_field_same 4 (meta_record empty_meta) meta_definition nil (omega arith) (omega arith));
       rest = first_rest file;
     }

@@ -91,8 +91,10 @@ wrote_then s t u xs ys files n m w are le v = record {
   few = let f = w.few in let g = v.few in omega (arith, length-append w.others v.others);
   own = of_both files w.others v.others w.own v.own;
   each = λ q. ⊎_elim
-      (λ same. ⊎_elim (λ also. inl (same_then q same also)) (λ i. inr (among_either q v.others ys (λ k. among_left q (w.others ++ v.others) ys (among_right q w.others v.others k)) (λ k. among_right q (w.others ++ v.others) ys k) i)) (v.each q))
-      (λ i. inr (among_either q w.others xs (λ k. among_left q (w.others ++ v.others) ys (among_left q w.others v.others k)) (λ k. among_right q (w.others ++ v.others) ys (among_more q xs ys are k)) i)) (w.each q);
+      (λ same. ⊎_elim (λ also. inl (same_then q same also)) (λ i. inr (among_either q v.others ys (λ k. among_left q (w.others ++ v.others) ys
+      (among_right q w.others v.others k)) (λ k. among_right q (w.others ++ v.others) ys k) i)) (v.each q))
+      (λ i. inr (among_either q w.others xs (λ k. among_left q (w.others ++ v.others) ys (among_left q w.others v.others k))
+      (λ k. among_right q (w.others ++ v.others) ys (among_more q xs ys are k)) i)) (w.each q);
 }
 
 -- a read, and then others

@@ -132,7 +132,8 @@ written_here (x ∷ hints) (suc slot) hint positive = written_here hints slot hi
 pub marked_kept : (old new : List ℕ) (slot hint : ℕ) → 0 < hint → new ≡ set old slot hint → (q : Key) → IsMarked old q → IsMarked new q
 marked_kept old new slot hint positive is q h =
     subst (λ z. IsMarked z q) (sym is)
-    (subst (λ n. 0 < get_or (set old slot hint) (slot_of n q) 1) (sym (length-set old slot hint)) (written_kept old slot hint (slot_of (length old) q) positive h))
+    (subst (λ n. 0 < get_or (set old slot hint) (slot_of n q) 1) (sym (length-set old slot hint)) (written_kept old slot hint (slot_of (length old) q)
+    positive h))
 
 pub marked_here : (old new : List ℕ) (key : Key) (hint : ℕ) → 0 < hint → new ≡ set old (slot_of (length old) key) hint → IsMarked new key
 marked_here old new key hint positive is =

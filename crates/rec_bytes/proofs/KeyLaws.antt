@@ -19,7 +19,8 @@ key_eq-other a b ne = ⊎_elim
     (nat_cases a.file b.file)
   where
     nat_cases : (m n : ℕ) → (m ≡ n) ⊎ (m ≢ n)
-    nat_cases m n = ⊎_elim (λ (lt : m < n). inr (λ e. omega arith)) (λ (ge : n ≤ m). ⊎_elim (λ (lt : n < m). inr (λ e. omega arith)) (λ (le : m ≤ n). inl (omega arith)) (cases_lt n m)) (cases_lt m n)
+    nat_cases m n = ⊎_elim (λ (lt : m < n). inr (λ e. omega arith)) (λ (ge : n ≤ m). ⊎_elim (λ (lt : n < m). inr (λ e. omega arith))
+        (λ (le : m ≤ n). inl (omega arith)) (cases_lt n m)) (cases_lt m n)
 
 pub key_eq_true : (a b : Key) → key_eq a b ≡ true → a ≡ b
 key_eq_true a b h =

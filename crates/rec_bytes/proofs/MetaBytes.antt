@@ -33,7 +33,12 @@ length-meta_bytes : (m : Meta) → length (meta_bytes m) ≡ 12
 unfolding meta_bytes
 length-meta_bytes m =
     let a = length-bytes_low_first 0 4 m.high in let b = length-bytes_low_first 0 4 m.free in let c = length-bytes_low_first 0 4 m.live in
-    omega (arith, length-append ([] ++ little_bytes 4 m.high ++ little_bytes 4 m.free) (little_bytes 4 m.live), length-append ([] ++ little_bytes 4 m.high) (little_bytes 4 m.free))
+    omega (
+      arith,
+      length-append ([] ++ little_bytes 4 m.high ++ little_bytes 4 m.free) (little_bytes 4 m.live),
+      length-append ([] ++ little_bytes 4 m.high)
+          (little_bytes 4 m.free),
+    )
 
 with_meta-is : (r : Rec) (m : Meta) → with_meta r m ≡ record { bytes = meta_bytes m ++ drop 12 (as_64 r.bytes) }
 unfolding with_field meta_bytes
@@ -96,7 +101,15 @@ zeros_from-with_field n r at value place behind inside zeros =
     let is : with_bytes xs at bs ≡ front ++ drop (at + n) xs
     = with_bytes-is xs at bs (omega (arith, lb, long, behind, inside)) ∙ ap (λ k. take at xs ++ (bs ++ drop (at + k) xs)) lb
     ∙ sym (append_assoc (take at xs) bs (drop (at + n) xs)) in
-    let whole : length (front ++ drop (at + n) xs) ≡ 64 = omega (arith, length-append front (drop (at + n) xs), la, length-drop (at + n) xs, long, behind, inside) in
+    let whole : length (front ++ drop (at + n) xs) ≡ 64 = omega (
+      arith,
+      length-append front (drop (at + n) xs),
+      la,
+      length-drop (at + n) xs,
+      long,
+      behind,
+      inside,
+    ) in
     let split : at + n + (place - (at + n)) ≡ place = omega (arith, behind) in
     let same : drop place (as_64 (with_bytes xs at bs)) ≡ drop place xs
     = ap (λ ys. drop place (as_64 ys)) is ∙ ap (drop place) (as_64-whole (front ++ drop (at + n) xs) whole)

@@ -33,7 +33,8 @@ unfolding as_64
 get_or-as_64 xs k lt =
     get_or-take 64 (xs ++ replicate 64 0) k 0 lt ∙ ⊎_elim
     (λ (inside : k < length xs). get_or_append_left xs (replicate 64 0) 0 k inside)
-    (λ (past : length xs ≤ k). get_or-append_right xs (replicate 64 0) (length xs) k 0 refl past ∙ get_or-replicate 64 (k - length xs) 0 0 (omega arith) ∙ sym (get_or_past xs k 0 past))
+    (λ (past : length xs ≤ k). get_or-append_right xs (replicate 64 0) (length xs) k 0 refl past ∙ get_or-replicate 64 (k - length xs) 0 0 (omega arith) ∙ sym
+    (get_or_past xs k 0 past))
     (cases_lt k (length xs))
 
 pub as_64-whole : (xs : List ℕ) → length xs ≡ 64 → as_64 xs ≡ xs
@@ -111,7 +112,8 @@ put_mid-field n r at value rest fits long is =
     ∙ ap (λ e. little_bytes n value ++ e) tail in
     let mid : with_bytes r.bytes at (little_bytes n value) ≡ take at r.bytes ++ (little_bytes n value ++ drop (at + n) r.bytes)
     = with_bytes-is r.bytes at (little_bytes n value) (omega arith) ∙ ap (λ k. take at r.bytes ++ (little_bytes n value ++ drop (at + k) r.bytes)) bytes in
-    ap (λ b. record { bytes = b }) (ap (λ e. take at r.bytes ++ e) all ∙ sym mid ∙ ap (λ xs. with_bytes xs at (little_bytes n value)) (sym (as_64-whole r.bytes long)))
+    ap (λ b. record { bytes = b }) (ap (λ e. take at r.bytes ++ e) all ∙ sym mid ∙ ap (λ xs. with_bytes xs at (little_bytes n value))
+    (sym (as_64-whole r.bytes long)))
 
 -- a number that was read from the rest of the bytes
 pub field-read : (n : ℕ) (r : Rec) (at value : ℕ) → length r.bytes ≡ 64 → value ≡ little_number n (take (64 - at) (drop at r.bytes)) → value < 256 ^ n

@@ -74,10 +74,12 @@ in_order-set ps (p ∷ order) key pair zero places rising h =
 in_order-set ps (p ∷ order) key pair (suc i) places rising h =
     let place = get_or order i 0 in
     let held : (get_or ps place no_pair).0 ≡ key =
-    ap (λ (q : Key × Rec). q.0) (sym (get_or-in_order ps order i no_pair (subst (λ n. i < n) (length-in_order ps order) (place_in_range (in_order ps order) key i h.1))))
+    ap (λ (q : Key × Rec). q.0) (sym (get_or-in_order ps order i no_pair (subst (λ n. i < n) (length-in_order ps order) (place_in_range (in_order ps order)
+    key i h.1))))
     ∙ key_of_place (in_order ps order) key i no_pair h.1 in
     ap (λ z. z ∷ in_order (set ps place pair) order)
-    (get_or-set_other ps place p pair no_pair (other_place ps place p Greater (λ e. cc) (subst (λ k. key_cmp k (get_or ps p no_pair).0 ≡ Greater) (sym held) h.0)))
+    (get_or-set_other ps place p pair no_pair (other_place ps place p Greater (λ e. cc) (subst (λ k. key_cmp k (get_or ps p no_pair).0 ≡ Greater) (sym held)
+    h.0)))
     ∙ ap (λ z. get_or ps p no_pair ∷ z) (in_order-set ps order key pair i places.1 rising.1 h.1)
 
 pub place_within : (ps : Pairs) (order : List ℕ) (i : ℕ) → i < length (in_order ps order) → i < length order

@@ -24,7 +24,8 @@ pub keys_total : IsTotalOrder key_cmp
 keys_total = then_total (on_total (λ (k : Key). k.file) nat_cmp_total) (on_total (λ (k : Key). k.id) nat_cmp_total)
 
 pub exact_keys : (a b : Key) → key_cmp a b ≡ Equal → a ≡ b
-exact_keys a b h = ap (λ (p : ℕ × ℕ). record { file = p.0; id = p.1 }) (exact_pairs nat_cmp nat_cmp exact_unsigned exact_unsigned (a.file, a.id) (b.file, b.id) h)
+exact_keys a b h = ap (λ (p : ℕ × ℕ). record { file = p.0; id = p.1 }) (exact_pairs nat_cmp nat_cmp exact_unsigned exact_unsigned (a.file, a.id) (b.file, b.id)
+    h)
 
 pub same_cmp : (a b : Key) → a ≡ b → key_cmp a b ≡ Equal
 same_cmp a b e = subst (λ q. key_cmp a q ≡ Equal) e (tied_itself keys_total a)
@@ -99,9 +100,11 @@ ordered_with (pair ∷ rest) key rec h = by_cmp key pair.0 (IsOrdered (with_pair
 pub find_with : (ps : Pairs) (key : Key) (rec : Rec) (q : Key) → find_pair (with_pair ps key rec) q ≡ cond (key_eq q key) (Some rec) (find_pair ps q)
 unfolding with_pair
 find_with [] key rec q = refl
-find_with (pair ∷ rest) key rec q = by_cmp key pair.0 (find_pair (with_pair (pair ∷ rest) key rec) q ≡ cond (key_eq q key) (Some rec) (find_pair (pair ∷ rest) q))
+find_with (pair ∷ rest) key rec q = by_cmp key pair.0 (find_pair (with_pair (pair ∷ rest) key rec) q ≡ cond (key_eq q key) (Some rec) (find_pair (pair ∷ rest)
+    q))
     (λ e. rw (step pair rest key rec Less e) refl)
-    (λ e. rw (step pair rest key rec Equal e) (subst (λ z. cond (key_eq q key) (Some rec) (find_pair rest q) ≡ cond (key_eq q key) (Some rec) (cond (key_eq q z) (Some pair.1) (find_pair rest q))) (exact_keys key pair.0 e) (twice (key_eq q key) (Some rec) (Some pair.1) (find_pair rest q))))
+    (λ e. rw (step pair rest key rec Equal e) (subst (λ z. cond (key_eq q key) (Some rec) (find_pair rest q) ≡ cond (key_eq q key) (Some rec)
+    (cond (key_eq q z) (Some pair.1) (find_pair rest q))) (exact_keys key pair.0 e) (twice (key_eq q key) (Some rec) (Some pair.1) (find_pair rest q))))
     (λ e. rw (step pair rest key rec Greater e) (ap (cond (key_eq q pair.0) (Some pair.1)) (find_with rest key rec q)
     ∙ swap (key_eq q pair.0) (key_eq q key) (Some pair.1) (Some rec) (find_pair rest q)
     (λ h. subst (λ z. key_eq z key ≡ false) (sym (key_eq_true q pair.0 h)) (apart pair.0 key Less (reverse key pair.0 Greater e) (λ x. cc)))))
@@ -122,7 +125,10 @@ below_at b (pair ∷ rest) (suc j) d h lt = below_at b rest j d h.1 (omega arith
 pub place_of : (ps : Pairs) (key : Key) (i : ℕ) (d : Key × Rec) → IsOrdered ps → i < length ps → (get_or ps i d).0 ≡ key → IsPlaceOf ps key i
 place_of [] key i d h lt e = absurd (omega arith)
 place_of (pair ∷ rest) key zero d h lt e = sym e
-place_of (pair ∷ rest) key (suc i) d h lt e = (reverse pair.0 key Less (subst (λ q. key_cmp pair.0 q ≡ Less) e (below_at pair.0 rest i d h.0 (omega arith))), place_of rest key i d h.1 (omega arith) e)
+place_of (pair ∷ rest) key (suc i) d h lt e = (
+  reverse pair.0 key Less (subst (λ q. key_cmp pair.0 q ≡ Less) e (below_at pair.0 rest i d h.0 (omega arith))),
+  place_of rest key i d h.1 (omega arith) e,
+)
 
 below_from : (ps : Pairs) (key : Key) (d : Key × Rec) → ((k : ℕ) → k < length ps → key_cmp (get_or ps k d).0 key ≡ Greater) → IsBelow key ps
 below_from [] key d h = tt
@@ -179,7 +185,8 @@ search_greater ps key d low high i h searching ge lt greater = record {
   within = omega (arith, searching.within);
   below = searching.below;
   above = λ k from within. ⊎_elim
-      (λ (past : i < k). reverse key (get_or ps k d).0 Less (keys_total.trans key (get_or ps i d).0 (get_or ps k d).0 (reverse (get_or ps i d).0 key Greater greater) (rises ps i k d h past within)))
+      (λ (past : i < k). reverse key (get_or ps k d).0 Less (keys_total.trans key (get_or ps i d).0 (get_or ps k d).0 (reverse (get_or ps i d).0 key Greater
+      greater) (rises ps i k d h past within)))
       (λ (here : k ≤ i). let same : i ≡ k = omega arith in subst (λ j. key_cmp (get_or ps j d).0 key ≡ Greater) same greater)
       (cases_lt i k);
 }
@@ -230,9 +237,12 @@ pub with_twice : (ps : Pairs) (key : Key) (a b : Rec) → with_pair (with_pair p
 unfolding with_pair
 with_twice [] key a b = step (key, a) [] key b Equal (same_cmp key key refl)
 with_twice (pair ∷ rest) key a b = by_cmp key pair.0 (with_pair (with_pair (pair ∷ rest) key a) key b ≡ with_pair (pair ∷ rest) key b)
-    (λ e. ap (λ z. with_pair z key b) (step pair rest key a Less e) ∙ step (key, a) (pair ∷ rest) key b Equal (same_cmp key key refl) ∙ sym (step pair rest key b Less e))
-    (λ e. ap (λ z. with_pair z key b) (step pair rest key a Equal e) ∙ step (key, a) rest key b Equal (same_cmp key key refl) ∙ sym (step pair rest key b Equal e))
-    (λ e. ap (λ z. with_pair z key b) (step pair rest key a Greater e) ∙ step pair (with_pair rest key a) key b Greater e ∙ ap (λ z. pair ∷ z) (with_twice rest key a b) ∙ sym (step pair rest key b Greater e))
+    (λ e. ap (λ z. with_pair z key b) (step pair rest key a Less e) ∙ step (key, a) (pair ∷ rest) key b Equal (same_cmp key key refl) ∙ sym
+    (step pair rest key b Less e))
+    (λ e. ap (λ z. with_pair z key b) (step pair rest key a Equal e) ∙ step (key, a) rest key b Equal (same_cmp key key refl) ∙ sym
+    (step pair rest key b Equal e))
+    (λ e. ap (λ z. with_pair z key b) (step pair rest key a Greater e) ∙ step pair (with_pair rest key a) key b Greater e ∙ ap (λ z. pair ∷ z)
+    (with_twice rest key a b) ∙ sym (step pair rest key b Greater e))
 
 -- the pair at the place has the key
 pub key_of_place : (ps : Pairs) (key : Key) (i : ℕ) (d : Key × Rec) → IsPlaceOf ps key i → (get_or ps i d).0 ≡ key
@@ -267,7 +277,8 @@ growth_by-same : (ps qs : Pairs) (key : Key) (other : Pairs) → IsBelow key oth
 growth_by-same ps qs key [] below h same = refl
 growth_by-same ps qs key (pair ∷ rest) below h same =
     let later = growth_by-same (with_pair ps pair.0 pair.1) (with_pair qs pair.0 pair.1) pair.0 rest h.0 h.1
-    (λ q greater. ap is_some (find_with ps pair.0 pair.1 q) ∙ some_of (key_eq q pair.0) (Some pair.1) (find_pair ps q) (find_pair qs q) (same q (keys_total.trans key pair.0 q below.0 greater))
+    (λ q greater. ap is_some (find_with ps pair.0 pair.1 q) ∙ some_of (key_eq q pair.0) (Some pair.1) (find_pair ps q) (find_pair qs q)
+    (same q (keys_total.trans key pair.0 q below.0 greater))
     ∙ ap is_some (sym (find_with qs pair.0 pair.1 q))) in
     ap (λ b. cond b 0 1 + growth_by (with_pair ps pair.0 pair.1) rest) (same pair.0 below.0) ∙ ap (λ n. growth qs pair.0 + n) later
   where

@@ -61,7 +61,8 @@ put_held records key rec e = λ i q. held q (key_eq q key) (λ t. ap records (ke
 -- written records over others: one more, and those of another set
 pub laid_over-with_pair : (records : Key → Rec) (pairs : Pairs) (key : Key) (rec : Rec)
     → laid_over records (with_pair pairs key rec) ≡ put (laid_over records pairs) key rec
-laid_over-with_pair records pairs key rec = λ i q. (ap (λ (o : Option Rec). unwrap_or o (records q)) (find_with pairs key rec q) ∙ same (key_eq q key) (find_pair pairs q) (records q)) i
+laid_over-with_pair records pairs key rec = λ i q. (ap (λ (o : Option Rec). unwrap_or o (records q)) (find_with pairs key rec q) ∙ same (key_eq q key)
+    (find_pair pairs q) (records q)) i
   where
     same : (t : Bool) (o : Option Rec) (below : Rec) → unwrap_or (cond t (Some rec) o) below ≡ cond t rec (unwrap_or o below)
     same true o below = refl
@@ -69,7 +70,8 @@ laid_over-with_pair records pairs key rec = λ i q. (ap (λ (o : Option Rec). un
 
 pub laid_over-merged : (records : Key → Rec) (pairs later : Pairs) → IsOrdered later
     → laid_over records (merged pairs later) ≡ laid_over (laid_over records pairs) later
-laid_over-merged records pairs later rises = λ i q. (ap (λ (o : Option Rec). unwrap_or o (records q)) (find_merged pairs later q rises) ∙ same (find_pair later q) (find_pair pairs q) (records q)) i
+laid_over-merged records pairs later rises = λ i q. (ap (λ (o : Option Rec). unwrap_or o (records q)) (find_merged pairs later q rises) ∙ same
+    (find_pair later q) (find_pair pairs q) (records q)) i
   where
     same : (o p : Option Rec) (below : Rec) → unwrap_or (option_or o p) below ≡ unwrap_or o (unwrap_or p below)
     same (Some x) p below = refl

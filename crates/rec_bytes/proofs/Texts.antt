@@ -38,7 +38,8 @@ text_in-with_text_same r at text fits =
     let xs = as_64 r.bytes in
     let long : length xs ≡ 64 = length-as_64 r.bytes in
     let front : length (take at xs) ≡ at = length-take-le at xs (omega arith) in
-    ap (λ ys. take (length text) (drop at ys)) (as_64-whole (with_bytes xs at text) (length-with_bytes xs at text ∙ long) ∙ with_bytes-is xs at text (omega arith))
+    ap (λ ys. take (length text) (drop at ys)) (as_64-whole (with_bytes xs at text) (length-with_bytes xs at text ∙ long) ∙ with_bytes-is xs at text
+    (omega arith))
     ∙ ap (take (length text)) (drop_at (take at xs) (text ++ drop (at + length text) xs) at front)
     ∙ take_at text (drop (at + length text) xs) (length text) refl
 
@@ -76,4 +77,5 @@ unfolding with_text
 put_mid-with_text r at text fits long =
     let n : at + length text - at ≡ length text = omega arith in
     let is : with_bytes r.bytes at text ≡ take at r.bytes ++ (text ++ drop (at + length text) r.bytes) = with_bytes-is r.bytes at text (omega arith) in
-    ap (λ b. record { bytes = b }) (ap (λ k. take at r.bytes ++ (text ++ drop k (drop at r.bytes))) n ∙ ap (λ e. take at r.bytes ++ (text ++ e)) (drop-drop (length text) at r.bytes) ∙ sym is ∙ ap (λ xs. with_bytes xs at text) (sym (as_64-whole r.bytes long)))
+    ap (λ b. record { bytes = b }) (ap (λ k. take at r.bytes ++ (text ++ drop k (drop at r.bytes))) n ∙ ap (λ e. take at r.bytes ++ (text ++ e))
+    (drop-drop (length text) at r.bytes) ∙ sym is ∙ ap (λ xs. with_bytes xs at text) (sym (as_64-whole r.bytes long)))

@@ -17,7 +17,8 @@ each_below test zero file all below = absurd (omega (arith, below))
 each_below test (suc n) file all below = pick (test n) refl all (each_below test n file)
   where
     pick : (here : Bool) → test n ≡ here → (here && all_below test n) ≡ true → (all_below test n ≡ true → file < n → test file ≡ true) → test file ≡ true
-    pick true is rest later = ⊎_elim (λ earlier. later rest earlier) (λ last. let same : n ≡ file = omega (arith, below, last) in subst (λ f. test f ≡ true) same is) (cases_lt file n)
+    pick true is rest later = ⊎_elim (λ earlier. later rest earlier) (λ last. let same : n ≡ file = omega (arith, below, last) in subst (λ f. test f ≡ true)
+        same is) (cases_lt file n)
     pick false is rest later = absurd cc
 
 pub IsFile-record : (file : ℕ) → is_record_file file ≡ true → IsFile file

@@ -38,7 +38,8 @@ pub part_is : (id : ℕ) (bytes : List ℕ) (content : Files) → id < meta_reco
 part_is id bytes content below whole holds =
     let start : id * 64 ≡ 64 * id = omega arith in
     record_at-read (meta_key_of id) (take 64 (drop (id * 64) bytes)) content refl (simp (length-take, length-drop) (omega (arith, whole, below)))
-    (subst (λ n. Holds meta_file n (take 64 (drop (id * 64) bytes)) content) (omega arith) (Holds-part meta_file 0 (id * 64) 64 bytes content (omega (arith, whole, below)) holds))
+    (subst (λ n. Holds meta_file n (take 64 (drop (id * 64) bytes)) content) (omega arith) (Holds-part meta_file 0 (id * 64) 64 bytes content
+    (omega (arith, whole, below)) holds))
 
 -- one record more is set
 pub slice_get-set : (xs : List Rec) (i k : ℕ) (x : Rec) (wanted : ℕ → Rec) → i < length xs → x ≡ wanted i → ((j : ℕ) → j < i → slice_get xs j ≡ Some (wanted j))

@@ -32,7 +32,8 @@ unfolding record_at
 record_at-none key content file = ap (λ b. cond b (let r : Rec = record { bytes = bytes_from (content key.file) (64 * key.id) 64 } in r) zeros) file
 
 -- the same bytes of a record, where it has any
-pub record_at-same : (key : Key) (old new : Files) → (is_record_file key.file ≡ true → (p : ℕ) → 64 * key.id ≤ p → p < 64 * key.id + 64 → new key.file p ≡ old key.file p) → record_at new key ≡ record_at old key
+pub record_at-same : (key : Key) (old new : Files) → (is_record_file key.file ≡ true → (p : ℕ) → 64 * key.id ≤ p → p < 64 * key.id + 64 → new key.file p ≡ old
+    key.file p) → record_at new key ≡ record_at old key
 record_at-same key old new same =
     (elim (is_record_file key.file) as (λ (b : Bool). is_record_file key.file ≡ b → record_at new key ≡ record_at old key) [
       | true ↦ λ file. record_at-is key new file
@@ -72,7 +73,11 @@ key-parts a b file id =
 
 -- two keys are the same or told apart
 pub cases_key : (a b : Key) → (a ≡ b) ⊎ (key_eq a b ≡ false)
-cases_key a b = (elim (key_eq a b) as (λ (o : Bool). key_eq a b ≡ o → (a ≡ b) ⊎ (key_eq a b ≡ false)) [ true ↦ λ e. inl (key_eq_true a b e) | false ↦ λ e. inr e ]) refl
+cases_key a b = (elim (key_eq a b) as (λ (o : Bool). key_eq a b ≡ o → (a ≡ b) ⊎ (key_eq a b ≡ false)) [
+  | true ↦ λ e. inl (key_eq_true a b e)
+  | false ↦ λ e.
+      inr e
+]) refl
 
 -- a write of another record leaves this one
 pub record_at-other : (q key : Key) (old new : Files) → key_eq q key ≡ false → SameButRecord key old new → record_at new q ≡ record_at old q
@@ -88,7 +93,8 @@ record_at-settled key read images image settled left = record_at-same key read i
 
 -- bytes of the log leave the records
 pub record_at-log : (key : Key) (at n : ℕ) (old new : Files) → SameOutside log_file at n old new → record_at new key ≡ record_at old key
-record_at-log key at n old new same = record_at-same key old new (λ file p first end. same key.file p (λ within. is_record_file-not_log key.file file within.in_file))
+record_at-log key at n old new same = record_at-same key old new (λ file p first end. same key.file p (λ within. is_record_file-not_log key.file file
+    within.in_file))
 
 -- the same bytes have the same records
 pub record_at-kept : (key : Key) (old new : Files) → Same old new → record_at new key ≡ record_at old key

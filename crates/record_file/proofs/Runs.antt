@@ -82,7 +82,8 @@ run_held first bytes (suc n) content q rec file long stands found = ⊎_elim
     let is : here ≡ rec = ap (λ (o : Option Rec). unwrap_or o here) (sym there ∙ subst (λ k. find_pair (run_pairs first bytes (suc n)) k ≡ Some rec) e found) in
     subst (λ k. record_at content k ≡ rec) (sym e)
     (record_at-holds first here content file (length-take-le 64 bytes (omega (arith, long)))
-    (λ i below. let short : i < 64 = omega (arith, below, length-take-le 64 bytes (omega (arith, long))) in get_or-take 64 bytes i 0 short ∙ stands i (omega (arith, short)))
+    (λ i below. let short : i < 64 = omega (arith, below, length-take-le 64 bytes (omega (arith, long))) in get_or-take 64 bytes i 0 short ∙ stands i
+    (omega (arith, short)))
     ∙ is))
     (λ differ.
     run_held (key_behind first 1) (drop 64 bytes) n content q rec file (omega (arith, long, length-drop 64 bytes))
@@ -146,7 +147,8 @@ or-none None = refl
 
 FindsPut-append : (ps : Pairs) (key : Key) (rec : Rec) → find_pair ps key ≡ None → FindsPut ps (ps ++ (key, rec) ∷ []) key rec
 FindsPut-append ps key rec none q = find_pair-append ps key rec q ∙ ⊎_elim
-    (λ (e : q ≡ key). subst (λ k. option_or (find_pair ps k) (cond (key_eq k key) (Some rec) None) ≡ cond (key_eq k key) (Some rec) (find_pair ps k)) (sym e) (rw (none, key_eq-same key) refl))
+    (λ (e : q ≡ key). subst (λ k. option_or (find_pair ps k) (cond (key_eq k key) (Some rec) None) ≡ cond (key_eq k key) (Some rec) (find_pair ps k)) (sym e)
+    (rw (none, key_eq-same key) refl))
     (λ differ. rw differ (or-none (find_pair ps q)))
     (cases_key q key)
 
@@ -205,7 +207,8 @@ pub SameButRecords-held : (first : Key) (bytes : List ℕ) (n size at : ℕ) (ol
 SameButRecords-held first bytes n size at old new pairs are file few whole size_is at_is same =
     let long : length (take size bytes) ≡ 64 * n = length-take-le size bytes (omega (arith, few, whole, size_is)) ∙ size_is in
     subst (λ (ps : Pairs). SameButRecords ps old new) are
-    (SameButRecords-run first bytes n old new file (subst (λ (m : ℕ). SameOutside first.file (64 * first.id) m old new) long (subst (λ (a : ℕ). SameOutside first.file a (length (take size bytes)) old new) at_is same)))
+    (SameButRecords-run first bytes n old new file (subst (λ (m : ℕ). SameOutside first.file (64 * first.id) m old new) long
+    (subst (λ (a : ℕ). SameOutside first.file a (length (take size bytes)) old new) at_is same)))
 
 pub run_written-held : (first : Key) (bytes : List ℕ) (n size at : ℕ) (old new : Files) (pairs : Pairs) → run_pairs first bytes n ≡ pairs
     → is_record_file first.file ≡ true → n ≤ 64 → length bytes ≡ 4096

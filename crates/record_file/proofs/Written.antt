@@ -134,7 +134,8 @@ AreWritten-more base ps i write old new ordered is are written key none =
     let found : find_pair ps write.0 ≡ Some write.1 = find_pair-get ps i write ordered is in
     let next : i + 1 ≡ suc i = omega arith in
     ⊎_elim
-    (λ (e : key ≡ write.0). subst (λ k. new k ≡ laid_over base ps k) (sym e) (ap (λ (records : Key → Rec). records write.0) written ∙ put_same old write.0 write.1 ∙ rw found refl))
+    (λ (e : key ≡ write.0). subst (λ k. new k ≡ laid_over base ps k) (sym e) (ap (λ (records : Key → Rec). records write.0) written ∙ put_same old write.0
+    write.1 ∙ rw found refl))
     (λ differ. ap (λ (records : Key → Rec). records key) written
     ∙ rw differ (are key (find_pair-drop ps i write key is differ ∙ ap (λ (n : ℕ). find_pair (drop n ps) key) (sym next) ∙ none)))
     (cases_key key write.0)

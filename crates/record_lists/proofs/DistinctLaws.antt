@@ -30,4 +30,5 @@ rises_distinct xs up r = IsDistinct-from_apart nat_eq xs (λ i j d lt within.
     ne_eqb (get_or xs i d) (get_or xs j d) (λ e. apart (omega arith)))
 
 pub same_not_distinct : (xs : List ℕ) (i : ℕ) → 1 ≤ i → i < length xs → get_or xs (i - 1) 0 ≡ get_or xs i 0 → IsDistinct nat_eq xs → ⊥
-same_not_distinct xs i low within e h = true≢false (sym (eq-eqb (get_or xs (i - 1) 0) (get_or xs i 0) e) ∙ apart_from_distinct nat_eq xs (i - 1) i 0 h (omega arith) within)
+same_not_distinct xs i low within e h = true≢false (sym (eq-eqb (get_or xs (i - 1) 0) (get_or xs i 0) e) ∙ apart_from_distinct nat_eq xs (i - 1) i 0 h
+    (omega arith) within)

@@ -38,8 +38,10 @@ module _ (has : ℕ → Type 0) (lists : ℕ → List ℕ → Type 0) where
       let inside : (p : ℕ) → AtHead has lists id p → In p items = λ p a. subst (In p) (one a.items a.listed) a.member in (
         record { list = λ _. (items, listed) },
         (λ p. (
-          (λ m. ⊎_elim (λ o. inl o) (λ a. inr (record { must = must; items = items; listed = listed; member = in_from_among p items a })) (or_cases (marked old p) (is_among items p) (sym (e p) ∙ m))),
-          (λ i. e p ∙ ⊎_elim (λ o. rw o refl) (λ (a : AtHead has lists id p). or-left (marked old p) (is_among items p) (among_from_in p items (inside p a))) i),
+          (λ m. ⊎_elim (λ o. inl o) (λ a. inr (record { must = must; items = items; listed = listed; member = in_from_among p items a }))
+              (or_cases (marked old p) (is_among items p) (sym (e p) ∙ m))),
+          (λ i. e p ∙ ⊎_elim (λ o. rw o refl) (λ (a : AtHead has lists id p). or-left (marked old p) (is_among items p) (among_from_in p items (inside p a)))
+              i),
         )),
         (λ p a. none_of (marked old) items fresh p (inside p a)),
       )
@@ -56,7 +58,8 @@ module _ (has : ℕ → Type 0) (lists : ℕ → List ℕ → Type 0) where
       → Decides (marked new p) ((marked first p ≡ true) ⊎ AmongHeads has lists (k + 1) p)
   among_and k first old new before step p = (
     (λ m. ⊎_elim
-        (λ (o : marked old p ≡ true). ⊎_elim (λ f. inl f) (λ (a : AmongHeads has lists k p). let lt : a.id < k = a.below in inr (record { id = a.id; below = omega arith; here = a.here })) ((before p).0 o))
+        (λ (o : marked old p ≡ true). ⊎_elim (λ f. inl f) (λ (a : AmongHeads has lists k p). let lt : a.id < k = a.below in inr
+        (record { id = a.id; below = omega arith; here = a.here })) ((before p).0 o))
         (λ (h : AtHead has lists k p). inr (record { id = k; below = omega arith; here = h }))
         ((step p).0 m)),
     (λ i. (step p).1 (⊎_elim

@@ -142,7 +142,13 @@ pub line_of_walk : (next : ℕ → ℕ) (test : ℕ → Bool) (high b f : ℕ) (
     → ((x : ℕ) → In x xs → test x ≡ true)
     → IsLine next (λ _ x. test x) high b f xs
 line_of_walk next test high b f [] h low ok = h
-line_of_walk next test high b f (x ∷ xs) h low ok = (h.0, low x (inl refl), ok x (inl refl), line_of_walk next test high x (next x) xs h.2 (λ y i. low y (inr i)) (λ y i. ok y (inr i)))
+line_of_walk next test high b f (x ∷ xs) h low ok = (
+  h.0,
+  low x (inl refl),
+  ok x (inl refl),
+  line_of_walk next test high x (next x) xs h.2
+      (λ y i. low y (inr i)) (λ y i. ok y (inr i)),
+)
 
 pub tested_in : (next : ℕ → ℕ) (test : ℕ → Bool) (high b f : ℕ) (xs : List ℕ) → IsLine next (λ _ x. test x) high b f xs → (x : ℕ) → In x xs → test x ≡ true
 tested_in next test high b f [] h x i = elim i [ ]

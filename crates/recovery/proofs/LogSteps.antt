@@ -176,8 +176,12 @@ pub IsTornInLogged-entry : (images mid : Files → Type 0) (entries : List Pairs
     → ((image : Files) → mid image → IsTornInLogged images entries image) → (image : Files) → IsTornInRecords mid (entry_at content place) image
     → IsTornInLogged images entries image
 IsTornInLogged-entry images mid entries tail content place done left at are image torn =
-    let old = are torn.0 torn.1 in
-    (old.0, old.1, SameButLogged-then entries old.0 torn.0 image old.2 (SameButLogged-entry entries done at.later (entry_at content place) torn.0 image at.left_is torn.2))
+    let old = are torn.0 torn.1 in (
+      old.0,
+      old.1,
+      SameButLogged-then entries old.0 torn.0 image old.2 (SameButLogged-entry entries done at.later (entry_at content place) torn.0 image
+          at.left_is torn.2),
+    )
 
 -- on a settled disk each image makes what is read
 pub AllRedoBy-settled : {D : Type 0} (g : Ghosts D) (disk : D) (entries : List Pairs) (tail : ℕ) (space : Key → Rec) → IsAllSettled g disk

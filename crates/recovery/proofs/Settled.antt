@@ -46,7 +46,8 @@ place_in : (files : List RecordFile) (file : ℕ) (d : RecordFile) → list_any 
 place_in [] file d any = absurd (false≢true any)
 place_in (entry ∷ rest) file d any = pick (nat_eq file entry.file) refl (place_in rest file d) any
   where
-    pick : (here : Bool) → nat_eq file entry.file ≡ here → (list_any (λ e. nat_eq file e.file) rest ≡ true → (i : ℕ) × (i < length rest) × ((get_or rest i d).file ≡ file)) → (here || list_any (λ e. nat_eq file e.file) rest) ≡ true
+    pick : (here : Bool) → nat_eq file entry.file ≡ here → (list_any (λ e. nat_eq file e.file) rest ≡ true → (i : ℕ) × (i < length rest) ×
+        ((get_or rest i d).file ≡ file)) → (here || list_any (λ e. nat_eq file e.file) rest) ≡ true
         → (i : ℕ) × (i < length (entry ∷ rest)) × ((get_or (entry ∷ rest) i d).file ≡ file)
     pick true is later any = (0, omega arith, (let same : file ≡ entry.file = grind (arith, nat_tests) in sym same))
     pick false is later any = let at = later any in (suc at.0, omega (arith, at.1), at.2)

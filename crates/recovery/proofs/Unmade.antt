@@ -30,7 +30,8 @@ pub unmade_torn : {D : Type 0} (g : Ghosts D) (first now : D) → IsUnmade (g.re
 unmade_torn g first now unmade settled leaves =
     at_each_moment_weaker g first now _ _ leaves
     (λ left torn. unmade_logged torn.0 left torn.2
-    (unmade_same (g.reads first) torn.0 (settled-log g first settled torn.0 torn.1) (records-settled (g.reads first) (g.may_leave first) (settled-records g first settled) torn.0 torn.1) unmade))
+    (unmade_same (g.reads first) torn.0 (settled-log g first settled torn.0 torn.1) (records-settled (g.reads first) (g.may_leave first)
+    (settled-records g first settled) torn.0 torn.1) unmade))
 
 -- the first gate is closed then
 pub unmade_gate : (first written synced : Files) → IsUnmade first → SameButLogged [] first written → Same written synced → synced log_file 0 ≢ open_byte

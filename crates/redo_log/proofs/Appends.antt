@@ -73,7 +73,8 @@ IsAppended-gated images entries writes tail read before content all form whole f
     (SameOutside-within log_file (tail + 1) (3 + 69 * length writes) tail wide old before (omega arith) (omega arith) torn.2)
     (SameOutside-within log_file tail 1 tail wide before content (omega arith) (omega arith) gate) in
     let laid : IsLaid content tail writes =
-    IsLaid-same tail writes read content form whole holds (λ place behind. gate log_file place (λ within. omega (arith, within.before_end, behind)) ∙ settled place) in
+    IsLaid-same tail writes read content form whole holds (λ place behind. gate log_file place (λ within. omega (arith, within.before_end, behind))
+    ∙ settled place) in
     record {
       old = old;
       was_left = torn.1;
@@ -103,7 +104,8 @@ pub leaves_gated : (first before now : ℕ) (at_first past since : ℕ → Files
     → LeavesOnly first now at_first since (IsAppended images entries writes tail)
 leaves_gated first before now at_first past since images old new entries writes tail read all form whole fits leaves counts elapses torn settled holds =
     leaves_then first before now at_first past since new (IsAppended images entries writes tail)
-    (leaves_weaker first before at_first past (IsTornFrom images (tail + 1) (3 + 69 * length writes)) (IsAppended images entries writes tail) leaves (IsAppended-torn images entries writes tail all))
+    (leaves_weaker first before at_first past (IsTornFrom images (tail + 1) (3 + 69 * length writes)) (IsAppended images entries writes tail) leaves
+    (IsAppended-torn images entries writes tail all))
     elapses
     (λ image left.
     let was = torn image left in
@@ -134,11 +136,13 @@ IsGated-read : (tail : ℕ) (writes : Pairs) (old laid synced new : Files) → I
 IsGated-read tail writes old laid synced new form whole payload holds stays gate =
     let n = 3 + 69 * length writes in
     let wide = SameOutside-then log_file tail (1 + n) old synced new
-    (SameOutside-then log_file tail (1 + n) old laid synced (SameOutside-within log_file (tail + 1) n tail (1 + n) old laid (omega arith) (omega arith) payload) (SameOutside-same log_file tail (1 + n) laid synced stays))
+    (SameOutside-then log_file tail (1 + n) old laid synced (SameOutside-within log_file (tail + 1) n tail (1 + n) old laid (omega arith) (omega arith) payload)
+    (SameOutside-same log_file tail (1 + n) laid synced stays))
     (SameOutside-within log_file tail 1 tail (1 + n) synced new (omega arith) (omega arith) gate) in
     record {
       before = SameLog-outside tail (1 + n) tail old new wide (omega arith);
-      laid = IsLaid-same tail writes laid new form whole holds (λ place behind. gate log_file place (λ within. omega (arith, within.before_end, behind)) ∙ stays log_file place);
+      laid = IsLaid-same tail writes laid new form whole holds (λ place behind. gate log_file place (λ within. omega (arith, within.before_end, behind))
+          ∙ stays log_file place);
     }
 
 -- whatever the gate is, a read has the old entries or one more

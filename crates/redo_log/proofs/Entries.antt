@@ -32,7 +32,8 @@ writes_from-same : (n place : ℕ) (old new : Files) → SameLog place (place + 
 writes_from-same zero place old new same = refl
 writes_from-same (suc n) place old new same =
     ap (λ (write : Key × Rec). write ∷ writes_from new (place + 69) n)
-    (made_of-same (new log_file place) (old log_file place) (log_bytes new (place + 1) 4) (log_bytes old (place + 1) 4) (log_bytes new (place + 5) 64) (log_bytes old (place + 5) 64)
+    (made_of-same (new log_file place) (old log_file place) (log_bytes new (place + 1) 4) (log_bytes old (place + 1) 4) (log_bytes new (place + 5) 64)
+    (log_bytes old (place + 5) 64)
     (same place (omega arith) (omega arith))
     (log_bytes-same 4 (place + 1) old new (λ p first end. same p (omega arith) (omega arith)))
     (log_bytes-same 64 (place + 5) old new (λ p first end. same p (omega arith) (omega arith))))

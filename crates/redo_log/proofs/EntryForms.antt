@@ -34,14 +34,25 @@ is_entry content place count open_gate is size rising =
     let keys = subst (λ (n : ℕ). AreRisingAbove None (writes_from content (place + 3) n)) is rising in
     record {
       open_gate = open_gate;
-      form = record { some = omega (arith, size.some, long); few = omega (arith, size.few, long); keys = rising_valid None (entry_at content place) keys; rising = rising_ordered (entry_at content place) keys };
+      form = record {
+        some = omega (arith, size.some, long);
+        few = omega (arith, size.few, long);
+        keys = rising_valid None (entry_at content place)
+            keys;
+        rising = rising_ordered (entry_at content place) keys;
+      };
       fits = subst (λ (n : ℕ). Fits place n) is size.fits;
     }
 
 pub entry_size : (content : Files) (place count : ℕ) → count ≡ count_at content place → IsEntry content place → IsEntrySize place count
 entry_size content place count is entry =
     let long : length (entry_at content place) ≡ count = length-writes_from content (place + 3) (count_at content place) ∙ sym is in
-    record { some = omega (arith, entry.form.some, long); few = omega (arith, entry.form.few, long); fits = subst (λ (n : ℕ). Fits place n) (sym is) entry.fits }
+    record {
+      some = omega (arith, entry.form.some, long);
+      few = omega (arith, entry.form.few, long);
+      fits = subst (λ (n : ℕ). Fits place n) (sym is)
+          entry.fits;
+    }
 
 pub entry_rises : (content : Files) (place count : ℕ) → count ≡ count_at content place → IsEntry content place
     → AreRisingAbove None (writes_from content (place + 3) count)

@@ -55,7 +55,8 @@ writes_from-holds (write ∷ writes) place content holds whole keys =
     let behind = flat_map write_bytes writes in
     let first : write_at content place ≡ write = write_at-holds write place content (Holds-front log_file place here behind content holds) whole.0 keys.0 in
     let later : writes_from content (place + 69) (length writes) ≡ writes =
-    writes_from-holds writes (place + 69) content (subst (λ n. Holds log_file (place + n) behind content) (length-write_bytes write whole.0) (Holds-back log_file place here behind content holds)) whole.1 keys.1 in
+    writes_from-holds writes (place + 69) content (subst (λ n. Holds log_file (place + n) behind content) (length-write_bytes write whole.0)
+    (Holds-back log_file place here behind content holds)) whole.1 keys.1 in
     ap (λ (w : Key × Rec). w ∷ writes_from content (place + 69) (length writes)) first ∙ ap (λ (ws : Pairs). write ∷ ws) later
 
 -- How many records the entry has, what they are, and the closed gate behind them.
@@ -79,7 +80,8 @@ IsLaid-payload content tail writes form whole holds =
     ∙ little_number-reads_back 2 (length writes) [] (omega (arith, form.few)) in
     let start : tail + 1 + 2 ≡ tail + 3 = omega arith in
     let laid : writes_from content (tail + 3) (length writes) ≡ writes =
-    writes_from-holds writes (tail + 3) content (subst (λ p. Holds log_file p behind content) start (Holds-back log_file (tail + 1) number behind content payload)) whole form.keys in
+    writes_from-holds writes (tail + 3) content (subst (λ p. Holds log_file p behind content) start (Holds-back log_file (tail + 1) number behind content
+    payload)) whole form.keys in
     let gate : 0 ≡ content log_file (tail + entry_bytes (length writes)) = last ∙ ap (content log_file) (omega (arith, size)) in
     record {
       count = counted;

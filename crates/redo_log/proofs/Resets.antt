@@ -32,7 +32,12 @@ HasEntries-gate entries tail old new has was_open same =
 -- nothing was done
 pub IsReset-none : (images : Files → Type 0) (entries : List Pairs) (tail : ℕ) → AllHaveEntries images entries tail → (image : Files) → images image
     → IsReset images entries tail image
-IsReset-none images entries tail all image left = record { old = image; was_left = left; elsewhere = λ file place out. refl; entries_are = inl (all image left) }
+IsReset-none images entries tail all image left = record {
+  old = image;
+  was_left = left;
+  elsewhere = λ file place out. refl;
+  entries_are = inl (all image left);
+}
 
 -- the first gate was open in what is read, and may be anything now
 pub IsReset-torn : (images : Files → Type 0) (entries : List Pairs) (tail : ℕ) (read old new : Files) → AllHaveEntries images entries tail

@@ -25,7 +25,10 @@ pub record HasNumbers (row : RelRow) : Type 0 where
   pub property : row.property < 2 ^ 32
 
 all_fit : (row : RelRow) → HasNumbers row → AllFit (rel_fields row)
-all_fit row small = (omega arith, (small.label, (small.from, (small.to, (small.source_previous, (small.source_next, (small.target_previous, (small.target_next, (small.property, tt)))))))))
+all_fit row small = (
+  omega arith,
+  (small.label, (small.from, (small.to, (small.source_previous, (small.source_next, (small.target_previous, (small.target_next, (small.property, tt)))))))),
+)
 
 -- each number is read back
 pub kind-rel_record : (row : RelRow) → HasNumbers row → field 1 (rel_record row) format.kind ≡ format.related

@@ -103,7 +103,8 @@ released_at : (xs : List HeldLayer) (x : HeldLayer) (reader place : ℕ) (d e y 
     → layers_of (set (remove (x ∷ xs) (suc place)) place y) ≡ released_behind reader (layer_of x) (layers_of xs)
 released_at [] x reader place d e y h is = absurd h
 released_at (z ∷ zs) x reader zero d e y h is =
-    ap (λ l. l ∷ layers_of zs) is ∙ ap (λ (t : Bool). cond t (joined (layer_of x) (layer_of z) ∷ layers_of zs) (layer_of x ∷ released_behind reader (layer_of z) (layers_of zs))) (sym h)
+    ap (λ l. l ∷ layers_of zs) is ∙ ap (λ (t : Bool). cond t (joined (layer_of x) (layer_of z) ∷ layers_of zs) (layer_of x ∷ released_behind reader (layer_of z)
+    (layers_of zs))) (sym h)
 released_at (z ∷ zs) x reader (suc place) d e y h is =
     ap (λ ls. layer_of x ∷ ls) (released_at zs z reader place d e y h.1 is)
     ∙ ap (λ (t : Bool). cond t (joined (layer_of x) (layer_of z) ∷ layers_of zs) (layer_of x ∷ released_behind reader (layer_of z) (layers_of zs))) (sym h.0)
@@ -113,7 +114,8 @@ pub released_later : (xs : List HeldLayer) (reader place before : ℕ) (d e y : 
     → layers_of (set (remove xs place) before y) ≡ released reader (layers_of xs)
 released_later xs reader place before d e y is h made =
     subst (λ n. layers_of (set (remove xs n) before y) ≡ released reader (layers_of xs)) (sym is)
-    (at xs (subst (λ n. IsPlaceOf reader (layers_of xs) n) is h) (subst (λ n. layer_of y ≡ joined (layer_of (get_or xs before d)) (layer_of (get_or xs n e))) is made))
+    (at xs (subst (λ n. IsPlaceOf reader (layers_of xs) n) is h) (subst (λ n. layer_of y ≡ joined (layer_of (get_or xs before d)) (layer_of (get_or xs n e)))
+    is made))
   where
     at : (xs : List HeldLayer) → IsPlaceOf reader (layers_of xs) (suc before)
         → layer_of y ≡ joined (layer_of (get_or xs before d)) (layer_of (get_or xs (suc before) e))

@@ -44,13 +44,16 @@ module _ (records : Records) where
   all_texts n old now mark clear keeps told once = record {
     keeps = λ p lt. head_text p (keeps p (omega arith));
     told = λ b. (
-      (λ m. ⊎_elim (λ (o : marked old b ≡ true). absurd (true≢false (sym o ∙ clear b))) (λ (a : AmongHeads (IsLong records) (IsBlockList records) n b). record { property = a.id; has = at_has a.id b a.here }) ((told b).0 m)),
-      (λ (h : IsBlockHeld records b). let has = h.has in let low = long_low h.property has.long in (told b).1 (inr (record { id = h.property; below = omega arith; here = has_at h.property b has }))),
+      (λ m. ⊎_elim (λ (o : marked old b ≡ true). absurd (true≢false (sym o ∙ clear b))) (λ (a : AmongHeads (IsLong records) (IsBlockList records) n b).
+          record { property = a.id; has = at_has a.id b a.here }) ((told b).0 m)),
+      (λ (h : IsBlockHeld records b). let has = h.has in let low = long_low h.property has.long in (told b).1
+          (inr (record { id = h.property; below = omega arith; here = has_at h.property b has }))),
     );
     once = λ p q b h k. let lp = long_low p h.long in let lq = long_low q k.long in once b p q (omega arith) (omega arith) (has_at p b h) (has_at q b k);
   }
 
-  pub texts_right : (n : List Bool) → AllTexts records n → ((b : ℕ) → b < high records format.strings_file → is_live records format.strings_file b ≡ true → marked n b ≡ true) → AreTextsRight records
+  pub texts_right : (n : List Bool) → AllTexts records n → ((b : ℕ) → b < high records format.strings_file → is_live records format.strings_file b ≡ true
+      → marked n b ≡ true) → AreTextsRight records
   texts_right n l mark = record {
     keeps = l.keeps;
     held = λ b. record {

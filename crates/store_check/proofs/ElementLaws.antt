@@ -34,12 +34,26 @@ module _ (records : Records) (heads : ElementHeads) (known : is_element_file hea
   head_element x h named = record { list = keeps_list x h; named = named }
 
   at_has : (x p : ℕ) → AtHead Has Lists x p → HasProperty records heads.file x p
-  at_has x p a = record { first = property_from records heads.file x; owns = owner_of records x heads.file known a.must; among = record { members = a.items; list = a.listed; member = a.member } }
+  at_has x p a = record {
+    first = property_from records heads.file x;
+    owns = owner_of records x heads.file known a.must;
+    among = record {
+      members = a.items;
+      list = a.listed;
+      member = a.member;
+    };
+  }
 
   has_at : (x p : ℕ) → HasProperty records heads.file x p → AtHead Has Lists x p
   has_at x p h =
       let o = owns_is records x heads.file h.first h.owns in
-      record { must = o.live; items = h.among.members; listed = subst (λ f. IsPropertyList records f h.among.members) o.first_is h.among.list; member = h.among.member }
+      record {
+        must = o.live;
+        items = h.among.members;
+        listed = subst (λ f. IsPropertyList records f h.among.members) o.first_is h.among.list;
+        member =
+            h.among.member;
+      }
 
   has_low : (x p : ℕ) → HasProperty records heads.file x p → x < high records heads.file
   has_low x p h = let o = owns_is records x heads.file h.first h.owns in live_below records heads.file x o.live
@@ -60,7 +74,8 @@ module _ (records : Records) (heads : ElementHeads) (known : is_element_file hea
     keeps = λ x lt. head_element x (keeps x (omega arith)) (named x (omega arith));
     marks = λ p. (
       (λ m. ⊎_elim (λ o. inl o) (λ (a : AmongHeads Has Lists n p). inr (record { element = a.id; has = at_has a.id p a.here })) ((told p).0 m)),
-      (λ i. (told p).1 (⊎_elim (λ o. inl o) (λ (f : IsOfFile records heads.file p). let low = has_low f.element p f.has in inr (record { id = f.element; below = omega arith; here = has_at f.element p f.has })) i)),
+      (λ i. (told p).1 (⊎_elim (λ o. inl o) (λ (f : IsOfFile records heads.file p). let low = has_low f.element p f.has in inr
+          (record { id = f.element; below = omega arith; here = has_at f.element p f.has })) i)),
     );
     fresh = λ x p h. let low = has_low x p h in fresh x (omega arith) p (has_at x p h);
     once = λ x y p h k. let a = has_low x p h in let b = has_low y p k in once p x y (omega arith) (omega arith) (has_at x p h) (has_at y p k);

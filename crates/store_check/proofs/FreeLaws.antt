@@ -21,10 +21,12 @@ use Rattle.record_lists.proofs.LineLaws.{among_from_in, below_in, in_from_among,
 module _ (records : Records) (file : ℕ) where
   -- what a record below the mark says of its use
   pub live_by : (x : ℕ) (r : Rec) → x < high records file → r ≡ rec_at records file x → field 1 r format.kind ≢ 0 → is_live records file x ≡ true
-  live_by x r lt e ne = live_true (kind_at records file x) (λ k. ne (ap (λ q. field 1 q format.kind) e ∙ sym (kind_low (high records file) (rec_at records file x) x lt) ∙ k))
+  live_by x r lt e ne = live_true (kind_at records file x) (λ k. ne (ap (λ q. field 1 q format.kind) e ∙ sym (kind_low (high records file)
+      (rec_at records file x) x lt) ∙ k))
 
   pub free_by : (x : ℕ) (r : Rec) → x < high records file → r ≡ rec_at records file x → field 1 r format.kind ≡ 0 → is_live records file x ≡ false
-  free_by x r lt e z = live_false (kind_at records file x) (kind_low (high records file) (rec_at records file x) x lt ∙ sym (ap (λ q. field 1 q format.kind) e) ∙ z)
+  free_by x r lt e z = live_false (kind_at records file x) (kind_low (high records file) (rec_at records file x) x lt ∙ sym (ap (λ q. field 1 q format.kind) e)
+      ∙ z)
 
   abbrev pub free_test : ℕ → Bool
   free_test x = nat_eq (field 1 (rec_at records file x) format.kind) format.free_kind
@@ -48,7 +50,8 @@ module _ (records : Records) (file : ℕ) where
         record {
           walk = walk_of_line (rules.next_free records file) (λ _ x. free_test x) (high records file) room format.nil (meta_in records file).free xs h;
           low = low;
-          only = λ x i. test_free x (low x i) (tested_in (rules.next_free records file) free_test (high records file) format.nil (meta_in records file).free xs h x i);
+          only = λ x i. test_free x (low x i) (tested_in (rules.next_free records file) free_test (high records file) format.nil (meta_in records file).free xs
+              h x i);
         }
 
     pub line_from : (xs : List ℕ) → IsFreeList records file xs → IsIt xs

@@ -15,7 +15,8 @@ use Rattle.record_lists.proofs.LiveLaws.{live_below}
 use Rattle.store_check.proofs.PropertyLaws.{properties_one}
 
 -- lists of owners, from what each has
-module _ (owner : ℕ → ℕ → Option ℕ) (Is : ℕ → ℕ → ℕ → List ℕ → Type 0) (keeps : (file x first : ℕ) → owner file x ≡ Some first → (xs : List ℕ) × Is file x first xs) where
+module _ (owner : ℕ → ℕ → Option ℕ) (Is : ℕ → ℕ → ℕ → List ℕ → Type 0) (keeps : (file x first : ℕ) → owner file x ≡ Some first → (xs : List ℕ) × Is file x first
+    xs) where
   abbrev pub list_at : (file x : ℕ) (o : Option ℕ) → owner file x ≡ o → List ℕ
   list_at file x None e = []
   list_at file x (Some first) e = (keeps file x first e).0

@@ -55,7 +55,8 @@ from_more marks r pointer zero place = by (ranges.points marks r (pointer place)
     by false = refl
 from_more marks r pointer (suc n) place =
     let next : place + 4 + 4 * n ≡ place + 4 * suc n = omega arith in
-    ap (λ b. ranges.points marks r (pointer place) && b) (from_more marks r pointer n (place + 4) ∙ ap (λ p. ranges.all_point marks r (ranges.pointers_from n pointer (place + 4)) && ranges.points marks r (pointer p)) next)
+    ap (λ b. ranges.points marks r (pointer place) && b) (from_more marks r pointer n (place + 4) ∙ ap (λ p. ranges.all_point marks r
+    (ranges.pointers_from n pointer (place + 4)) && ranges.points marks r (pointer p)) next)
     ∙ and_more (ranges.points marks r (pointer place)) (ranges.all_point marks r (ranges.pointers_from n pointer (place + 4)))
     (ranges.points marks r (pointer (place + 4 * suc n)))
 
@@ -68,7 +69,8 @@ from_wrong marks r pointer (suc n) k place lt wrong =
     let last = ranges.points marks r (pointer (place + 4 * n)) in
     from_more marks r pointer n place ∙ ⊎_elim
     (λ (here : k < n). ap (λ b. b && last) (from_wrong marks r pointer n k place here wrong))
-    (λ (there : n ≤ k). let same : k ≡ n = omega (arith, lt, there) in ap (λ b. before && b) (subst (λ m. ranges.points marks r (pointer (place + 4 * m)) ≡ false) same wrong) ∙ and_none before)
+    (λ (there : n ≤ k). let same : k ≡ n = omega (arith, lt, there) in ap (λ b. before && b) (subst (λ m. ranges.points marks r (pointer (place + 4 * m))
+    ≡ false) same wrong) ∙ and_none before)
     (cases_lt k n)
 
 -- those of two lists

@@ -37,7 +37,8 @@ module _ (records : Records) where
       twice : (p : ℕ) → IsHadTwice records file old p → IsHeldOnce records p → ⊥
       twice p t k = ⊎_elim
           (λ (m : marked old p ≡ true). let o = others p m in o.2.0 (k.once o.0 o.1 file t.element o.2.1 t.has).0)
-          (λ (o : (other : ℕ) × (other < t.element) × HasProperty records file other p). let below : o.0 < t.element = o.1 in let same = (k.once file o.0 file t.element o.2 t.has).1 in absurd (omega arith))
+          (λ (o : (other : ℕ) × (other < t.element) × HasProperty records file other p). let below : o.0 < t.element = o.1 in let same =
+          (k.once file o.0 file t.element o.2 t.has).1 in absurd (omega arith))
           t.before
 
   module _ (clear m : List Bool) (none : (p : ℕ) → marked clear p ≡ false) (a : AreListed records 1 clear m) where
@@ -50,8 +51,16 @@ module _ (records : Records) where
 
     once : (file x other y p : ℕ) → (file ≡ 1) ⊎ (file ≡ 2) → (other ≡ 1) ⊎ (other ≡ 2) → HasProperty records file x p → HasProperty records other y p
         → (file ≡ other) × (x ≡ y)
-    once file x other y p (inl e) (inl f) h k = (e ∙ sym f, a.once x y p (subst (λ z. HasProperty records z x p) e h) (subst (λ z. HasProperty records z y p) f k))
-    once file x other y p (inr e) (inr f) h k = (e ∙ sym f, b.once x y p (subst (λ z. HasProperty records z x p) e h) (subst (λ z. HasProperty records z y p) f k))
+    once file x other y p (inl e) (inl f) h k = (
+      e ∙ sym f,
+      a.once x y p (subst (λ z. HasProperty records z x p) e h) (subst (λ z. HasProperty records z y p)
+          f k),
+    )
+    once file x other y p (inr e) (inr f) h k = (
+      e ∙ sym f,
+      b.once x y p (subst (λ z. HasProperty records z x p) e h) (subst (λ z. HasProperty records z y p)
+          f k),
+    )
     once file x other y p (inl e) (inr f) h k = absurd (apart x y p (subst (λ z. HasProperty records z x p) e h) (subst (λ z. HasProperty records z y p) f k))
     once file x other y p (inr e) (inl f) h k = absurd (apart y x p (subst (λ z. HasProperty records z y p) f k) (subst (λ z. HasProperty records z x p) e h))
 
@@ -81,7 +90,8 @@ module _ (records : Records) where
     once = λ file x other y h k. l.once file x other y p h k;
   }
 
-  pub elements_right : (n : List Bool) → AllListed records n → ((p : ℕ) → p < high records format.properties_file → is_live records format.properties_file p ≡ true → marked n p ≡ true) → AreElementsRight records
+  pub elements_right : (n : List Bool) → AllListed records n → ((p : ℕ) → p < high records format.properties_file → is_live records format.properties_file p ≡
+      true → marked n p ≡ true) → AreElementsRight records
   elements_right n l mark = record { keeps = l.keeps; held = λ p. held_once n p l (λ live. mark p (live_below records format.properties_file p live) live) }
 
   pub not_held : (n : List Bool) (p : ℕ) → AllListed records n → ¬ (is_live records format.properties_file p ≡ true → marked n p ≡ true)

@@ -52,8 +52,11 @@ module _ (string_file : ℕ → Rec) where
           let none = last lt in
           let l = long in
           let alone : piece_of (string_file b) ++ rest ≡ piece_of (string_file b) = ap (λ xs. piece_of (string_file b) ++ xs) none
-          ∙ append-nil (piece_of (string_file b)) in
-          (ap (take 48) alone ∙ take_all 48 (piece_of (string_file b)) (omega arith), ap (drop 48) alone ∙ drop_all 48 (piece_of (string_file b)) (omega arith) ∙ sym none))
+          ∙ append-nil (piece_of (string_file b)) in (
+            ap (take 48) alone ∙ take_all 48 (piece_of (string_file b)) (omega arith),
+            ap (drop 48) alone ∙ drop_all 48 (piece_of (string_file b)) (omega arith)
+                ∙ sym none,
+          ))
           (λ (ge : 48 ≤ size).
           let l = long in
           let full : length (piece_of (string_file b)) ≡ 48 = omega arith in
@@ -105,7 +108,12 @@ module _ (string_file : ℕ → Rec) where
   -- each leads to the next
   pub blocks_walk : (text bs : List ℕ) → AreBlocks string_file text bs → IsWalk (next_block string_file) (head_of bs) bs
   blocks_walk text [] are = refl
-  blocks_walk text (b ∷ bs) are = (refl, (λ e. let low = are.0.low in omega arith), subst (λ z. IsWalk (next_block string_file) z bs) (sym are.0.next_is) (blocks_walk (drop 48 text) bs are.1))
+  blocks_walk text (b ∷ bs) are = (
+    refl,
+    (λ e. let low = are.0.low in omega arith),
+    subst (λ z. IsWalk (next_block string_file) z bs) (sym are.0.next_is)
+        (blocks_walk (drop 48 text) bs are.1),
+  )
 
   -- their pieces are the text
   pub blocks_text : (text bs : List ℕ) → AreBlocks string_file text bs → pieces bs ≡ text

@@ -49,7 +49,11 @@ module _ (records : Records) (shape : Shape) where
     none_broken d (RelEnds x lt bad) = bad (chains.rels x)
     none_broken d (OwnerGroups n lt bad) = bad (owner_keeps records s.grouped n)
     none_broken d (GroupOwner g bad) = bad (member_keeps records s.grouped s.exact g)
-    none_broken d (WrongElement file x known lt bad) = bad (record { list = element_list records properties file x; named = label_kept records file x known s.named })
+    none_broken d (WrongElement file x known lt bad) = bad (record {
+      list = element_list records properties file x;
+      named = label_kept records file x known
+          s.named;
+    })
     none_broken d (WrongHolding p bad) = bad (held_kept records properties p)
     none_broken d (WrongText p lt bad) = bad (text_kept records properties p)
     none_broken d (WrongBlock b bad) = bad (block_kept records properties b)

@@ -85,7 +85,8 @@ module _ (s t : Records) (wanted now : Entries) (ix : AreIndexed s wanted) (d b 
       let same : (x : ℕ) → In x xs_were → SameEntry s t x × SameLinks s t x = λ x m. h.entries e c x i lt other m in
       record {
         chain = subst (λ f. IsChain (next_entry t) (previous_entry t) format.nil f xs_were) (sym (h.others e c i lt other))
-            (chain_stays (next_entry s) (previous_entry s) (next_entry t) (previous_entry t) format.nil (first_entry s e c) xs_were (λ x m. (same x m).1.next) (λ x m. (same x m).1.previous) was.chain);
+            (chain_stays (next_entry s) (previous_entry s) (next_entry t) (previous_entry t) format.nil (first_entry s e c) xs_were (λ x m. (same x m).1.next)
+            (λ x m. (same x m).1.previous) was.chain);
         kind = λ x m. (same x m).0.kind ∙ was.kind x m;
         hash = λ x m. ap bucket_of (same x m).0.hash ∙ was.hash x m;
         wanted_is = λ x m. ap now (entry_same e x i (same x m).0) ∙ h.still e c x i lt other m;
@@ -135,4 +136,5 @@ module _ (s t : Records) (wanted now : Entries) (ix : AreIndexed s wanted) (d b 
       of_old : (x : ℕ) → (¬ In x (ix.lists d b)) → IsOfIndex s ix.definitions ix.lists x → IsOfIndex t ix.definitions lists x
       of_old x out (IsDefinition i) = IsDefinition i
       of_old x out (IsHeads e c i lt is) = IsHeads e c i lt ((h.definitions e i).heads c lt ∙ is)
-      of_old x out (IsEntry e c i lt m) = IsEntry e c i lt (on (λ zs. In x zs) e c (λ p q. absurd (out (subst (λ z. In x (ix.lists z b)) p (subst (λ z. In x (ix.lists e z)) q m)))) (λ other. m))
+      of_old x out (IsEntry e c i lt m) = IsEntry e c i lt (on (λ zs. In x zs) e c
+          (λ p q. absurd (out (subst (λ z. In x (ix.lists z b)) p (subst (λ z. In x (ix.lists e z)) q m)))) (λ other. m))

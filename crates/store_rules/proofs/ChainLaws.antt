@@ -44,7 +44,12 @@ chain_stays next prev next' prev' b f (x ∷ xs) n p h =
 -- a walk whose links stay stays
 pub walk_stays : (next next' : ℕ → ℕ) (f : ℕ) (xs : List ℕ) → ((x : ℕ) → In x xs → next' x ≡ next x) → IsWalk next f xs → IsWalk next' f xs
 walk_stays next next' f [] n h = h
-walk_stays next next' f (x ∷ xs) n h = (h.0, h.1, subst (λ from. IsWalk next' from xs) (sym (n x (inl refl))) (walk_stays next next' (next x) xs (λ y i. n y (inr i)) h.2))
+walk_stays next next' f (x ∷ xs) n h = (
+  h.0,
+  h.1,
+  subst (λ from. IsWalk next' from xs) (sym (n x (inl refl))) (walk_stays next next' (next x) xs
+      (λ y i. n y (inr i)) h.2),
+)
 
 -- the links that a walk follows lead through it, where it is no longer than what is asked
 pub followed-walk : (n : ℕ) (next : ℕ → ℕ) (from : ℕ) (xs : List ℕ) → IsWalk next from xs → length xs ≤ n → followed n next from ≡ xs
@@ -53,4 +58,5 @@ followed-walk zero next from [] walk few = refl
 followed-walk zero next from (x ∷ xs) walk few = absurd (omega arith)
 followed-walk (suc n) next from [] walk few = rw (eq_true from nil walk) refl
 followed-walk (suc n) next from (x ∷ xs) walk few =
-    rw (eq_false from nil (λ e. walk.1 (sym walk.0 ∙ e))) (λ i. walk.0 i ∷ (ap (λ z. followed n next (next z)) walk.0 ∙ followed-walk n next (next x) xs walk.2 (omega arith)) i)
+    rw (eq_false from nil (λ e. walk.1 (sym walk.0 ∙ e))) (λ i. walk.0 i ∷ (ap (λ z. followed n next (next z)) walk.0 ∙ followed-walk n next (next x) xs walk.2
+    (omega arith)) i)

@@ -1,4 +1,5 @@
--- The third rule asks the groups on group chains alone for their chains. Where the fourth rule is kept, these are all groups, so the two forms of the third rule say the same.
+-- The third rule asks the groups on group chains alone for their chains. Where the fourth rule is
+-- kept, these are all groups, so the two forms of the third rule say the same.
 use Rattle.std.proofs.Common.{◌≡◌, ◌⊎◌, ℕ, List, [], ◌∷◌, Some, sym, ap, ◌∙◌, subst, inl, inr, ⊎_elim, arith, refl}
 use Rattle.rec_bytes.specs.declared.key.Key.{Key}
 use Rattle.rec_bytes.specs.Format as format
@@ -206,14 +207,27 @@ module _ (records : Records) where
           let t = h.typed x n row live end dense in
           let side = some_place row.from row.to n end in
           let head : Head = group_head t.row.id side.0 in
-          let own : IsGroupHeadOf records head n = record { dense = dense; row = t.row; group = t.group; owner = t.owner; key = refl; field = first_place side.0 row.from row.to n side.1 } in
+          let own : IsGroupHeadOf records head n = record {
+            dense = dense;
+            row = t.row;
+            group = t.group;
+            owner = t.owner;
+            key = refl;
+            field = first_place side.0
+                row.from row.to n side.1;
+          } in
           let l = h.listed.each head n (inr own) in
           record {
             head = head;
             owns = head_chained head n (inr own);
             members = l.members;
             chain = record { chain = l.chain; only = l.only };
-            member = l.all x (record { row = row; live = live; on = group_on (kind_at records format.nodes_file) (group_at records) head n own row (sym t.label) side.1 });
+            member = l.all x (record {
+              row = row;
+              live = live;
+              on = group_on (kind_at records format.nodes_file) (group_at records) head n own row (sym t.label)
+                  side.1;
+            });
           }
 
       once : (n x : ℕ) (a b : IsInChain records n x) → a.head ≡ b.head
@@ -225,7 +239,17 @@ module _ (records : Records) where
         nodes = λ n. record { chain = λ is. listed (rules.node_head n) n (inl (record { sparse = is; is = refl })) };
         groups = λ g on. record { chains = λ place m own. listed (group_head g place) m (inr own) };
         rels = λ x. record {
-          from = λ row live. let ends = h.ends x row live in record { node = ends.from; chain = λ has. in_chain x row.from row live (inl refl) has; once = once row.from x };
-          to = λ row live. let ends = h.ends x row live in record { node = ends.to; chain = λ has. in_chain x row.to row live (inr refl) has; once = once row.to x };
+          from = λ row live. let ends = h.ends x row live in record {
+            node = ends.from;
+            chain = λ has. in_chain x row.from row live (inl refl) has;
+            once = once
+                row.from x;
+          };
+          to = λ row live. let ends = h.ends x row live in record {
+            node = ends.to;
+            chain = λ has. in_chain x row.to row live (inr refl) has;
+            once = once row.to
+                x;
+          };
         };
       }

@@ -117,14 +117,16 @@ module _ (next prev next' prev' : ℕ → ℕ) (r : ℕ)
   chain_unlink b f (x ∷ xs) once h i = ⊎_elim
       (λ (e : (r ≡ x) × (nat_eq r x ≡ true)).
       let from : nat_eq f r ≡ true = ap (λ q. nat_eq q r) (h.0 ∙ sym e.0) ∙ ap (nat_eq r) e.0 ∙ e.1 in
-      rw (e.1, from) (unlink_first b xs (ap prev e.0 ∙ h.2) (λ q. h.1 (sym e.0 ∙ q)) (λ k. once (inr k)) (subst (λ q. IsChain next prev q (next q) xs) (sym e.0) h.3)))
+      rw (e.1, from) (unlink_first b xs (ap prev e.0 ∙ h.2) (λ q. h.1 (sym e.0 ∙ q)) (λ k. once (inr k)) (subst (λ q. IsChain next prev q (next q) xs) (sym e.0)
+      h.3)))
       (λ (e : (r ≢ x) × (nat_eq r x ≡ false)).
       let member : In r xs = ⊎_elim (λ q. absurd (e.0 q)) (λ k. k) i in
       let walked = walk_of_chain next prev x (next x) xs h.3 in
       let x_out = head_once next x xs h.1 walked in
       let from : nat_eq f r ≡ false = eq_false f r (λ q. e.0 (sym q ∙ h.0)) in
       let apart : x ≢ r = λ q. e.0 (sym q) in
-      let before : prev' x ≡ prev x = p x apart (λ q. ⊎_elim (λ none. h.1 (q ∙ none)) (λ k. x_out (subst (λ z. In z xs) (sym q) k)) (after_in next (next x) xs r walked member)) in
+      let before : prev' x ≡ prev x = p x apart (λ q. ⊎_elim (λ none. h.1 (q ∙ none)) (λ k. x_out (subst (λ z. In z xs) (sym q) k)) (after_in next (next x)
+      xs r walked member)) in
       let rest = chain_unlink x (next x) xs x_out h.3 member in
       let after : next' x ≡ cond (nat_eq (next x) r) (next r) (next x) = ⊎_elim
       (λ (k : (next x ≡ r) × (nat_eq (next x) r ≡ true)).

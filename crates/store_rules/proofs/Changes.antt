@@ -52,8 +52,10 @@ module _ (s t : Records) (file id : ℕ) (change : IsChanged s t file id) where
 
   pub kind_other : (x : ℕ) → x ≢ id → kind_at t file x ≡ kind_at s file x
   kind_other x ne = ⊎_elim
-      (λ (lt : x < high s file). let le = change.more in kind_low (high t file) (rec_at t file x) x (omega arith) ∙ ap (λ r. field 1 r format.kind) (other_record file x change.is_file (λ _. ne)) ∙ sym (kind_low (high s file) (rec_at s file x) x lt))
-      (λ (ge : high s file ≤ x). kind_high (high t file) (rec_at t file x) x (⊎_elim (λ (lt : x < high t file). let c = change.covers x lt ne in omega arith) (λ (le : high t file ≤ x). le) (cases_lt x (high t file))) ∙ sym (kind_high (high s file) (rec_at s file x) x ge))
+      (λ (lt : x < high s file). let le = change.more in kind_low (high t file) (rec_at t file x) x (omega arith) ∙ ap (λ r. field 1 r format.kind)
+      (other_record file x change.is_file (λ _. ne)) ∙ sym (kind_low (high s file) (rec_at s file x) x lt))
+      (λ (ge : high s file ≤ x). kind_high (high t file) (rec_at t file x) x (⊎_elim (λ (lt : x < high t file). let c = change.covers x lt ne in omega arith)
+      (λ (le : high t file ≤ x). le) (cases_lt x (high t file))) ∙ sym (kind_high (high s file) (rec_at s file x) x ge))
       (cases_lt x (high s file))
 
   pub live_other : (x : ℕ) → x ≢ id → is_live t file x ≡ is_live s file x
@@ -75,7 +77,8 @@ module _ (s t : Records) (file id : ℕ) (change : IsChanged s t file id) where
         (λ (ne : f ≢ file). subst (IsMetaInRange shape f) (sym (other_meta f ne)) (old.metas f is)) (nat_cases f file);
     fit = λ f x is lt. ⊎_elim
         (λ (e : f ≡ file). ⊎_elim
-        (λ (k : x ≡ id). subst (λ g. Fits (high t) g (rec_at t g x)) (sym e) (subst (λ z. Fits (high t) file (rec_at t file z)) (sym k) (here (subst (λ z. z < high t file) k (subst (λ g. x < high t g) e lt)))))
+        (λ (k : x ≡ id). subst (λ g. Fits (high t) g (rec_at t g x)) (sym e) (subst (λ z. Fits (high t) file (rec_at t file z)) (sym k)
+        (here (subst (λ z. z < high t file) k (subst (λ g. x < high t g) e lt)))))
         (λ (k : x ≢ id). kept f x is (λ _. k) (subst (λ g. x < high s g) (sym e) (change.covers x (subst (λ g. x < high t g) e lt) k))) (nat_cases x id))
         (λ (ne : f ≢ file). let e = mark_same f ne in kept f x is (λ q. absurd (ne q)) (omega arith)) (nat_cases f file);
   }
@@ -87,7 +90,8 @@ module _ (s t : Records) (file id : ℕ) (change : IsChanged s t file id) where
   pub split_all : (is_reused file ≡ true → (free : List ℕ) × IsSplit t file (is_live t file) free)
       → ((f : ℕ) → is_reused f ≡ true → (free : List ℕ) × IsSplit s f (is_live s f) free)
       → (f : ℕ) → is_reused f ≡ true → (free : List ℕ) × IsSplit t f (is_live t f) free
-  split_all here old f is = ⊎_elim (λ (e : f ≡ file). subst (λ g. (free : List ℕ) × IsSplit t g (is_live t g) free) (sym e) (here (subst (λ g. is_reused g ≡ true) e is)))
+  split_all here old f is = ⊎_elim (λ (e : f ≡ file). subst (λ g. (free : List ℕ) × IsSplit t g (is_live t g) free) (sym e)
+      (here (subst (λ g. is_reused g ≡ true) e is)))
       (λ (ne : f ≢ file). let k = old f is in (k.0, split_same s t f k.0 (same_file f (meta_of_reused f is) ne) k.1)) (nat_cases f file)
 
   pub kept_all : (is_reused file ≡ false → AreAllLive t file) → ((f : ℕ) → is_meta_file f ≡ true → is_reused f ≡ false → AreAllLive s f) → (f : ℕ)
@@ -103,9 +107,11 @@ module _ (s t : Records) (file id : ℕ) (change : IsChanged s t file id) where
       other_record format.relationships_file x refl (λ e. absurd (ne (sym e))) in
       record {
         members = k.members;
-        chain = subst (λ f. IsChain (λ x. next_in (rec_at t format.relationships_file x) n) (λ x. prev_in (rec_at t format.relationships_file x) n) format.nil f k.members)
+        chain = subst (λ f. IsChain (λ x. next_in (rec_at t format.relationships_file x) n) (λ x. prev_in (rec_at t format.relationships_file x) n) format.nil f
+            k.members)
             (sym (ap (λ r. field 4 r h.field) (other_record h.key.file h.key.id is apart)))
-            (chain_stays (λ x. next_in (rec_at s format.relationships_file x) n) (λ x. prev_in (rec_at s format.relationships_file x) n) (λ x. next_in (rec_at t format.relationships_file x) n) (λ x. prev_in (rec_at t format.relationships_file x) n)
+            (chain_stays (λ x. next_in (rec_at s format.relationships_file x) n) (λ x. prev_in (rec_at s format.relationships_file x) n)
+            (λ x. next_in (rec_at t format.relationships_file x) n) (λ x. prev_in (rec_at t format.relationships_file x) n)
             format.nil (first_of s h) k.members (λ x i. ap (λ r. next_in r n) (rel x)) (λ x i. ap (λ r. prev_in r n) (rel x)) k.chain);
         only = k.only;
         all = k.all;

@@ -126,7 +126,8 @@ count_more test row rels now n m id none here same lt way = by (test row) (ap (p
     by : (b : Bool) → passes test (now id) ≡ b → count_of test now m ≡ count_of test rels n + one_if b
     by true e = ids_with (λ x. passes test (rels x)) (λ x. passes test (now x)) n m id (ap (passes test) none) e (λ x ne. ap (passes test) (same x ne)) lt way
     by false e = ap length (ids_kept (λ x. passes test (rels x)) (λ x. passes test (now x)) n m id
-        (λ x. ⊎_elim (λ (k : x ≡ id). ap (λ z. passes test (now z)) k ∙ e ∙ sym (ap (passes test) none) ∙ ap (λ z. passes test (rels z)) (sym k)) (λ ne. ap (passes test) (same x ne)) (nat_cases x id))
+        (λ x. ⊎_elim (λ (k : x ≡ id). ap (λ z. passes test (now z)) k ∙ e ∙ sym (ap (passes test) none) ∙ ap (λ z. passes test (rels z)) (sym k))
+        (λ ne. ap (passes test) (same x ne)) (nat_cases x id))
         (ap (passes test) none) way) ∙ sym (add-zero (count_of test rels n))
 
 -- so the numbers stay exact

@@ -47,7 +47,8 @@ ids_with old now n m id out here same lt way = ⊎_elim
         on false h = absurd cc
 
     one : (m : ℕ) → id < m → length (ids now m) ≡ length (ids old m) + 1
-    one m lt = ap length (collect_with (λ e. e) (if_test old) (if_test now) m id id (numbered old) refl (rw out refl) (rw here refl) (λ x b ne. rw (same x ne) refl) lt) ∙ length-with_row (λ e. e) id (ids old m)
+    one m lt = ap length (collect_with (λ e. e) (if_test old) (if_test now) m id id (numbered old) refl (rw out refl) (rw here refl) (λ x b ne. rw (same x ne)
+        refl) lt) ∙ length-with_row (λ e. e) id (ids old m)
 
 -- a test that the new number fails counts as many
 pub ids_kept : (old now : ℕ → Bool) (n m id : ℕ) → ((x : ℕ) → now x ≡ old x) → old id ≡ false → (m ≡ n) ⊎ ((id ≡ n) × (m ≡ n + 1)) → ids now m ≡ ids old n

@@ -20,7 +20,8 @@ abbrev pub IsOfNames : Records → Rec → Type 0
 IsOfNames s r = (field 4 r format.definition_label < high s format.names_file) × (field 4 r format.definition_key < high s format.names_file)
 
 -- where definitions are what they were, and names came
-pub defined_alike : (s t : Records) → ((d : ℕ) → kind_at t format.index_file d ≡ format.definition → (kind_at s format.index_file d ≡ format.definition) × (rec_at t format.index_file d ≡ rec_at s format.index_file d))
+pub defined_alike : (s t : Records) → ((d : ℕ) → kind_at t format.index_file d ≡ format.definition → (kind_at s format.index_file d ≡ format.definition) ×
+    (rec_at t format.index_file d ≡ rec_at s format.index_file d))
     → high s format.names_file ≤ high t format.names_file → Defines s → Defines t
 defined_alike s t alike more h = record {
   labels = λ d is. let a = alike d is in let low = h.labels d a.0 in subst (λ (r : Rec). field 4 r format.definition_label < high t format.names_file) (sym a.1)
@@ -63,12 +64,16 @@ defined_with s t id change now h = record {
     label : (d : ℕ) → kind_at t format.index_file d ≡ format.definition
         → field 4 (rec_at t format.index_file d) format.definition_label < high s format.names_file
     label d is = ⊎_elim
-        (λ (e : d ≡ id). subst (λ z. field 4 (rec_at t format.index_file z) format.definition_label < high s format.names_file) (sym e) ((now (ap (kind_at t format.index_file) (sym e) ∙ is)).0))
-        (λ (ne : d ≢ id). subst (λ (r : Rec). field 4 r format.definition_label < high s format.names_file) (sym (other d ne)) (h.labels d (sym (ch.kind_other s t format.index_file id change d ne) ∙ is)))
+        (λ (e : d ≡ id). subst (λ z. field 4 (rec_at t format.index_file z) format.definition_label < high s format.names_file) (sym e)
+        ((now (ap (kind_at t format.index_file) (sym e) ∙ is)).0))
+        (λ (ne : d ≢ id). subst (λ (r : Rec). field 4 r format.definition_label < high s format.names_file) (sym (other d ne))
+        (h.labels d (sym (ch.kind_other s t format.index_file id change d ne) ∙ is)))
         (nat_cases d id)
 
     key : (d : ℕ) → kind_at t format.index_file d ≡ format.definition → field 4 (rec_at t format.index_file d) format.definition_key < high s format.names_file
     key d is = ⊎_elim
-        (λ (e : d ≡ id). subst (λ z. field 4 (rec_at t format.index_file z) format.definition_key < high s format.names_file) (sym e) ((now (ap (kind_at t format.index_file) (sym e) ∙ is)).1))
-        (λ (ne : d ≢ id). subst (λ (r : Rec). field 4 r format.definition_key < high s format.names_file) (sym (other d ne)) (h.keys d (sym (ch.kind_other s t format.index_file id change d ne) ∙ is)))
+        (λ (e : d ≡ id). subst (λ z. field 4 (rec_at t format.index_file z) format.definition_key < high s format.names_file) (sym e)
+        ((now (ap (kind_at t format.index_file) (sym e) ∙ is)).1))
+        (λ (ne : d ≢ id). subst (λ (r : Rec). field 4 r format.definition_key < high s format.names_file) (sym (other d ne))
+        (h.keys d (sym (ch.kind_other s t format.index_file id change d ne) ∙ is)))
         (nat_cases d id)

@@ -27,7 +27,8 @@ image_cases f x (suc n) = ⊎_elim
     (λ (k : (c : ℕ) × (c < n) × (f c ≡ x)). inl (k.0, (let lt = k.1 in omega arith), k.2))
     (λ (out : (c : ℕ) → c < n → x ≢ f c). ⊎_elim
     (λ (p : f n ≡ x). inl (n, omega arith, p))
-    (λ (ne : f n ≢ x). inr (λ c lt. ⊎_elim (λ (u : c < n). out c u) (λ (u : n ≤ c). λ e. let same : n ≡ c = omega arith in ne (ap f same ∙ sym e)) (cases_lt c n)))
+    (λ (ne : f n ≢ x). inr (λ c lt. ⊎_elim (λ (u : c < n). out c u) (λ (u : n ≤ c). λ e. let same : n ≡ c = omega arith in ne (ap f same ∙ sym e))
+    (cases_lt c n)))
     (nat_cases (f n) x)) (image_cases f x n)
 
 module _ (s t : Records) (wanted : Entries) (ix : AreIndexed s wanted) (d label key : ℕ) (h : IsDefinitionMade s t d label key) where
@@ -84,7 +85,8 @@ module _ (s t : Records) (wanted : Entries) (ix : AreIndexed s wanted) (d label 
     h.first,
     some,
     subst (λ f. IsWalk (next_definition t) f ix.definitions) (sym h.next)
-        (walk_stays (next_definition s) (next_definition t) (first_definition s) ix.definitions (λ e i. ap (λ (r : Rec). field 4 r format.definition_next) (definition_old e i)) ix.walk),
+        (walk_stays (next_definition s) (next_definition t) (first_definition s) ix.definitions (λ e i. ap (λ (r : Rec). field 4 r format.definition_next)
+        (definition_old e i)) ix.walk),
   )
 
   abbrev pub lists : ℕ → ℕ → List ℕ
@@ -94,7 +96,8 @@ module _ (s t : Records) (wanted : Entries) (ix : AreIndexed s wanted) (d label 
   on : (P : List ℕ → Type 0) (e b : ℕ) → In e definitions → (e ≡ d → P []) → (In e ix.definitions → P (ix.lists e b)) → P (lists e b)
   on P e b i here there = ⊎_elim
       (λ (p : e ≡ d). subst (λ z. P (cond z [] (ix.lists e b))) (sym (eq_true e d p)) (here p))
-      (λ (ne : e ≢ d). subst (λ z. P (cond z [] (ix.lists e b))) (sym (eq_false e d ne)) (there (⊎_elim (λ (p : e ≡ d). absurd (ne p)) (λ (j : In e ix.definitions). j) i)))
+      (λ (ne : e ≢ d). subst (λ z. P (cond z [] (ix.lists e b))) (sym (eq_false e d ne)) (there (⊎_elim (λ (p : e ≡ d). absurd (ne p))
+      (λ (j : In e ix.definitions). j) i)))
       (nat_cases e d)
 
   old_list : (e b : ℕ) → In e ix.definitions → lists e b ≡ ix.lists e b
@@ -106,7 +109,12 @@ module _ (s t : Records) (wanted : Entries) (ix : AreIndexed s wanted) (d label 
   entry_old y k =
       let used = used_of y format.indexed k (λ q. omega (arith, q)) in
       let rec = rec_old y used in (
-        record { kind = kind_old y used; node = ap (λ (r : Rec). field 4 r format.indexed_node) rec; hash = ap (λ (r : Rec). field 8 r format.indexed_hash) rec },
+        record {
+          kind = kind_old y used;
+          node = ap (λ (r : Rec). field 4 r format.indexed_node) rec;
+          hash = ap (λ (r : Rec). field 8 r format.indexed_hash)
+              rec;
+        },
         record { next = ap (λ (r : Rec). field 4 r format.indexed_next) rec; previous = ap (λ (r : Rec). field 4 r format.indexed_previous) rec },
       )
 
@@ -120,7 +128,8 @@ module _ (s t : Records) (wanted : Entries) (ix : AreIndexed s wanted) (d label 
       let same : (y : ℕ) → In y (ix.lists e b) → SameEntry s t y × SameLinks s t y = λ y m. entry_old y (was.kind y m) in
       record {
         chain = subst (λ f. IsChain (next_entry t) (previous_entry t) format.nil f (ix.lists e b)) (sym (first_old e b i lt))
-            (chain_stays (next_entry s) (previous_entry s) (next_entry t) (previous_entry t) format.nil (first_entry s e b) (ix.lists e b) (λ y m. (same y m).1.next) (λ y m. (same y m).1.previous) was.chain);
+            (chain_stays (next_entry s) (previous_entry s) (next_entry t) (previous_entry t) format.nil (first_entry s e b) (ix.lists e b)
+            (λ y m. (same y m).1.next) (λ y m. (same y m).1.previous) was.chain);
         kind = λ y m. (same y m).0.kind ∙ was.kind y m;
         hash = λ y m. ap bucket_of (same y m).0.hash ∙ was.hash y m;
         wanted_is = λ y m. ap wanted (entry_same e y i (same y m).0) ∙ was.wanted_is y m;
@@ -158,7 +167,8 @@ module _ (s t : Records) (wanted : Entries) (ix : AreIndexed s wanted) (d label 
 
     distinct : (e f : ℕ) → In e definitions → In f definitions → indexed_label t e ≡ indexed_label t f → indexed_key t e ≡ indexed_key t f → e ≡ f
     distinct e f i j l k = pairs (e ≡ f) e f i j (λ p q. p ∙ sym q)
-        (λ p q. absurd (lacked f q (sym (label_at f q) ∙ sym l ∙ ap (indexed_label t) p ∙ h.label_is) (sym (key_at f q) ∙ sym k ∙ ap (indexed_key t) p ∙ h.key_is)))
+        (λ p q. absurd (lacked f q (sym (label_at f q) ∙ sym l ∙ ap (indexed_label t) p ∙ h.label_is) (sym (key_at f q) ∙ sym k ∙ ap (indexed_key t) p
+        ∙ h.key_is)))
         (λ p q. absurd (lacked e p (sym (label_at e p) ∙ l ∙ ap (indexed_label t) q ∙ h.label_is) (sym (key_at e p) ∙ k ∙ ap (indexed_key t) q ∙ h.key_is)))
         (λ p q. ix.distinct e f p q (sym (label_at e p) ∙ l ∙ label_at f q) (sym (key_at e p) ∙ k ∙ key_at f q))
 

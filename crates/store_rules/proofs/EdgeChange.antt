@@ -140,7 +140,8 @@ module _ (s t : Records) (id : ℕ) (h : IsEdgeChange s t id) where
   split_same : (f : ℕ) (free : List ℕ) → is_meta_file f ≡ true → f ≢ format.relationships_file → IsSplit s f (is_live s f) free → IsSplit t f (is_live t f) free
   split_same f free is ne k = subst (λ v. IsSplit t f v free) (sym (live_same f is ne)) (record {
     walk = subst (λ (m : Meta). IsWalk (next_free t f) m.free free) (sym (ap metas.meta_of (meta_same f ne)))
-        (walk_stays (next_free s f) (next_free t f) (meta_in s f).free free (λ x _. h.same f x 4 format.free_next is ne (omega arith) (kept_low f 4 format.free_next (omega arith))) k.walk);
+        (walk_stays (next_free s f) (next_free t f) (meta_in s f).free free (λ x _. h.same f x 4 format.free_next is ne (omega arith)
+        (kept_low f 4 format.free_next (omega arith))) k.walk);
     low = λ x i. subst (λ m. x < m) (sym (mark_same f ne)) (k.low x i);
     only = k.only;
     all = λ x lt. k.all x (subst (λ m. x < m) (mark_same f ne) lt);
@@ -253,7 +254,8 @@ module _ (s t : Records) (shape : Shape) (id : ℕ) {most : ℕ} {before empty :
       each : (n : ℕ) → kind_at s format.nodes_file n ≡ format.dense → HasGroups (first_link t n) n (rec_at t format.groups_file) (group_at s) empty
       each n d = let old = well.grouped.each n d in record {
         members = old.members;
-        chain = subst (λ f. IsChain (λ g. field 4 (rec_at t format.groups_file g) format.group_next) (λ g. field 4 (rec_at t format.groups_file g) format.group_previous) format.nil f old.members) (sym (now.change.dense n d))
+        chain = subst (λ f. IsChain (λ g. field 4 (rec_at t format.groups_file g) format.group_next) (λ g. field 4 (rec_at t format.groups_file g)
+            format.group_previous) format.nil f old.members) (sym (now.change.dense n d))
             (chain_stays (λ g. field 4 (rec_at s format.groups_file g) format.group_next) (λ g. field 4 (rec_at s format.groups_file g) format.group_previous)
             (λ g. field 4 (rec_at t format.groups_file g) format.group_next) (λ g. field 4 (rec_at t format.groups_file g) format.group_previous)
             format.nil (first_link s n) old.members (λ g _. number g format.group_next (omega arith)) (λ g _. number g format.group_previous (omega arith))
@@ -292,7 +294,8 @@ module _ (s t : Records) (shape : Shape) (id : ℕ) {most : ℕ} {before empty :
     split = λ f is. ⊎_elim (λ (e : f ≡ format.relationships_file). subst (λ g. (free : List ℕ) × IsSplit t g (is_live t g) free) (sym e) (now.free, now.split))
         (λ (ne : f ≢ format.relationships_file). let k = well.split f is in (k.0, split_same s t id now.change f k.0 (meta_of_reused f is) ne k.1))
         (nat_cases f format.relationships_file);
-    kept = λ f is no_reuse. subst (λ (m : Meta). m.live ≡ m.high) (sym (ap metas.meta_of (meta_same s t id now.change f (λ e. true≢false (sym (ap is_reused e) ∙ no_reuse))))) (well.kept f is no_reuse);
+    kept = λ f is no_reuse. subst (λ (m : Meta). m.live ≡ m.high)
+        (sym (ap metas.meta_of (meta_same s t id now.change f (λ e. true≢false (sym (ap is_reused e) ∙ no_reuse))))) (well.kept f is no_reuse);
     linked = linked;
     grouped = grouped;
     exact = λ g row is kind. now.exact g row (ap (λ (f : ℕ → Option GroupRow). f g) (sym (groups_same s t id now.change)) ∙ is)

@@ -67,8 +67,10 @@ module _ (s u t : Records) (shape : Shape) (id : ℕ) (row : RelRow) {most : ℕ
 
   same_at : (n : ℕ) → is_at n row ≡ false → degree_of (rel_at t) (high s format.relationships_file) n ≡ degree_of (rel_at s) (high s format.relationships_file)
       n
-  same_at n e = ap length (ids_kept (λ x. stands_in n (rel_at s x)) (λ x. stands_in n (rel_at t x)) (high s format.relationships_file) (high s format.relationships_file) id
-      (λ x. ⊎_elim (λ (k : x ≡ id). ap (λ z. stands_in n (rel_at t z)) k ∙ ap (stands_in n) rel_gone ∙ sym (ap (stands_in n) edge.live ∙ e) ∙ ap (λ z. stands_in n (rel_at s z)) (sym k)) (λ ne. ap (stands_in n) (change.rels x ne)) (nat_cases x id))
+  same_at n e = ap length (ids_kept (λ x. stands_in n (rel_at s x)) (λ x. stands_in n (rel_at t x)) (high s format.relationships_file)
+      (high s format.relationships_file) id
+      (λ x. ⊎_elim (λ (k : x ≡ id). ap (λ z. stands_in n (rel_at t z)) k ∙ ap (stands_in n) rel_gone ∙ sym (ap (stands_in n) edge.live ∙ e) ∙ ap
+      (λ z. stands_in n (rel_at s z)) (sym k)) (λ ne. ap (stands_in n) (change.rels x ne)) (nat_cases x id))
       (ap (stands_in n) edge.live ∙ e) (inl refl))
 
   lower : (a b c d : ℕ) → a + 1 ≡ b → b ≡ c → c ≡ d + 1 → a ≡ d
@@ -100,7 +102,12 @@ module _ (s u t : Records) (shape : Shape) (id : ℕ) (row : RelRow) {most : ℕ
           (λ z. absurd (let f : 3 ≡ 1 = z.0 in omega arith))
           (λ z. inr (edge.out_of g k.0 (subst (IsInGroup (group_at s) (group_head g k.0)) (sym (same_row k.3.row (ap (rel_at s) (sym e) ∙ k.3.live))) z.1)))
           k.3.on)
-          (λ (ne : k.1 ≢ id). inl (filled_by s well.grouped g group is t (rel_at t) edge.listed k.0 k.1 k.2 (record { row = k.3.row; live = change.rels k.1 ne ∙ k.3.live; on = k.3.on })))
+          (λ (ne : k.1 ≢ id). inl (filled_by s well.grouped g group is t (rel_at t) edge.listed k.0 k.1 k.2 (record {
+            row = k.3.row;
+            live = change.rels k.1 ne
+                ∙ k.3.live;
+            on = k.3.on;
+          })))
           (nat_cases k.1 id)
 
   few : (n : ℕ) → kind_at s format.nodes_file n ≡ format.sparse → degree t n ≤ most

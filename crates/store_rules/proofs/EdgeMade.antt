@@ -62,7 +62,8 @@ pub record IsEdgeMade (s m t : Records) (shape : Shape) (id : ℕ) (rec : Rec) (
 pub made_row : (s m : Records) (shape : Shape) (id : ℕ) (rec : Rec) → IsMade s m shape format.relationships_file id rec
     → field 1 rec format.kind ≢ format.free_kind → rel_at m id ≡ Some (rel_in rec id)
 made_row s m shape id rec made used = row_some (kind_at m format.relationships_file id) (rel_in (rec_at m format.relationships_file id) id)
-    (λ e. used (sym (kind_low (high m format.relationships_file) (rec_at m format.relationships_file id) id made.below ∙ ap (λ r. field 1 r format.kind) made.here) ∙ e)) ∙ ap (λ r. Some (rel_in r id)) made.here
+    (λ e. used (sym (kind_low (high m format.relationships_file) (rec_at m format.relationships_file id) id made.below ∙ ap (λ r. field 1 r format.kind)
+    made.here) ∙ e)) ∙ ap (λ r. Some (rel_in r id)) made.here
 
 pub no_row : (s : Records) (id : ℕ) → kind_at s format.relationships_file id ≡ format.free_kind → rel_at s id ≡ None
 no_row s id free = row_none (kind_at s format.relationships_file id) (rel_in (rec_at s format.relationships_file id) id) free
@@ -96,8 +97,10 @@ module _ (s m t : Records) (shape : Shape) (id : ℕ) (rec : Rec) (row : RelRow)
 
   same_at : (n : ℕ) → is_at n row ≡ false → degree_of (rel_at t) (high t format.relationships_file) n ≡ degree_of (rel_at s) (high s format.relationships_file)
       n
-  same_at n e = ap length (ids_kept (λ x. stands_in n (rel_at s x)) (λ x. stands_in n (rel_at t x)) (high s format.relationships_file) (high t format.relationships_file) id
-      (λ x. ⊎_elim (λ (k : x ≡ id). ap (λ z. stands_in n (rel_at t z)) k ∙ ap (stands_in n) rel_new ∙ e ∙ sym (ap (stands_in n) rel_old) ∙ ap (λ z. stands_in n (rel_at s z)) (sym k)) (λ ne. ap (stands_in n) (change.rels x ne)) (nat_cases x id))
+  same_at n e = ap length (ids_kept (λ x. stands_in n (rel_at s x)) (λ x. stands_in n (rel_at t x)) (high s format.relationships_file)
+      (high t format.relationships_file) id
+      (λ x. ⊎_elim (λ (k : x ≡ id). ap (λ z. stands_in n (rel_at t z)) k ∙ ap (stands_in n) rel_new ∙ e ∙ sym (ap (stands_in n) rel_old) ∙ ap
+      (λ z. stands_in n (rel_at s z)) (sym k)) (λ ne. ap (stands_in n) (change.rels x ne)) (nat_cases x id))
       (ap (stands_in n) rel_old) way)
 
   counted : (n : ℕ) → kind_at s format.nodes_file n ≢ format.free_kind → degree t n ≡ degree_of (rel_at t) (high t format.relationships_file) n
@@ -140,7 +143,8 @@ module _ (s m t : Records) (shape : Shape) (id : ℕ) (rec : Rec) (row : RelRow)
   now = record {
     change = change;
     ranges = re.range_stays m t edge.links shape
-        (ch.in_range s m format.relationships_file id edge.made.change shape edge.made.meta (λ _. subst (Fits (high m) format.relationships_file) (sym edge.made.here) edge.fits) well.ranges);
+        (ch.in_range s m format.relationships_file id edge.made.change shape edge.made.meta (λ _. subst (Fits (high m) format.relationships_file)
+        (sym edge.made.here) edge.fits) well.ranges);
     free = edge.made.free;
     split = re.split_stays m t edge.links format.relationships_file edge.made.free edge.made.split;
     was = λ a e. absurd (let z : None ≡ Some a = sym rel_old ∙ e in cc);
@@ -176,7 +180,14 @@ module _ (s m t : Records) (shape : Shape) (id : ℕ) (rec : Rec) (row : RelRow)
   abbrev new_edge : ℕ → Properties → Edge
   new_edge n properties = record { id = n; label = text_of (rec_at s format.names_file row.label); from = row.from; to = row.to; properties = properties }
 
-  pub made_edges : (graph_of t).edges ≡ with_row edge_number (record { id = id; label = text_of (rec_at s format.names_file row.label); from = row.from; to = row.to; properties = no_properties }) (graph_of s).edges
+  pub made_edges : (graph_of t).edges ≡ with_row edge_number (record {
+    id = id;
+    label = text_of (rec_at s format.names_file row.label);
+    from = row.from;
+    to =
+        row.to;
+    properties = no_properties;
+  }) (graph_of s).edges
   made_edges = rows_with edge_number (edge_of s) (edge_of t) (high s format.relationships_file) (high t format.relationships_file) id
       (new_edge id no_properties) (edges_numbered s) refl none_before
       (ec.edge_now s t id change id ∙ ap (edge_from (rec_at s format.names_file) (property_records s)) rel_new

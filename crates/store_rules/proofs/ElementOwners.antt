@@ -41,17 +41,22 @@ module _ (records : Records) (x : ℕ) where
 
   pub owns_is : (file first : ℕ) → Owns records file x first → IsOwner file first
   owns_is file first h = ⊎_elim
-      (λ (t : nat_eq file 1 ≡ true). let e = eqb-true file 1 t in subst (λ f. IsOwner f first) (sym e) (node_owner first (subst (λ f. Owns records f x first) e h)))
+      (λ (t : nat_eq file 1 ≡ true). let e = eqb-true file 1 t in subst (λ f. IsOwner f first) (sym e) (node_owner first (subst (λ f. Owns records f x first)
+      e h)))
       (λ (n : nat_eq file 1 ≡ false). ⊎_elim
-      (λ (t : nat_eq file 2 ≡ true). let e = eqb-true file 2 t in subst (λ f. IsOwner f first) (sym e) (rel_owner first (subst (λ f. Owns records f x first) e h)))
-      (λ (m : nat_eq file 2 ≡ false). absurd (neither (nat_eq file 1) (nat_eq file 2) (rules.node_first (node_at records x)) (rules.rel_first (rel_at records x)) first n m h))
+      (λ (t : nat_eq file 2 ≡ true). let e = eqb-true file 2 t in subst (λ f. IsOwner f first) (sym e) (rel_owner first (subst (λ f. Owns records f x first)
+      e h)))
+      (λ (m : nat_eq file 2 ≡ false). absurd (neither (nat_eq file 1) (nat_eq file 2) (rules.node_first (node_at records x))
+      (rules.rel_first (rel_at records x)) first n m h))
       (cases_Bool (nat_eq file 2)))
       (cases_Bool (nat_eq file 1))
 
   pub owner_of : (file : ℕ) → is_element_file file ≡ true → is_live records file x ≡ true → Owns records file x (property_from records file x)
   owner_of file known live = ⊎_elim
-      (λ (t : nat_eq file 1 ≡ true). let e = eqb-true file 1 t in subst (λ f. Owns records f x (property_from records f x)) (sym e) (node (subst (λ f. is_live records f x ≡ true) e live)))
-      (λ (t : nat_eq file 2 ≡ true). let e = eqb-true file 2 t in subst (λ f. Owns records f x (property_from records f x)) (sym e) (rel (subst (λ f. is_live records f x ≡ true) e live)))
+      (λ (t : nat_eq file 1 ≡ true). let e = eqb-true file 1 t in subst (λ f. Owns records f x (property_from records f x)) (sym e)
+      (node (subst (λ f. is_live records f x ≡ true) e live)))
+      (λ (t : nat_eq file 2 ≡ true). let e = eqb-true file 2 t in subst (λ f. Owns records f x (property_from records f x)) (sym e)
+      (rel (subst (λ f. is_live records f x ≡ true) e live)))
       (or_cases (nat_eq file 1) (nat_eq file 2) known)
     where
       node : is_live records 1 x ≡ true → Owns records 1 x (property_from records 1 x)
@@ -65,8 +70,10 @@ pub label_kept : (records : Records) (file x : ℕ) → is_element_file file ≡
     → rules.AreNamed (node_at records) (rel_at records) (high records format.names_file)
     → is_live records file x ≡ true → label_of records file x < high records format.names_file
 label_kept records file x known h live = ⊎_elim
-    (λ (t : nat_eq file 1 ≡ true). let e = eqb-true file 1 t in subst (λ f. label_of records f x < high records format.names_file) (sym e) (node (subst (λ f. is_live records f x ≡ true) e live)))
-    (λ (t : nat_eq file 2 ≡ true). let e = eqb-true file 2 t in subst (λ f. label_of records f x < high records format.names_file) (sym e) (rel (subst (λ f. is_live records f x ≡ true) e live)))
+    (λ (t : nat_eq file 1 ≡ true). let e = eqb-true file 1 t in subst (λ f. label_of records f x < high records format.names_file) (sym e)
+    (node (subst (λ f. is_live records f x ≡ true) e live)))
+    (λ (t : nat_eq file 2 ≡ true). let e = eqb-true file 2 t in subst (λ f. label_of records f x < high records format.names_file) (sym e)
+    (rel (subst (λ f. is_live records f x ≡ true) e live)))
     (or_cases (nat_eq file 1) (nat_eq file 2) known)
   where
     node : is_live records 1 x ≡ true → label_of records 1 x < high records format.names_file

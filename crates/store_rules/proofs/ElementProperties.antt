@@ -38,34 +38,41 @@ module _ (s : Records) (x : ℕ) where
 
   -- it is one of the graph where the record is in use
   pub edge_used : kind_at s format.relationships_file x ≢ format.free_kind → edge_of s x ≡ Some edge_here
-  edge_used used = ap (edge_from names (property_records s)) (row_some (kind_at s format.relationships_file x) (rel_in (rec_at s format.relationships_file x) x) used)
+  edge_used used = ap (edge_from names (property_records s)) (row_some (kind_at s format.relationships_file x) (rel_in (rec_at s format.relationships_file x) x)
+      used)
 
   -- a node has the properties that its record leads to
   node_at-properties : kind_at s format.nodes_file x ≢ format.free_kind
       → properties_at (graph_of s) (targets.Node x) ≡ properties_from names (property_records s) (property_from s format.nodes_file x)
   node_at-properties used = ap node_properties
-      (find_collect node_number (node_of s) (high s format.nodes_file) x (nodes_numbered s) (kind_below (high s format.nodes_file) (rec_at s format.nodes_file x) x used) ∙ node_used used)
+      (find_collect node_number (node_of s) (high s format.nodes_file) x (nodes_numbered s) (kind_below (high s format.nodes_file)
+      (rec_at s format.nodes_file x) x used) ∙ node_used used)
 
   -- and so has an edge
   edge_at-properties : kind_at s format.relationships_file x ≢ format.free_kind
       → properties_at (graph_of s) (targets.Edge x) ≡ properties_from names (property_records s) (property_from s format.relationships_file x)
   edge_at-properties used = ap edge_properties
-      (find_collect edge_number (edge_of s) (high s format.relationships_file) x (edges_numbered s) (kind_below (high s format.relationships_file) (rec_at s format.relationships_file x) x used) ∙ edge_used used)
+      (find_collect edge_number (edge_of s) (high s format.relationships_file) x (edges_numbered s) (kind_below (high s format.relationships_file)
+      (rec_at s format.relationships_file x) x used) ∙ edge_used used)
 
 -- an element in use is one of the graph
 pub has_element-used : (s : Records) (file x : ℕ) → (file ≡ format.nodes_file) ⊎ (file ≡ format.relationships_file) → kind_at s file x ≢ format.free_kind
     → has_element (graph_of s) (target_in file x) ≡ true
 has_element-used s file x element used = ⊎_elim
-    (λ (e : file ≡ format.nodes_file). ap (λ f. has_element (graph_of s) (target_in f x)) e ∙ node_there s x (subst (λ f. kind_at s f x ≢ format.free_kind) e used))
-    (λ (e : file ≡ format.relationships_file). ap (λ f. has_element (graph_of s) (target_in f x)) e ∙ edge_there s x (subst (λ f. kind_at s f x ≢ format.free_kind) e used)) element
+    (λ (e : file ≡ format.nodes_file). ap (λ f. has_element (graph_of s) (target_in f x)) e ∙ node_there s x (subst (λ f. kind_at s f x ≢ format.free_kind)
+    e used))
+    (λ (e : file ≡ format.relationships_file). ap (λ f. has_element (graph_of s) (target_in f x)) e ∙ edge_there s x
+    (subst (λ f. kind_at s f x ≢ format.free_kind) e used)) element
 
 -- and has the properties that its records have
 pub properties_at-is : (s : Records) (file x : ℕ) (es : List Property) → (file ≡ format.nodes_file) ⊎ (file ≡ format.relationships_file)
     → kind_at s file x ≢ format.free_kind
     → AreProperties (property_records s) (property_from s file x) es → properties_at (graph_of s) (target_in file x) ≡ map_of (rec_at s format.names_file) es
 properties_at-is s file x es element used are = ⊎_elim
-    (λ (e : file ≡ format.nodes_file). ap (λ f. properties_at (graph_of s) (target_in f x)) e ∙ node_at-properties s x (subst (λ f. kind_at s f x ≢ format.free_kind) e used) ∙ read format.nodes_file e)
-    (λ (e : file ≡ format.relationships_file). ap (λ f. properties_at (graph_of s) (target_in f x)) e ∙ edge_at-properties s x (subst (λ f. kind_at s f x ≢ format.free_kind) e used) ∙ read format.relationships_file e) element
+    (λ (e : file ≡ format.nodes_file). ap (λ f. properties_at (graph_of s) (target_in f x)) e ∙ node_at-properties s x
+    (subst (λ f. kind_at s f x ≢ format.free_kind) e used) ∙ read format.nodes_file e)
+    (λ (e : file ≡ format.relationships_file). ap (λ f. properties_at (graph_of s) (target_in f x)) e ∙ edge_at-properties s x
+    (subst (λ f. kind_at s f x ≢ format.free_kind) e used) ∙ read format.relationships_file e) element
   where
     read : (f : ℕ) → file ≡ f → properties_from (rec_at s format.names_file) (property_records s) (property_from s f x) ≡ map_of (rec_at s format.names_file) es
     read f e = ap (λ g. properties_from (rec_at s format.names_file) (property_records s) (property_from s g x)) (sym e)

@@ -143,7 +143,8 @@ module _ (s t : Records) (wanted : Entries) (ix : AreIndexed s wanted) (d b x : 
   heads_kept : (e c : ℕ) → In e ix.definitions → c < 12 → kind_at t format.index_file (heads_of s e c) ≡ kind_at s format.index_file (heads_of s e c)
   heads_kept e c i lt =
       let k = ix.heads e c i lt in
-      kind_kept s t (heads_of s e c) h.mark (heads_field (heads_of s e c) 1 format.kind k (live_some (heads_of s e c) (λ q. omega (arith, k, q))) (omega arith) (λ p. inr (omega arith)))
+      kind_kept s t (heads_of s e c) h.mark (heads_field (heads_of s e c) 1 format.kind k (live_some (heads_of s e c) (λ q. omega (arith, k, q))) (omega arith)
+      (λ p. inr (omega arith)))
 
   first_kept : (e c : ℕ) → In e ix.definitions → c < 180 → IsOther d b e c → first_entry t e c ≡ first_entry s e c
   first_kept e c i lt other =
@@ -188,7 +189,8 @@ module _ (s t : Records) (wanted : Entries) (ix : AreIndexed s wanted) (d b x : 
       let out = other_out e c y i lt other m in
       whole y (entry_far y k (λ q. out (subst (λ z. In z xs) (sym q) member))
       (λ q. ⊎_elim (λ (n : next_entry s x ≡ format.nil). some (q ∙ n)) (λ (n : In (next_entry s x) xs). out (subst (λ z. In z xs) (sym q) n)) after_there)
-      (λ q. ⊎_elim (λ (n : first_entry s d b ≡ x). some (q ∙ before_none n)) (λ (n : In (previous_entry s x) xs). out (subst (λ z. In z xs) (sym q) n)) before_there))
+      (λ q. ⊎_elim (λ (n : first_entry s d b ≡ x). some (q ∙ before_none n)) (λ (n : In (previous_entry s x) xs). out (subst (λ z. In z xs) (sym q) n))
+      before_there))
 
   -- what an entry of the bucket keeps, whatever became of its links
   fields_kept : (y n at : ℕ) → In y xs → y ≢ x → at + n ≤ 64 → (at + n ≤ format.indexed_previous) ⊎ (format.indexed_next + 4 ≤ at)
@@ -260,11 +262,13 @@ module _ (s t : Records) (wanted : Entries) (ix : AreIndexed s wanted) (d b x : 
   chain_masked : IsChain (masked (next_entry s) (next_entry t)) (masked (previous_entry s) (previous_entry t)) format.nil
       (cond (nat_eq (first_entry s d b) x) (next_entry s x) (first_entry s d b)) (without x xs)
   chain_masked = chain_unlink (next_entry s) (previous_entry s) (masked (next_entry s) (next_entry t)) (masked (previous_entry s) (previous_entry t)) x
-      (λ some. masked_at (next_entry s) (next_entry t) (previous_entry s x) (not_hid (previous_entry s x) (was.kind (previous_entry s x) (before_in_bucket some))) some
+      (λ some. masked_at (next_entry s) (next_entry t) (previous_entry s x) (not_hid (previous_entry s x) (was.kind (previous_entry s x)
+      (before_in_bucket some))) some
       ∙ ap (λ (r : Rec). field 4 r format.indexed_next) (h.before some)
       ∙ field-with_field_same 4 (index_rec s (previous_entry s x)) format.indexed_next (next_entry s x) (omega arith)
       (field-lt 4 (index_rec s x) format.indexed_next))
-      (λ some. masked_at (previous_entry s) (previous_entry t) (next_entry s x) (not_hid (next_entry s x) (was.kind (next_entry s x) (after_in_bucket some))) some
+      (λ some. masked_at (previous_entry s) (previous_entry t) (next_entry s x) (not_hid (next_entry s x) (was.kind (next_entry s x) (after_in_bucket some)))
+      some
       ∙ ap (λ (r : Rec). field 4 r format.indexed_previous) (h.after some)
       ∙ field-with_field_same 4 (index_rec s (next_entry s x)) format.indexed_previous (previous_entry s x) (omega arith)
       (field-lt 4 (index_rec s x) format.indexed_previous))
@@ -274,7 +278,8 @@ module _ (s t : Records) (wanted : Entries) (ix : AreIndexed s wanted) (d b x : 
 
   first_now : first_entry t d b ≡ cond (nat_eq (first_entry s d b) x) (next_entry s x) (first_entry s d b)
   first_now = ap (λ y. field 4 (index_rec t y) place) ((definition_same d listed).heads (b / 15) (omega arith)) ∙ ⊎_elim
-      (λ (p : first_entry s d b ≡ x). ap (λ (r : Rec). field 4 r place) (h.head (before_none p)) ∙ field-with_field_same 4 (index_rec s hid) place (next_entry s x) (omega arith) (field-lt 4 (index_rec s x) format.indexed_next)
+      (λ (p : first_entry s d b ≡ x). ap (λ (r : Rec). field 4 r place) (h.head (before_none p)) ∙ field-with_field_same 4 (index_rec s hid) place
+      (next_entry s x) (omega arith) (field-lt 4 (index_rec s x) format.indexed_next)
       ∙ rw (eq_true (first_entry s d b) x p) refl)
       (λ (ne : first_entry s d b ≢ x).
       let m = ⊎_elim (λ (q : first_entry s d b ≡ x). absurd (ne q)) (λ (i : In (previous_entry s x) xs). i) before_there in
@@ -299,9 +304,11 @@ module _ (s t : Records) (wanted : Entries) (ix : AreIndexed s wanted) (d b x : 
   bucket_now : IsBucket t (without_entry wanted one) d b (without x xs)
   bucket_now = record {
     chain = subst (λ f. IsChain (next_entry t) (previous_entry t) format.nil f (without x xs)) (sym first_now)
-        (chain_stays (masked (next_entry s) (next_entry t)) (masked (previous_entry s) (previous_entry t)) (next_entry t) (previous_entry t) format.nil _ (without x xs)
+        (chain_stays (masked (next_entry s) (next_entry t)) (masked (previous_entry s) (previous_entry t)) (next_entry t) (previous_entry t) format.nil _
+        (without x xs)
         (λ y m. let k = was.kind y (left_out y m).0 in sym (masked_at (next_entry s) (next_entry t) y (not_hid y k) (live_some y (λ q. omega (arith, k, q)))))
-        (λ y m. let k = was.kind y (left_out y m).0 in sym (masked_at (previous_entry s) (previous_entry t) y (not_hid y k) (live_some y (λ q. omega (arith, k, q)))))
+        (λ y m. let k = was.kind y (left_out y m).0 in sym (masked_at (previous_entry s) (previous_entry t) y (not_hid y k)
+        (live_some y (λ q. omega (arith, k, q)))))
         chain_masked);
     kind = λ y m. let l = left_out y m in (entry_still y l.0 l.1).kind ∙ was.kind y l.0;
     hash = λ y m. let l = left_out y m in ap bucket_of (entry_still y l.0 l.1).hash ∙ was.hash y l.0;
@@ -346,11 +353,15 @@ module _ (s t : Records) (wanted : Entries) (ix : AreIndexed s wanted) (d b x : 
       -- a record in use was in use
       live_then : (y : ℕ) → (¬ In y xs) → is_live t format.index_file y ≡ true → is_live s format.index_file y ≡ true
       live_then y out live = ⊎_elim
-          (λ (p : y ≡ hid). let k = hid_kind in ap (λ z. is_live s format.index_file z) p ∙ live_true (kind_at s format.index_file hid) (λ q. omega (arith, k, q)))
+          (λ (p : y ≡ hid). let k = hid_kind in ap (λ z. is_live s format.index_file z) p ∙ live_true (kind_at s format.index_file hid)
+          (λ q. omega (arith, k, q)))
           (λ (a : y ≢ hid).
-          ap (λ k. not (nat_eq k 0)) (sym (kind_kept s t y h.mark (ap (λ (r : Rec). field 1 r format.kind) (h.others y (λ q. out (subst (λ z. In z xs) (sym q) member))
-          (λ q. ⊎_elim (λ (n : next_entry s x ≡ format.nil). none_live (q ∙ n)) (λ (m : In (next_entry s x) xs). out (subst (λ z. In z xs) (sym q) m)) after_there)
-          (λ q. ⊎_elim (λ (n : first_entry s d b ≡ x). none_live (q ∙ before_none n)) (λ (m : In (previous_entry s x) xs). out (subst (λ z. In z xs) (sym q) m)) before_there)
+          ap (λ k. not (nat_eq k 0)) (sym (kind_kept s t y h.mark (ap (λ (r : Rec). field 1 r format.kind)
+          (h.others y (λ q. out (subst (λ z. In z xs) (sym q) member))
+          (λ q. ⊎_elim (λ (n : next_entry s x ≡ format.nil). none_live (q ∙ n)) (λ (m : In (next_entry s x) xs). out (subst (λ z. In z xs) (sym q) m))
+          after_there)
+          (λ q. ⊎_elim (λ (n : first_entry s d b ≡ x). none_live (q ∙ before_none n)) (λ (m : In (previous_entry s x) xs). out (subst (λ z. In z xs) (sym q) m))
+          before_there)
           (λ m. a))))) ∙ live)
           (nat_cases y hid)
         where

@@ -110,7 +110,8 @@ module _ (s t : Records) (wanted : Entries) (ix : AreIndexed s wanted) (d x node
   heads_field g n at k fits apart =
       let used : kind_at s format.index_file g ≢ format.free_kind = λ q. omega (arith, k, q) in
       ⊎_elim
-      (λ (p : g ≡ hid). ap (λ (r : Rec). field n r at) (ap (index_rec t) p ∙ h.head) ∙ field-with_field_other 4 (index_rec s hid) place x n at fits (apart p) ∙ ap (λ y. field n (index_rec s y) at) (sym p))
+      (λ (p : g ≡ hid). ap (λ (r : Rec). field n r at) (ap (index_rec t) p ∙ h.head) ∙ field-with_field_other 4 (index_rec s hid) place x n at fits (apart p)
+      ∙ ap (λ y. field n (index_rec s y) at) (sym p))
       (λ (p : g ≢ hid). ap (λ (r : Rec). field n r at) (h.others g (not_new g used) (not_old g (λ q. omega (arith, k, q)) (live_some g used)) p))
       (nat_cases g hid)
 
@@ -171,9 +172,16 @@ module _ (s t : Records) (wanted : Entries) (ix : AreIndexed s wanted) (d x node
       let k = (ix.buckets e c i lt).kind y m in
       let used : kind_at s format.index_file y ≢ format.free_kind = λ q. omega (arith, k, q) in
       let rec = h.others y (not_new y used)
-      (λ q. ⊎_elim (λ (n : old ≡ format.nil). live_some y used (q ∙ n)) (λ (n : In old xs). other_out e c y i lt other m (subst (λ z. In z xs) (sym q) n)) old_there)
-      (not_hid y (λ q. omega (arith, k, q))) in
-      (entry_still y k, record { next = ap (λ (r : Rec). field 4 r format.indexed_next) rec; previous = ap (λ (r : Rec). field 4 r format.indexed_previous) rec })
+      (λ q. ⊎_elim (λ (n : old ≡ format.nil). live_some y used (q ∙ n)) (λ (n : In old xs). other_out e c y i lt other m (subst (λ z. In z xs) (sym q) n))
+      old_there)
+      (not_hid y (λ q. omega (arith, k, q))) in (
+        entry_still y k,
+        record {
+          next = ap (λ (r : Rec). field 4 r format.indexed_next) rec;
+          previous = ap (λ (r : Rec). field 4 r format.indexed_previous)
+              rec;
+        },
+      )
 
   -- ---- the chain of the bucket
 
@@ -232,7 +240,8 @@ module _ (s t : Records) (wanted : Entries) (ix : AreIndexed s wanted) (d x node
   bucket_now : IsBucket t (with_entry wanted one) d b (x ∷ xs)
   bucket_now = record {
     chain = subst (λ f. IsChain (next_entry t) (previous_entry t) format.nil f (x ∷ xs)) (sym first_now)
-        (chain_stays (masked (next_entry s) (next_entry t)) (masked (previous_entry s) (previous_entry t)) (next_entry t) (previous_entry t) format.nil x (x ∷ xs)
+        (chain_stays (masked (next_entry s) (next_entry t)) (masked (previous_entry s) (previous_entry t)) (next_entry t) (previous_entry t) format.nil x
+        (x ∷ xs)
         (λ y m. let k = member_kind y m in sym (masked_at (next_entry s) (next_entry t) y k.0 k.1))
         (λ y m. let k = member_kind y m in sym (masked_at (previous_entry s) (previous_entry t) y k.0 k.1))
         chain_masked);
@@ -241,7 +250,8 @@ module _ (s t : Records) (wanted : Entries) (ix : AreIndexed s wanted) (d x node
         (λ (n : In y xs). ap bucket_of (entry_still y (was.kind y n)).hash ∙ was.hash y n) m;
     wanted_is = λ y m. ⊎_elim
         (λ (e : y ≡ x). ap (with_entry wanted one) (ap (entry_in t d) e ∙ entry_new) ∙ one_wanted wanted one)
-        (λ (n : In y xs). ap (with_entry wanted one) (entry_is d y listed (entry_still y (was.kind y n))) ∙ more_wanted wanted (entry_in s d y) one (was.wanted_is y n)) m;
+        (λ (n : In y xs). ap (with_entry wanted one) (entry_is d y listed (entry_still y (was.kind y n))) ∙ more_wanted wanted (entry_in s d y) one
+        (was.wanted_is y n)) m;
   }
 
   module _ (unwanted : wanted one ≡ false) where
@@ -291,12 +301,14 @@ module _ (s t : Records) (wanted : Entries) (ix : AreIndexed s wanted) (d x node
       where
         live_then : (y : ℕ) → y ≢ x → (¬ In y xs) → is_live t format.index_file y ≡ true → is_live s format.index_file y ≡ true
         live_then y ne out live = ⊎_elim
-            (λ (p : y ≡ hid). let k = hid_kind in ap (λ z. is_live s format.index_file z) p ∙ live_true (kind_at s format.index_file hid) (λ q. omega (arith, k, q)))
+            (λ (p : y ≡ hid). let k = hid_kind in ap (λ z. is_live s format.index_file z) p ∙ live_true (kind_at s format.index_file hid)
+            (λ q. omega (arith, k, q)))
             (λ (a : y ≢ hid).
             let used = used_of_live t format.index_file y live in
             let under = kind_below (high t format.index_file) (index_rec t y) y used in
             let fits = high_fits t format.index_file in
-            let rec = h.others y ne (λ q. ⊎_elim (λ (n : old ≡ format.nil). let z = q ∙ n in omega (arith, z)) (λ (m : In old xs). out (subst (λ z. In z xs) (sym q) m)) old_there) a in
+            let rec = h.others y ne (λ q. ⊎_elim (λ (n : old ≡ format.nil). let z = q ∙ n in omega (arith, z)) (λ (m : In old xs). out
+            (subst (λ z. In z xs) (sym q) m)) old_there) a in
             let same : kind_at s format.index_file y ≡ kind_at t format.index_file y
             = kind_low (high s format.index_file) (index_rec s y) y (h.only y ne under) ∙ ap (λ (r : Rec). field 1 r format.kind) (sym rec)
             ∙ sym (kind_low (high t format.index_file) (index_rec t y) y under) in

@@ -96,13 +96,15 @@ held_bare owner now next live file id was is same h = record {
       (λ ne. h.only f x first p (sym (same f x ne) ∙ e) (subst (In p) (none_there h.lists file id f x ne) i));
   held = λ p l.
       let k = h.held p l in
-      let ne : k.0 ≡ file → k.1 ≢ id = λ a b. empty (h.lists k.0 k.1) (subst (λ z. IsWalk next z (h.lists k.0 k.1)) (was k.2 (at owner a b ∙ k.3.0)) (h.walk k.0 k.1 k.2 k.3.0)) p k.3.1 in
+      let ne : k.0 ≡ file → k.1 ≢ id = λ a b. empty (h.lists k.0 k.1) (subst (λ z. IsWalk next z (h.lists k.0 k.1)) (was k.2 (at owner a b ∙ k.3.0))
+      (h.walk k.0 k.1 k.2 k.3.0)) p k.3.1 in
       (k.0, k.1, k.2, (same k.0 k.1 ne ∙ k.3.0, subst (In p) (sym (none_there h.lists file id k.0 k.1 ne)) k.3.1));
   once = λ f x first g y second p e d i j. pair_cases file id f x
       (λ a b. absurd (subst (In p) (none_here h.lists file id f x a b) i))
       (λ ne. pair_cases file id g y
       (λ a b. absurd (subst (In p) (none_here h.lists file id g y a b) j))
-      (λ mo. h.once f x first g y second p (sym (same f x ne) ∙ e) (sym (same g y mo) ∙ d) (subst (In p) (none_there h.lists file id f x ne) i) (subst (In p) (none_there h.lists file id g y mo) j)));
+      (λ mo. h.once f x first g y second p (sym (same f x ne) ∙ e) (sym (same g y mo) ∙ d) (subst (In p) (none_there h.lists file id f x ne) i)
+      (subst (In p) (none_there h.lists file id g y mo) j)));
 }
   where
     at : (o : ℕ → ℕ → Option ℕ) {f x : ℕ} → f ≡ file → x ≡ id → o file id ≡ o f x
@@ -134,7 +136,11 @@ properties_bare files nodes nodes' rels rels' names file id was is same h = reco
   held = held_bare (property_owner nodes rels) (property_owner nodes' rels') (λ p. field 4 (files.property p) format.property_next) files.property_live file id
       was is same h.held;
   keys = keys_stay (property_owner nodes rels) (property_owner nodes' rels') h.held.lists (with_none h.held.lists file id) files.property names
-      (λ f x first e. pair_cases file id f x (λ p q. inl (none_here h.held.lists file id f x p q)) (λ ne. inr (sym (same f x ne) ∙ e, none_there h.held.lists file id f x ne))) h.keys;
+      (λ f x first e. pair_cases file id f x (λ p q. inl (none_here h.held.lists file id f x p q)) (λ ne. inr (
+        sym (same f x ne) ∙ e,
+        none_there h.held.lists
+            file id f x ne,
+      ))) h.keys;
   blocks = h.blocks;
   texts = h.texts;
 }
@@ -150,5 +156,6 @@ owner_beside_node nodes now rels id same f x ne = ⊎_elim
 pub owner_beside_rel : (nodes : ℕ → Option NodeRow) (rels now : ℕ → Option RelRow) (id : ℕ) → ((x : ℕ) → x ≢ id → now x ≡ rels x)
     → (f x : ℕ) → (f ≡ format.relationships_file → x ≢ id) → property_owner nodes now f x ≡ property_owner nodes rels f x
 owner_beside_rel nodes rels now id same f x ne = ⊎_elim
-    (λ (e : f ≡ format.relationships_file). rw (eq_true f format.relationships_file e) (ap (λ o. cond (nat_eq f format.nodes_file) (node_first (nodes x)) (rel_first o)) (same x (ne e))))
+    (λ (e : f ≡ format.relationships_file). rw (eq_true f format.relationships_file e) (ap (λ o. cond (nat_eq f format.nodes_file) (node_first (nodes x))
+    (rel_first o)) (same x (ne e))))
     (λ (k : f ≢ format.relationships_file). rw (eq_false f format.relationships_file k) refl) (nat_cases f format.relationships_file)

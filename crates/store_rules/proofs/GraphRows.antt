@@ -21,17 +21,24 @@ use Rattle.store_rules.proofs.ViewLaws.{kind_below, row_none, row_some}
 abbrev node_made : Records → ℕ → Node
 node_made s id =
     let row = node_in (rec_at s format.nodes_file id) id in
-    record { id = id; label = text_of (rec_at s format.names_file row.label); properties = properties_from (rec_at s format.names_file) (property_records s) row.property }
+    record {
+      id = id;
+      label = text_of (rec_at s format.names_file row.label);
+      properties = properties_from (rec_at s format.names_file) (property_records s)
+          row.property;
+    }
 
 -- an identifier in use is a node's
 pub node_there : (s : Records) (id : ℕ) → kind_at s format.nodes_file id ≢ format.free_kind → has_node (graph_of s) id ≡ true
 node_there s id used = there_collect node_number (node_of s) (high s format.nodes_file) id (node_made s id) refl
-    (ap (node_from (rec_at s format.names_file) (property_records s)) (row_some (kind_at s format.nodes_file id) (node_in (rec_at s format.nodes_file id) id) used)) (kind_below (high s format.nodes_file) (rec_at s format.nodes_file id) id used)
+    (ap (node_from (rec_at s format.names_file) (property_records s)) (row_some (kind_at s format.nodes_file id) (node_in (rec_at s format.nodes_file id) id)
+    used)) (kind_below (high s format.nodes_file) (rec_at s format.nodes_file id) id used)
 
 -- an identifier that isn't in use is no node's
 pub no_node : (s : Records) (id : ℕ) → kind_at s format.nodes_file id ≡ format.free_kind → has_node (graph_of s) id ≡ false
 no_node s id free = fresh_collect node_number (node_of s) (high s format.nodes_file) id (nodes_numbered s)
-    (ap (node_from (rec_at s format.names_file) (property_records s)) (row_none (kind_at s format.nodes_file id) (node_in (rec_at s format.nodes_file id) id) free))
+    (ap (node_from (rec_at s format.names_file) (property_records s)) (row_none (kind_at s format.nodes_file id) (node_in (rec_at s format.nodes_file id) id)
+    free))
 
 -- ---- edges
 
@@ -51,9 +58,11 @@ edges_numbered s x e h = on (nat_eq (kind_at s format.relationships_file x) 0) h
 pub count_edges : (s : Records) (shape : Shape) {most : ℕ} {empty : List ℕ} → KeepsRules s shape most empty
     → (meta_in s format.relationships_file).live ≡ length (graph_of s).edges
 count_edges s shape keeps = (keeps.split format.relationships_file refl).1.exact
-    ∙ sym (length-collect Edge (edge_of s) (is_live s format.relationships_file) (high s format.relationships_file) (λ x. on x (nat_eq (kind_at s format.relationships_file x) 0)))
+    ∙ sym (length-collect Edge (edge_of s) (is_live s format.relationships_file) (high s format.relationships_file)
+    (λ x. on x (nat_eq (kind_at s format.relationships_file x) 0)))
   where
-    on : (x : ℕ) (b : Bool) → is_some (edge_from (rec_at s format.names_file) (property_records s) (cond b None (Some (rel_in (rec_at s format.relationships_file x) x)))) ≡ not b
+    on : (x : ℕ) (b : Bool) → is_some (edge_from (rec_at s format.names_file) (property_records s)
+        (cond b None (Some (rel_in (rec_at s format.relationships_file x) x)))) ≡ not b
     on x true = refl
     on x false = refl
 
@@ -71,12 +80,15 @@ edge_made s id =
 -- an identifier in use is an edge's
 pub edge_there : (s : Records) (id : ℕ) → kind_at s format.relationships_file id ≢ format.free_kind → has_edge (graph_of s) id ≡ true
 edge_there s id used = there_collect edge_number (edge_of s) (high s format.relationships_file) id (edge_made s id) refl
-    (ap (edge_from (rec_at s format.names_file) (property_records s)) (row_some (kind_at s format.relationships_file id) (rel_in (rec_at s format.relationships_file id) id) used)) (kind_below (high s format.relationships_file) (rec_at s format.relationships_file id) id used)
+    (ap (edge_from (rec_at s format.names_file) (property_records s)) (row_some (kind_at s format.relationships_file id)
+    (rel_in (rec_at s format.relationships_file id) id) used)) (kind_below (high s format.relationships_file) (rec_at s format.relationships_file id)
+    id used)
 
 -- an identifier that isn't in use is no edge's
 pub no_edge : (s : Records) (id : ℕ) → kind_at s format.relationships_file id ≡ format.free_kind → has_edge (graph_of s) id ≡ false
 no_edge s id free = fresh_collect edge_number (edge_of s) (high s format.relationships_file) id (edges_numbered s)
-    (ap (edge_from (rec_at s format.names_file) (property_records s)) (row_none (kind_at s format.relationships_file id) (rel_in (rec_at s format.relationships_file id) id) free))
+    (ap (edge_from (rec_at s format.names_file) (property_records s)) (row_none (kind_at s format.relationships_file id)
+    (rel_in (rec_at s format.relationships_file id) id) free))
 
 -- ---- degrees
 

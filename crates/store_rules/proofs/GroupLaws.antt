@@ -19,7 +19,8 @@ pub filled_chain : (r : Rec) → is_filled r ≡ true → (at : ℕ) × IsFirstP
 filled_chain r filled = ⊎_elim
     (λ (a : field 4 r format.group_first_out ≡ format.nil). ⊎_elim
     (λ (b : field 4 r format.group_first_in ≡ format.nil). ⊎_elim
-    (λ (c : field 4 r format.group_first_loop ≡ format.nil). absurd (true≢false (sym filled ∙ all_none (eq_true (field 4 r format.group_first_out) format.nil a) (eq_true (field 4 r format.group_first_in) format.nil b) (eq_true (field 4 r format.group_first_loop) format.nil c))))
+    (λ (c : field 4 r format.group_first_loop ≡ format.nil). absurd (true≢false (sym filled ∙ all_none (eq_true (field 4 r format.group_first_out) format.nil a)
+    (eq_true (field 4 r format.group_first_in) format.nil b) (eq_true (field 4 r format.group_first_loop) format.nil c))))
     (λ (c : field 4 r format.group_first_loop ≢ format.nil). (format.group_first_loop, inr (inr refl), c))
     (nat_cases (field 4 r format.group_first_loop) format.nil))
     (λ (b : field 4 r format.group_first_in ≢ format.nil). (format.group_first_in, inr (inl refl), b)) (nat_cases (field 4 r format.group_first_in) format.nil))
@@ -34,8 +35,10 @@ pub chain_filled : (r : Rec) (at : ℕ) → IsFirstPlace at → field 4 r at ≢
 chain_filled r at place some = ⊎_elim
     (λ (e : at ≡ format.group_first_out). rw (eq_false (field 4 r format.group_first_out) format.nil (there format.group_first_out e)) refl)
     (λ k. ⊎_elim
-    (λ (e : at ≡ format.group_first_in). rw (eq_false (field 4 r format.group_first_in) format.nil (there format.group_first_in e)) (right_of (nat_eq (field 4 r format.group_first_out) format.nil)))
-    (λ (e : at ≡ format.group_first_loop). rw (eq_false (field 4 r format.group_first_loop) format.nil (there format.group_first_loop e)) (last_of (nat_eq (field 4 r format.group_first_out) format.nil) (nat_eq (field 4 r format.group_first_in) format.nil))) k) place
+    (λ (e : at ≡ format.group_first_in). rw (eq_false (field 4 r format.group_first_in) format.nil (there format.group_first_in e))
+    (right_of (nat_eq (field 4 r format.group_first_out) format.nil)))
+    (λ (e : at ≡ format.group_first_loop). rw (eq_false (field 4 r format.group_first_loop) format.nil (there format.group_first_loop e))
+    (last_of (nat_eq (field 4 r format.group_first_out) format.nil) (nat_eq (field 4 r format.group_first_in) format.nil))) k) place
   where
     there : (place : ℕ) → at ≡ place → field 4 r place ≢ format.nil
     there place e none = some (ap (field 4 r) e ∙ none)

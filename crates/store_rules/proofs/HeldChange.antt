@@ -44,7 +44,8 @@ module _ (s t : Records) (shape : Shape) (file : ℕ) (old new : List ℕ) (chan
     walk = λ f x first e. ⊎_elim
         (λ (o : is_new f x). given.walk f x first o e)
         (λ (k : Stays owner held.lists lists old f x first). subst (IsWalk (λ p. link (rec_at t file p)) first) (sym k.same)
-        (walk_stays (λ p. link (rec_at s file p)) (λ p. link (rec_at t file p)) first (held.lists f x) (λ p i. ap link (stays_kept f x first p k i).1) (held.walk f x first k.owned)))
+        (walk_stays (λ p. link (rec_at s file p)) (λ p. link (rec_at t file p)) first (held.lists f x) (λ p i. ap link (stays_kept f x first p k i).1)
+        (held.walk f x first k.owned)))
         (given.sides f x first e);
     only = λ f x first p e i. ⊎_elim
         (λ (o : is_new f x). change.live p (given.come f x p o i))

@@ -66,7 +66,8 @@ module _ (records : Records) (wanted : Entries) (ix : AreIndexed records wanted)
   bucket_rest : (d b n x : ℕ) → LeadsToEntry records d b n x → IsRest (next_entry records) (ix.lists d b) n x
   bucket_rest d b n x (FirstEntry z has e some) = record {
     rest = ix.lists d b;
-    walk = subst (λ f. IsWalk (next_entry records) f (ix.lists d b)) e (walk_of_chain _ _ _ _ (ix.lists d b) (ix.buckets d b (definition_met d has.leads) has.low).chain);
+    walk = subst (λ f. IsWalk (next_entry records) f (ix.lists d b)) e (walk_of_chain _ _ _ _ (ix.lists d b) (ix.buckets d b (definition_met d has.leads)
+        has.low).chain);
     within = λ y i. i;
     count = omega arith;
   }
@@ -99,11 +100,13 @@ module _ (records : Records) where
   not_indexed d (OtherHead x c leads defined low given other) ix = other (ix.heads x c (definition_met records (wanted_in records) ix x leads) low)
   not_indexed d (OtherEntry x b n y leads given other) ix =
       let has = has_head records (wanted_in records) ix x b n y leads in
-      other ((ix.buckets x b (definition_met records (wanted_in records) ix x has.leads) has.low).kind y (entry_met records (wanted_in records) ix x b n y leads).0)
+      other ((ix.buckets x b (definition_met records (wanted_in records) ix x has.leads) has.low).kind y (entry_met records (wanted_in records)
+      ix x b n y leads).0)
   not_indexed d (LateEntry x b n y leads late) ix = never_late records (wanted_in records) ix x b n y leads late
   not_indexed d (UnwantedEntry x b n y leads used not) ix =
       let has = has_head records (wanted_in records) ix x b n y leads in
-      true≢false (sym ((ix.buckets x b (definition_met records (wanted_in records) ix x has.leads) has.low).wanted_is y (entry_met records (wanted_in records) ix x b n y leads).0) ∙ not)
+      true≢false (sym ((ix.buckets x b (definition_met records (wanted_in records) ix x has.leads) has.low).wanted_is y (entry_met records (wanted_in records)
+      ix x b n y leads).0) ∙ not)
 
   -- it is told with the number of the rule
   pub index_rule : (d : Damage) → IndexBreaks records d → d.rule ≡ 8

@@ -100,7 +100,8 @@ value_changed s t label key n old new h e = ⊎_elim
     let at : (r : Records) → node_value r e.label e.key e.node ≡ node_value r label key n = λ r i. node_value r (l i) (k i) (m i) in
     let before : wanted_in s e ≡ has_hash e.hash old = ap (has_hash e.hash) (at s ∙ h.was) in
     let after : wanted_in t e ≡ has_hash e.hash new = ap (has_hash e.hash) (at t ∙ h.now) in
-    after ∙ sym (with_value-here label key n e (without_value (wanted_in s) label key n old) new l k m (without_value-here label key n e (wanted_in s) old l k m before)))
+    after ∙ sym (with_value-here label key n e (without_value (wanted_in s) label key n old) new l k m (without_value-here label key n e (wanted_in s)
+    old l k m before)))
     (λ (m : e.node ≢ n). elsewhere (inr (inr m))) (nat_cases e.node n))
     (λ (k : e.key ≢ key). elsewhere (inr (inl k))) (nat_cases e.key key))
     (λ (l : e.label ≢ label). elsewhere (inl l)) (nat_cases e.label label)

@@ -179,7 +179,14 @@ module _ (records : Records) where
         record {
           bucket = bucket_of (hash_of value);
           entry = found.id;
-          there = record { definition = a; low = low; members = ix.lists d (bucket_of (hash_of value)); list = bucket_list d (bucket_of (hash_of value)) i low; member = found.member };
+          there = record {
+            definition = a;
+            low = low;
+            members = ix.lists d (bucket_of (hash_of value));
+            list = bucket_list d (bucket_of (hash_of value))
+                i low;
+            member = found.member;
+          };
           node = ap (λ (z : Entry). z.node) found.is;
         }
       where
@@ -189,7 +196,14 @@ module _ (records : Records) where
     of_an_index : (x : ℕ) → IsOfIndex records ix.definitions ix.lists x → IsOfAnIndex records x
     of_an_index x (IsDefinition i) = Defines (defines x i)
     of_an_index x (IsHeads d c i lt e) = Heads d c (record { definition = defines d i; low = lt; is = e })
-    of_an_index x (IsEntry d b i lt m) = Enters d b (record { definition = defines d i; low = lt; members = ix.lists d b; list = bucket_list d b i lt; member = m })
+    of_an_index x (IsEntry d b i lt m) = Enters d b (record {
+      definition = defines d i;
+      low = lt;
+      members = ix.lists d b;
+      list = bucket_list d b i lt;
+      member =
+          m;
+    })
 
     pub parts_of : EachKeeps records
     parts_of = record {

@@ -39,7 +39,8 @@ below_of marks r place into h = ⊎_elim
 from_has : (pointer : ℕ → Pointer) (n at c : ℕ) → c < n → HasPointer (pointer (at + 4 * c)) (pointers_from n pointer at)
 from_has pointer zero at c lt = absurd (omega arith)
 from_has pointer (suc n) at zero lt = inl (ap pointer (omega arith))
-from_has pointer (suc n) at (suc c) lt = inr (subst (λ z. HasPointer (pointer z) (pointers_from n pointer (at + 4))) (omega arith) (from_has pointer n (at + 4) c (omega arith)))
+from_has pointer (suc n) at (suc c) lt = inr (subst (λ z. HasPointer (pointer z) (pointers_from n pointer (at + 4))) (omega arith) (from_has pointer n (at + 4)
+    c (omega arith)))
 
 -- a pointer of its kind's layout points
 pub laid_points : (marks : ℕ → ℕ) (r : Rec) (kind : ℕ) (p : Pointer) → field 1 r format.kind ≡ kind → Fits marks format.index_file r
@@ -64,7 +65,8 @@ module _ (marks : ℕ → ℕ) (r : Rec) (fits : Fits marks format.index_file r)
   pub heads_first_low : field 1 r format.kind ≡ format.heads → (place : ℕ) → place < 15
       → IsLow (marks format.index_file) (field 4 r (format.heads_first + 4 * place))
   heads_first_low is place lt = low_of marks r (format.heads_first + 4 * place) format.index_file
-      (laid_points marks r format.heads (may (format.heads_first + 4 * place) format.index_file) is fits (from_has (λ place. may place format.index_file) 15 format.heads_first place lt))
+      (laid_points marks r format.heads (may (format.heads_first + 4 * place) format.index_file) is fits (from_has (λ place. may place format.index_file)
+      15 format.heads_first place lt))
 
   -- an entry
   module _ (is : field 1 r format.kind ≡ format.indexed) where

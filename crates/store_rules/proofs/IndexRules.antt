@@ -78,7 +78,11 @@ of_split t free split = record { split = λ is. (free, split); kept = λ is not.
 
 -- the other files, where one record of the index changed
 pub changed_others : (s t : Records) (id : ℕ) → IsChanged s t format.index_file id → OthersStay s t
-changed_others s t id change f is ne = record { records = ch.file_same s t format.index_file id change f is ne; meta = ch.other_meta s t format.index_file id change f ne }
+changed_others s t id change f is ne = record {
+  records = ch.file_same s t format.index_file id change f is ne;
+  meta = ch.other_meta s t format.index_file id
+      change f ne;
+}
 
 -- A record that fits came into use, and if it is a definition its label and its key are names.
 pub made_kept : (s t : Records) (shape : Shape) (id : ℕ) (rec : Rec) → IsMade s t shape format.index_file id rec → Fits (high t) format.index_file rec
@@ -86,7 +90,8 @@ pub made_kept : (s t : Records) (shape : Shape) (id : ℕ) (rec : Rec) → IsMad
 made_kept s t shape id rec made fits names well = rules_kept s t shape (changed_others s t id made.change)
     (ch.in_range s t format.index_file id made.change shape made.meta (λ lt. subst (Fits (high t) format.index_file) (sym made.here) fits) well.ranges)
     (of_split t made.free made.split)
-    (defined_with s t id made.change (λ is. subst (IsOfNames s) (sym made.here) (names (ap (λ (r : Rec). field 1 r format.kind) (sym made.here) ∙ sym (kind_low (high t format.index_file) (rec_at t format.index_file id) id made.below) ∙ is))) well.defined) well
+    (defined_with s t id made.change (λ is. subst (IsOfNames s) (sym made.here) (names (ap (λ (r : Rec). field 1 r format.kind) (sym made.here) ∙ sym
+    (kind_low (high t format.index_file) (rec_at t format.index_file id) id made.below) ∙ is))) well.defined) well
 
 -- A record went.
 pub gone_kept : (s t : Records) (shape : Shape) (id : ℕ) → IsGone s t shape format.index_file id → IsWellFormed s shape → IsWellFormed t shape
@@ -141,11 +146,13 @@ module _ (s : Records) (x at to : ℕ) (used : kind_at s format.index_file x ≢
       → IsSplit set_in format.index_file (is_live set_in format.index_file) free
   set_split free k =
       let live : is_live set_in format.index_file ≡ is_live s format.index_file = λ i y. not (nat_eq (set_kind y i) 0) in
-      let not_x : (y : ℕ) → In y free → y ≢ x = λ y i e. true≢false (sym (live_true (kind_at s format.index_file x) used) ∙ ap (is_live s format.index_file) (sym e) ∙ k.only y i) in
+      let not_x : (y : ℕ) → In y free → y ≢ x = λ y i e. true≢false (sym (live_true (kind_at s format.index_file x) used) ∙ ap (is_live s format.index_file)
+      (sym e) ∙ k.only y i) in
       let meta : meta_in set_in format.index_file ≡ meta_in s format.index_file = ap metas.meta_of (set_meta format.index_file) in
       subst (λ l. IsSplit set_in format.index_file l free) (sym live) (record {
         walk = subst (λ (m : Meta). IsWalk (next_free set_in format.index_file) m.free free) (sym meta)
-            (walk_stays (next_free s format.index_file) (next_free set_in format.index_file) (meta_in s format.index_file).free free (λ y i. ap (λ (r : Rec). field 4 r format.free_next) (set_other y (not_x y i))) k.walk);
+            (walk_stays (next_free s format.index_file) (next_free set_in format.index_file) (meta_in s format.index_file).free free
+            (λ y i. ap (λ (r : Rec). field 4 r format.free_next) (set_other y (not_x y i))) k.walk);
         low = λ y i. subst (λ m. y < m) (sym (set_mark format.index_file)) (k.low y i);
         only = k.only;
         all = λ y lt. k.all y (subst (λ m. y < m) (set_mark format.index_file) lt);
@@ -160,8 +167,10 @@ module _ (s : Records) (x at to : ℕ) (used : kind_at s format.index_file x ≢
       let split = well.split format.index_file refl in
       let marks : high s ≡ high set_in = λ i f. sym (set_mark f) i in
       rules_kept s set_in shape set_others
-      (ch.in_range s set_in format.index_file x set_change shape (subst (IsMetaInRange shape format.index_file) (sym (set_meta format.index_file)) (ranges.metas format.index_file refl))
-      (λ lt. subst (Fits (high set_in) format.index_file) (sym set_here) (subst (λ (m : ℕ → ℕ). Fits m format.index_file rec) marks (fits (ranges.fit format.index_file x refl (let e = set_mark format.index_file in omega arith))))) ranges)
+      (ch.in_range s set_in format.index_file x set_change shape (subst (IsMetaInRange shape format.index_file) (sym (set_meta format.index_file))
+      (ranges.metas format.index_file refl))
+      (λ lt. subst (Fits (high set_in) format.index_file) (sym set_here) (subst (λ (m : ℕ → ℕ). Fits m format.index_file rec) marks
+      (fits (ranges.fit format.index_file x refl (let e = set_mark format.index_file in omega arith))))) ranges)
       (of_split set_in split.0 (set_split split.0 split.1)) (defined_with s set_in x set_change (λ is. absurd (plain (sym (set_kind x) ∙ is))) well.defined)
       well
 
@@ -185,7 +194,8 @@ module _ (s : Records) (d : ℕ) (small : d < 2 ^ 32) where
 
   first_mark : (f : ℕ) → high with_first f ≡ high s f
   first_mark f = ⊎_elim
-      (λ (p : f ≡ format.index_file). subst (λ g. high with_first g ≡ high s g) (sym p) (ap (λ (r : Rec). (metas.meta_of r).high) first_here ∙ ap (λ (m : Meta). m.high) (meta_of-definition (s metas_key) d)))
+      (λ (p : f ≡ format.index_file). subst (λ g. high with_first g ≡ high s g) (sym p) (ap (λ (r : Rec). (metas.meta_of r).high) first_here ∙ ap
+      (λ (m : Meta). m.high) (meta_of-definition (s metas_key) d)))
       (λ (ne : f ≢ format.index_file). ap (λ (r : Rec). (metas.meta_of r).high) (first_elsewhere (meta_key_of f) (λ e. ne (ap (λ (k : Key). k.id) e))))
       (nat_cases f format.index_file)
 
@@ -216,7 +226,8 @@ module _ (s : Records) (d : ℕ) (small : d < 2 ^ 32) where
       let meta : meta_in with_first format.index_file ≡ meta_in s format.index_file = ap metas.meta_of first_here ∙ meta_of-definition (s metas_key) d in
       subst (λ l. IsSplit with_first format.index_file l free) (sym live) (record {
         walk = subst (λ (m : Meta). IsWalk (next_free with_first format.index_file) m.free free) (sym meta)
-            (walk_stays (next_free s format.index_file) (next_free with_first format.index_file) (meta_in s format.index_file).free free (λ y i. ap (λ (r : Rec). field 4 r format.free_next) (first_record y)) k.walk);
+            (walk_stays (next_free s format.index_file) (next_free with_first format.index_file) (meta_in s format.index_file).free free
+            (λ y i. ap (λ (r : Rec). field 4 r format.free_next) (first_record y)) k.walk);
         low = λ y i. subst (λ m. y < m) (sym (first_mark format.index_file)) (k.low y i);
         only = k.only;
         all = λ y lt. k.all y (subst (λ m. y < m) (first_mark format.index_file) lt);
@@ -243,5 +254,7 @@ module _ (s : Records) (d : ℕ) (small : d < 2 ^ 32) where
       let marks : high s ≡ high with_first = λ i f. sym (first_mark f) i in
       rules_kept s with_first shape first_others
       (ch.in_range s with_first format.index_file 0 first_change shape (first_range shape low (ranges.metas format.index_file refl))
-      (λ lt. subst (Fits (high with_first) format.index_file) (sym (first_record 0)) (subst (λ (m : ℕ → ℕ). Fits m format.index_file (rec_at s format.index_file 0)) marks (ranges.fit format.index_file 0 refl (let e = first_mark format.index_file in omega arith)))) ranges)
-      (of_split with_first split.0 (first_split split.0 split.1)) (defined_alike s with_first (λ e is. (sym (first_kind e) ∙ is, first_record e)) (let e = first_mark format.names_file in omega (arith, e)) well.defined) well
+      (λ lt. subst (Fits (high with_first) format.index_file) (sym (first_record 0)) (subst (λ (m : ℕ → ℕ). Fits m format.index_file
+      (rec_at s format.index_file 0)) marks (ranges.fit format.index_file 0 refl (let e = first_mark format.index_file in omega arith)))) ranges)
+      (of_split with_first split.0 (first_split split.0 split.1)) (defined_alike s with_first (λ e is. (sym (first_kind e) ∙ is, first_record e))
+      (let e = first_mark format.names_file in omega (arith, e)) well.defined) well

@@ -75,7 +75,8 @@ inner a b e = cc
 apart_used : (i at size : ℕ) → 4 ≤ at → at + 4 ≤ 4 + size → list_any (is_in i) (bytes_of format.kind 1 ∷ bytes_of 4 size ∷ []) ≡ false → (i + 1 ≤ at)
     ⊎ (at + 4 ≤ i)
 apart_used i at size low high out = ⊎_elim (λ (l : i < 4). inl (omega arith))
-    (λ (ge : 4 ≤ i). ⊎_elim (λ (l : i < 4 + size). absurd (let a : 4 + size ≤ i = grind (arith, nat_tests) in omega arith)) (λ (k : 4 + size ≤ i). inr (omega arith)) (cases_lt i (4 + size))) (cases_lt i 4)
+    (λ (ge : 4 ≤ i). ⊎_elim (λ (l : i < 4 + size). absurd (let a : 4 + size ≤ i = grind (arith, nat_tests) in omega arith)) (λ (k : 4 + size ≤ i). inr
+    (omega arith)) (cases_lt i (4 + size))) (cases_lt i 4)
 
 module _ (marks : ℕ → ℕ) (r : Rec) (at to : ℕ) (low : 4 ≤ at) (fits : at + 4 ≤ 64) (small : to < 2 ^ 32) where
   abbrev now : Rec
@@ -110,7 +111,8 @@ module _ (marks : ℕ → ℕ) (r : Rec) (at to : ℕ) (low : 4 ≤ at) (fits : 
   all_right (p ∷ ps) h old =
       let k = and_parts (points marks r p) (all_point marks r ps) old in
       let first : points marks now p ≡ true = ⊎_elim
-      (λ (a : (p.place + 4 ≤ 64) × ((p.place + 4 ≤ at) ⊎ (at + 4 ≤ p.place))). ap (λ v. nat_lt v (marks p.into) || (p.optional && nat_eq v format.nil)) (other 4 p.place a.0 a.1) ∙ k.0)
+      (λ (a : (p.place + 4 ≤ 64) × ((p.place + 4 ≤ at) ⊎ (at + 4 ≤ p.place))). ap (λ v. nat_lt v (marks p.into) || (p.optional && nat_eq v format.nil))
+      (other 4 p.place a.0 a.1) ∙ k.0)
       (λ b. point_here p b.0 b.1 b.2) h.0 in
       rw (first, all_right ps h.1 k.1) refl
 
@@ -144,8 +146,10 @@ module _ (marks : ℕ → ℕ) (r : Rec) (at to : ℕ) (low : 4 ≤ at) (fits : 
   group_as : at + 4 ≤ 32 → PointRight (group_layout_is 28).pointers → is_group_kind (field 1 r format.kind) ≡ true → Fits marks format.groups_file r
       → Fits marks format.groups_file now
   group_as inside right kind = ⊎_elim
-      (λ (k : field 1 r format.kind ≡ format.grouped). fits_as format.groups_file 28 (group_layout_is 28) refl inside right (ap (layout_by format.groups_file r) k) (ap (layout_by format.groups_file now) (kind_same ∙ k)))
-      (λ (k : field 1 r format.kind ≡ format.counted). fits_as format.groups_file 40 (group_layout_is 40) refl (omega arith) right (ap (layout_by format.groups_file r) k) (ap (layout_by format.groups_file now) (kind_same ∙ k)))
+      (λ (k : field 1 r format.kind ≡ format.grouped). fits_as format.groups_file 28 (group_layout_is 28) refl inside right (ap (layout_by format.groups_file r)
+      k) (ap (layout_by format.groups_file now) (kind_same ∙ k)))
+      (λ (k : field 1 r format.kind ≡ format.counted). fits_as format.groups_file 40 (group_layout_is 40) refl (omega arith) right
+      (ap (layout_by format.groups_file r) k) (ap (layout_by format.groups_file now) (kind_same ∙ k)))
       (group_kinds (field 1 r format.kind) kind)
 
   count_as : at + 4 ≤ 44 → PointRight (group_layout_is 40).pointers → field 1 r format.kind ≡ format.counted → Fits marks format.groups_file r
@@ -183,11 +187,23 @@ IsCountPlace at = (at ≡ format.group_out_count) ⊎ ((at ≡ format.group_in_c
 pub fits_count : (marks : ℕ → ℕ) (r : Rec) (at to : ℕ) → IsCountPlace at → to < 2 ^ 32 → field 1 r format.kind ≡ format.counted
     → Fits marks format.groups_file r → Fits marks format.groups_file (with_field 4 r at to)
 fits_count marks r at to place small = count_as marks r at to (let b = within in omega arith) (let b = within in omega arith) small
-    (let b = within in omega arith)
-    (inl (omega arith, inl (let b = within in omega arith)), (inl (omega arith, inl (let b = within in omega arith)), (inl (omega arith, inl (let b = within in omega arith)), (inl (omega arith, inl (let b = within in omega arith)), (inl (omega arith, inl (let b = within in omega arith)), (inl (omega arith, inl (let b = within in omega arith)), tt))))))
+    (let b = within in omega arith) (
+      inl (omega arith, inl (let b = within in omega arith)),
+      (
+        inl (omega arith, inl (let b = within in omega arith)),
+        (
+          inl (omega arith, inl (let b = within in omega arith)),
+          (
+            inl (omega arith, inl (let b = within in omega arith)),
+            (inl (omega arith, inl (let b = within in omega arith)), (inl (omega arith, inl (let b = within in omega arith)), tt)),
+          ),
+        ),
+      ),
+    )
   where
     within : (32 ≤ at) × (at + 4 ≤ 44)
-    within = ⊎_elim (λ (e : at ≡ 32). (omega arith, omega arith)) (λ k. ⊎_elim (λ (e : at ≡ 36). (omega arith, omega arith)) (λ (e : at ≡ 40). (omega arith, omega arith)) k) place
+    within = ⊎_elim (λ (e : at ≡ 32). (omega arith, omega arith)) (λ k. ⊎_elim (λ (e : at ≡ 36). (omega arith, omega arith))
+        (λ (e : at ≡ 40). (omega arith, omega arith)) k) place
 
 -- the first link of a sparse node
 pub fits_first : (marks : ℕ → ℕ) (r : Rec) (to : ℕ) → to < 2 ^ 32 → IsLow (marks format.relationships_file) to → field 1 r format.kind ≡ format.sparse
@@ -215,16 +231,43 @@ fits_group_first marks r at to is small low = ⊎_elim (λ (e : at ≡ 20). subs
     (λ k. ⊎_elim (λ (e : at ≡ 24). subst (FirstFits marks r to) (sym e) at_24) (λ (e : at ≡ 28). subst (FirstFits marks r to) (sym e) at_28) k) is
   where
     at_20 : FirstFits marks r to 20
-    at_20 = group_as marks r 20 to (omega arith) (omega arith) small (omega arith)
-        (inl (omega arith, inl (omega arith)), (inl (omega arith, inl (omega arith)), (inl (omega arith, inl (omega arith)), (inr (refl, refl, low), (inl (omega arith, inr (omega arith)), (inl (omega arith, inr (omega arith)), tt))))))
+    at_20 = group_as marks r 20 to (omega arith) (omega arith) small (omega arith) (
+      inl (omega arith, inl (omega arith)),
+      (
+        inl (omega arith, inl (omega arith)),
+        (
+          inl (omega arith, inl (omega arith)),
+          (
+            inr (refl, refl, low),
+            (inl (omega arith, inr (omega arith)), (inl (omega arith, inr (omega arith)), tt)),
+          ),
+        ),
+      ),
+    )
 
     at_24 : FirstFits marks r to 24
-    at_24 = group_as marks r 24 to (omega arith) (omega arith) small (omega arith)
-        (inl (omega arith, inl (omega arith)), (inl (omega arith, inl (omega arith)), (inl (omega arith, inl (omega arith)), (inl (omega arith, inl (omega arith)), (inr (refl, refl, low), (inl (omega arith, inr (omega arith)), tt))))))
+    at_24 = group_as marks r 24 to (omega arith) (omega arith) small (omega arith) (
+      inl (omega arith, inl (omega arith)),
+      (
+        inl (omega arith, inl (omega arith)),
+        (
+          inl (omega arith, inl (omega arith)),
+          (inl (omega arith, inl (omega arith)), (inr (refl, refl, low), (inl (omega arith, inr (omega arith)), tt))),
+        ),
+      ),
+    )
 
     at_28 : FirstFits marks r to 28
-    at_28 = group_as marks r 28 to (omega arith) (omega arith) small (omega arith)
-        (inl (omega arith, inl (omega arith)), (inl (omega arith, inl (omega arith)), (inl (omega arith, inl (omega arith)), (inl (omega arith, inl (omega arith)), (inl (omega arith, inl (omega arith)), (inr (refl, refl, low), tt))))))
+    at_28 = group_as marks r 28 to (omega arith) (omega arith) small (omega arith) (
+      inl (omega arith, inl (omega arith)),
+      (
+        inl (omega arith, inl (omega arith)),
+        (
+          inl (omega arith, inl (omega arith)),
+          (inl (omega arith, inl (omega arith)), (inl (omega arith, inl (omega arith)), (inr (refl, refl, low), tt))),
+        ),
+      ),
+    )
 
 abbrev LinkFits : (ℕ → ℕ) → Rec → ℕ → ℕ → Type 0
 LinkFits marks r to at = field 1 r format.kind ≡ format.related → Fits marks format.relationships_file r
@@ -235,23 +278,86 @@ pub fits_link : (marks : ℕ → ℕ) (r : Rec) (at to : ℕ) → IsLink at → 
     → field 1 r format.kind ≡ format.related → Fits marks format.relationships_file r
     → Fits marks format.relationships_file (with_field 4 r at to)
 fits_link marks r at to is small low = ⊎_elim (λ (e : at ≡ 16). subst (LinkFits marks r to) (sym e) at_16)
-    (λ k. ⊎_elim (λ (e : at ≡ 20). subst (LinkFits marks r to) (sym e) at_20) (λ l. ⊎_elim (λ (e : at ≡ 24). subst (LinkFits marks r to) (sym e) at_24) (λ (e : at ≡ 28). subst (LinkFits marks r to) (sym e) at_28) l) k) is
+    (λ k. ⊎_elim (λ (e : at ≡ 20). subst (LinkFits marks r to) (sym e) at_20) (λ l. ⊎_elim (λ (e : at ≡ 24). subst (LinkFits marks r to) (sym e) at_24)
+    (λ (e : at ≡ 28). subst (LinkFits marks r to) (sym e) at_28) l) k) is
   where
     at_16 : LinkFits marks r to 16
-    at_16 = rel_as marks r 16 to (omega arith) (omega arith) small (omega arith)
-        (inl (omega arith, inl (omega arith)), (inl (omega arith, inl (omega arith)), (inr (refl, refl, low), (inl (omega arith, inr (omega arith)), (inl (omega arith, inr (omega arith)), (inl (omega arith, inr (omega arith)), (inl (omega arith, inr (omega arith)), tt)))))))
+    at_16 = rel_as marks r 16 to (omega arith) (omega arith) small (omega arith) (
+      inl (omega arith, inl (omega arith)),
+      (
+        inl (omega arith, inl (omega arith)),
+        (
+          inr (refl, refl, low),
+          (
+            inl (omega arith, inr (omega arith)),
+            (inl (omega arith, inr (omega arith)), (inl (omega arith, inr (omega arith)), (inl (omega arith, inr (omega arith)), tt))),
+          ),
+        ),
+      ),
+    )
 
     at_20 : LinkFits marks r to 20
-    at_20 = rel_as marks r 20 to (omega arith) (omega arith) small (omega arith)
-        (inl (omega arith, inl (omega arith)), (inl (omega arith, inl (omega arith)), (inl (omega arith, inl (omega arith)), (inr (refl, refl, low), (inl (omega arith, inr (omega arith)), (inl (omega arith, inr (omega arith)), (inl (omega arith, inr (omega arith)), tt)))))))
+    at_20 = rel_as marks r 20 to (omega arith) (omega arith) small (omega arith) (
+      inl (omega arith, inl (omega arith)),
+      (
+        inl (omega arith, inl (omega arith)),
+        (
+          inl (omega arith, inl (omega arith)),
+          (
+            inr (refl, refl, low),
+            (inl (omega arith, inr (omega arith)), (inl (omega arith, inr (omega arith)), (inl (omega arith, inr (omega arith)), tt))),
+          ),
+        ),
+      ),
+    )
 
     at_24 : LinkFits marks r to 24
-    at_24 = rel_as marks r 24 to (omega arith) (omega arith) small (omega arith)
-        (inl (omega arith, inl (omega arith)), (inl (omega arith, inl (omega arith)), (inl (omega arith, inl (omega arith)), (inl (omega arith, inl (omega arith)), (inr (refl, refl, low), (inl (omega arith, inr (omega arith)), (inl (omega arith, inr (omega arith)), tt)))))))
+    at_24 = rel_as marks r 24 to (omega arith) (omega arith) small (omega arith) (
+      inl (omega arith, inl (omega arith)),
+      (
+        inl (omega arith, inl (omega arith)),
+        (
+          inl (omega arith, inl (omega arith)),
+          (
+            inl (omega arith, inl (omega arith)),
+            (
+              inr (refl, refl, low),
+              (
+                inl (omega arith, inr (omega arith)),
+                (
+                  inl (omega arith, inr (omega arith)),
+                  tt,
+                ),
+              ),
+            ),
+          ),
+        ),
+      ),
+    )
 
     at_28 : LinkFits marks r to 28
-    at_28 = rel_as marks r 28 to (omega arith) (omega arith) small (omega arith)
-        (inl (omega arith, inl (omega arith)), (inl (omega arith, inl (omega arith)), (inl (omega arith, inl (omega arith)), (inl (omega arith, inl (omega arith)), (inl (omega arith, inl (omega arith)), (inr (refl, refl, low), (inl (omega arith, inr (omega arith)), tt)))))))
+    at_28 = rel_as marks r 28 to (omega arith) (omega arith) small (omega arith) (
+      inl (omega arith, inl (omega arith)),
+      (
+        inl (omega arith, inl (omega arith)),
+        (
+          inl (omega arith, inl (omega arith)),
+          (
+            inl (omega arith, inl (omega arith)),
+            (
+              inl (omega arith, inl (omega arith)),
+              (
+                inr (refl, refl, low),
+                (
+                  inl (omega arith, inr (omega arith)),
+                  tt,
+                ),
+              ),
+            ),
+          ),
+        ),
+      ),
+    )
 
 -- the first property of a node, and of a relationship
 pub fits_node_property : (marks : ℕ → ℕ) (r : Rec) (to : ℕ) → to < 2 ^ 32 → IsLow (marks format.properties_file) to → (field 1 r format.kind ≡ format.sparse)
@@ -265,21 +371,54 @@ fits_node_property marks r to small low (inr dense) = dense_as marks r format.no
 pub fits_rel_property : (marks : ℕ → ℕ) (r : Rec) (to : ℕ) → to < 2 ^ 32 → IsLow (marks format.properties_file) to → field 1 r format.kind ≡ format.related
     → Fits marks format.relationships_file r
     → Fits marks format.relationships_file (with_field 4 r format.relationship_first_property to)
-fits_rel_property marks r to small low = rel_as marks r format.relationship_first_property to (omega arith) (omega arith) small (omega arith)
-    (inl (omega arith, inl (omega arith)), (inl (omega arith, inl (omega arith)), (inl (omega arith, inl (omega arith)), (inl (omega arith, inl (omega arith)), (inl (omega arith, inl (omega arith)), (inl (omega arith, inl (omega arith)), (inr (refl, refl, low), tt)))))))
+fits_rel_property marks r to small low = rel_as marks r format.relationship_first_property to (omega arith) (omega arith) small (omega arith) (
+  inl (omega arith, inl (omega arith)),
+  (
+    inl (omega arith, inl (omega arith)),
+    (
+      inl (omega arith, inl (omega arith)),
+      (
+        inl (omega arith, inl (omega arith)),
+        (inl (omega arith, inl (omega arith)), (inl (omega arith, inl (omega arith)), (inr (refl, refl, low), tt))),
+      ),
+    ),
+  ),
+)
 
 -- the link of a group to another
 pub fits_group_previous : (marks : ℕ → ℕ) (r : Rec) (to : ℕ) → to < 2 ^ 32 → IsLow (marks format.groups_file) to → is_group_kind (field 1 r format.kind) ≡ true
     → Fits marks format.groups_file r
     → Fits marks format.groups_file (with_field 4 r format.group_previous to)
-fits_group_previous marks r to small low = group_as marks r format.group_previous to (omega arith) (omega arith) small (omega arith)
-    (inl (omega arith, inl (omega arith)), (inr (refl, refl, low), (inl (omega arith, inr (omega arith)), (inl (omega arith, inr (omega arith)), (inl (omega arith, inr (omega arith)), (inl (omega arith, inr (omega arith)), tt))))))
+fits_group_previous marks r to small low = group_as marks r format.group_previous to (omega arith) (omega arith) small (omega arith) (
+  inl (omega arith, inl (omega arith)),
+  (
+    inr (refl, refl, low),
+    (
+      inl (omega arith, inr (omega arith)),
+      (
+        inl (omega arith, inr (omega arith)),
+        (inl (omega arith, inr (omega arith)), (inl (omega arith, inr (omega arith)), tt)),
+      ),
+    ),
+  ),
+)
 
 pub fits_group_next : (marks : ℕ → ℕ) (r : Rec) (to : ℕ) → to < 2 ^ 32 → IsLow (marks format.groups_file) to → is_group_kind (field 1 r format.kind) ≡ true
     → Fits marks format.groups_file r
     → Fits marks format.groups_file (with_field 4 r format.group_next to)
-fits_group_next marks r to small low = group_as marks r format.group_next to (omega arith) (omega arith) small (omega arith)
-    (inl (omega arith, inl (omega arith)), (inl (omega arith, inl (omega arith)), (inr (refl, refl, low), (inl (omega arith, inr (omega arith)), (inl (omega arith, inr (omega arith)), (inl (omega arith, inr (omega arith)), tt))))))
+fits_group_next marks r to small low = group_as marks r format.group_next to (omega arith) (omega arith) small (omega arith) (
+  inl (omega arith, inl (omega arith)),
+  (
+    inl (omega arith, inl (omega arith)),
+    (
+      inr (refl, refl, low),
+      (
+        inl (omega arith, inr (omega arith)),
+        (inl (omega arith, inr (omega arith)), (inl (omega arith, inr (omega arith)), tt)),
+      ),
+    ),
+  ),
+)
 
 -- the first link of a dense node, which is to a group
 pub fits_dense_first : (marks : ℕ → ℕ) (r : Rec) (to : ℕ) → to < 2 ^ 32 → IsLow (marks format.groups_file) to → field 1 r format.kind ≡ format.dense

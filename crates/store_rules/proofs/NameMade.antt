@@ -115,7 +115,8 @@ module _ (s t : Records) (shape : Shape) (rec : Rec) (text : List ℕ) (made : I
           (λ (k : x < count). ⊎_elim (λ (l : y < count). well.names.distinct x y k l (sym (old_text x k) ∙ e ∙ old_text y l))
           (λ (l : y ≡ count). absurd (not_before x k (sym (old_text x k) ∙ e ∙ ap (λ z. text_of (rec_at t format.names_file z)) l ∙ text_here)))
           (low_or_last y b))
-          (λ (k : x ≡ count). ⊎_elim (λ (l : y < count). absurd (not_before y l (sym (old_text y l) ∙ sym e ∙ ap (λ z. text_of (rec_at t format.names_file z)) k ∙ text_here)))
+          (λ (k : x ≡ count). ⊎_elim (λ (l : y < count). absurd (not_before y l (sym (old_text y l) ∙ sym e ∙ ap (λ z. text_of (rec_at t format.names_file z)) k
+          ∙ text_here)))
           (λ (l : y ≡ count). k ∙ sym l) (low_or_last y b)) (low_or_last x a);
     }
 
@@ -135,7 +136,8 @@ module _ (s t : Records) (shape : Shape) (rec : Rec) (text : List ℕ) (made : I
       names = names;
       degrees = un.degrees s t format.names_file count made.change refl most
           (λ n some. ap (λ r. field 4 r format.node_degree) (nodes_same.each n) ∙ well.degrees.each n (λ z. some (ap (λ (k : ℕ → ℕ). k n) kinds ∙ z)))
-          (λ n d. subst (λ m. m ≤ most) (sym (ap (λ r. field 4 r format.node_degree) (nodes_same.each n))) (well.degrees.few n (sym (ap (λ (k : ℕ → ℕ). k n) kinds) ∙ d)));
+          (λ n d. subst (λ m. m ≤ most) (sym (ap (λ r. field 4 r format.node_degree) (nodes_same.each n)))
+          (well.degrees.few n (sym (ap (λ (k : ℕ → ℕ). k n) kinds) ∙ d)));
     }
 
     files_stay : property_records t ≡ property_records s
@@ -159,7 +161,8 @@ module _ (s t : Records) (shape : Shape) (rec : Rec) (text : List ℕ) (made : I
         ∙ on (node_at s x) (λ row e. well.named.nodes_named x row e) (λ row e. same_properties format.nodes_file x row.property (ap node_first e))
       where
         on : (o : Option NodeRow) → ((row : NodeRow) → o ≡ Some row → row.label < count)
-            → ((row : NodeRow) → o ≡ Some row → properties_from (rec_at t format.names_file) (property_records s) row.property ≡ properties_from (rec_at s format.names_file) (property_records s) row.property)
+            → ((row : NodeRow) → o ≡ Some row → properties_from (rec_at t format.names_file) (property_records s) row.property ≡ properties_from
+            (rec_at s format.names_file) (property_records s) row.property)
             → node_from (rec_at t format.names_file) (property_records s) o ≡ node_from (rec_at s format.names_file) (property_records s) o
         on None h k = refl
         on (Some row) h k = λ i. Some (record { id = row.id; label = old_text row.label (h row refl) i; properties = k row refl i })
@@ -172,10 +175,17 @@ module _ (s t : Records) (shape : Shape) (rec : Rec) (text : List ℕ) (made : I
         ∙ on (rel_at s x) (λ row e. well.named.rels_named x row e) (λ row e. same_properties format.relationships_file x row.property (ap rel_first e))
       where
         on : (o : Option RelRow) → ((row : RelRow) → o ≡ Some row → row.label < count)
-            → ((row : RelRow) → o ≡ Some row → properties_from (rec_at t format.names_file) (property_records s) row.property ≡ properties_from (rec_at s format.names_file) (property_records s) row.property)
+            → ((row : RelRow) → o ≡ Some row → properties_from (rec_at t format.names_file) (property_records s) row.property ≡ properties_from
+            (rec_at s format.names_file) (property_records s) row.property)
             → edge_from (rec_at t format.names_file) (property_records s) o ≡ edge_from (rec_at s format.names_file) (property_records s) o
         on None h k = refl
-        on (Some row) h k = λ i. Some (record { id = row.id; label = old_text row.label (h row refl) i; from = row.from; to = row.to; properties = k row refl i })
+        on (Some row) h k = λ i. Some (record {
+          id = row.id;
+          label = old_text row.label (h row refl) i;
+          from = row.from;
+          to = row.to;
+          properties = k row refl i;
+        })
 
     pub edges_stay : (graph_of t).edges ≡ (graph_of s).edges
     edges_stay = collect_same edge_number (edge_of s) (edge_of t) (high t format.relationships_file) (λ x _. edge_text x)

@@ -18,7 +18,8 @@ module _ {E : Type 0} (row : ℕ → E) where
   row_at (suc n) x d lt =
       let long = length-rows n in
       ⊎_elim (λ (k : x < n). get_or_append_left (all_rows n) (row n ∷ []) d x (omega arith) ∙ row_at n x d k)
-      (λ (k : n ≤ x). let e : x ≡ n = omega arith in let z : x - length (all_rows n) ≡ 0 = omega arith in get_or-append_right (all_rows n) (row n ∷ []) (length (all_rows n)) x d refl (omega arith) ∙ ap (λ m. get_or (row n ∷ []) m d) z ∙ ap row (sym e)) (cases_lt x n)
+      (λ (k : n ≤ x). let e : x ≡ n = omega arith in let z : x - length (all_rows n) ≡ 0 = omega arith in get_or-append_right (all_rows n) (row n ∷ [])
+      (length (all_rows n)) x d refl (omega arith) ∙ ap (λ m. get_or (row n ∷ []) m d) z ∙ ap row (sym e)) (cases_lt x n)
 
   pub contains_row : (n x : ℕ) → x < n → Contains (all_rows n) (row x)
   contains_row n x lt = (x, let long = length-rows n in omega arith, row_at n x (row x) lt)

@@ -99,7 +99,10 @@ module _ (before : Records) (shape : Shape) where
     };
     blocks = held_none (block_owner (kind_at new format.properties_file) (rec_at new format.properties_file)) _ _ no_block_owner
         (λ p. not_live format.strings_file p refl);
-    texts = record { pieces = λ f x first e. absurd (not_some (block_owner (kind_at new format.properties_file) (rec_at new format.properties_file) f x) first (no_block_owner f x) e) };
+    texts = record {
+      pieces = λ f x first e. absurd (not_some (block_owner (kind_at new format.properties_file) (rec_at new format.properties_file) f x) first
+          (no_block_owner f x) e);
+    };
   }
 
   split : (file : ℕ) → is_meta_file file ≡ true → IsSplit new file (is_live new file) []

@@ -37,7 +37,8 @@ pub count_nodes : (s : Records) (shape : Shape) {most : ℕ} {empty : List ℕ} 
 count_nodes s shape well = (well.split format.nodes_file refl).1.exact ∙ sym
     (length-collect Node (node_of s) (is_live s format.nodes_file) (high s format.nodes_file) (λ x. on x (nat_eq (kind_at s format.nodes_file x) 0)))
   where
-    on : (x : ℕ) (b : Bool) → is_some (node_from (rec_at s format.names_file) (property_records s) (cond b None (Some (node_in (rec_at s format.nodes_file x) x)))) ≡ not b
+    on : (x : ℕ) (b : Bool) → is_some (node_from (rec_at s format.names_file) (property_records s)
+        (cond b None (Some (node_in (rec_at s format.nodes_file x) x)))) ≡ not b
     on x true = refl
     on x false = refl
 
@@ -85,8 +86,11 @@ module _ (s t : Records) (id : ℕ) (change : IsChanged s t format.nodes_file id
     -- a head of another node lists what it did
     pub listed_other : (h : Head) (n : ℕ) → Owns (kind_at t format.nodes_file) (group_at s) h n → n ≢ id → IsListed t h n (StandsAt (rel_at s) (group_at s) h)
     listed_other h n o ne = ⊎_elim
-        (λ (k : SparseHead (kind_at t format.nodes_file) h n). kept (inl (record { sparse = sym (kind_other n ne) ∙ k.sparse; is = k.is })) (λ _ q. ne (ap (λ (z : Head). z.key.id) (sym k.is) ∙ q)))
-        (λ (k : GroupHead (kind_at t format.nodes_file) (group_at s) h n). kept (inr (record { dense = sym (kind_other n ne) ∙ k.dense; row = k.row; group = k.group; owner = k.owner; key = k.key; field = k.field })) (λ q. let f = ap (λ (z : Key). z.file) k.key in omega arith)) o
+        (λ (k : SparseHead (kind_at t format.nodes_file) h n). kept (inl (record { sparse = sym (kind_other n ne) ∙ k.sparse; is = k.is }))
+        (λ _ q. ne (ap (λ (z : Head). z.key.id) (sym k.is) ∙ q)))
+        (λ (k : GroupHead (kind_at t format.nodes_file) (group_at s) h n). kept
+        (inr (record { dense = sym (kind_other n ne) ∙ k.dense; row = k.row; group = k.group; owner = k.owner; key = k.key; field = k.field }))
+        (λ q. let f = ap (λ (z : Key). z.file) k.key in omega arith)) o
       where
         kept : Owns (kind_at s format.nodes_file) (group_at s) h n → (h.key.file ≡ format.nodes_file → h.key.id ≢ id)
             → IsListed t h n (StandsAt (rel_at s) (group_at s) h)

@@ -40,7 +40,8 @@ module _ (s : Records) (shape : Shape) {most : ℕ} {empty : List ℕ} (well : K
       let k = some_row (kind_at s format.relationships_file x) (rel_in (rec_at s format.relationships_file x) x) row e in
       let out = ids_empty (λ y. stands_in id (rel_at s y)) (high s format.relationships_file) none_counted x
       (kind_below (high s format.relationships_file) (rec_at s format.relationships_file x) x k.0) in
-      absurd (true≢false (sym (ap (stands_in id) e ∙ ⊎_elim (λ (f : row.from ≡ id). rw (eq_true row.from id f) refl) (λ (f : row.to ≡ id). rw (eq_true row.to id f) (or_true (nat_eq row.from id))) i) ∙ out))
+      absurd (true≢false (sym (ap (stands_in id) e ∙ ⊎_elim (λ (f : row.from ≡ id). rw (eq_true row.from id f) refl) (λ (f : row.to ≡ id). rw
+      (eq_true row.to id f) (or_true (nat_eq row.from id))) i) ∙ out))
     where
       or_true : (a : Bool) → (a || true) ≡ true
       or_true true = refl
@@ -85,7 +86,8 @@ module _ (s t : Records) (shape : Shape) (id : ℕ) (lost : IsGone s t shape for
   named : AreNamed (node_at t) (rel_at t) (high t format.names_file)
   named = subst (λ r. AreNamed (node_at t) r (high t format.names_file)) (sym (un.rels_same s t format.nodes_file id lost.change refl))
       (subst (λ m. AreNamed (node_at t) (rel_at s) m) (sym (nc.name_mark s t id lost.change)) (record {
-        nodes_named = λ x row e. well.named.nodes_named x row (sym (nc.node_other s t id lost.change x (λ k. absurd (let z : None ≡ Some row = sym node_gone ∙ ap (node_at t) (sym k) ∙ e in cc))) ∙ e);
+        nodes_named = λ x row e. well.named.nodes_named x row (sym (nc.node_other s t id lost.change x (λ k. absurd (let z : None ≡ Some row = sym node_gone
+            ∙ ap (node_at t) (sym k) ∙ e in cc))) ∙ e);
         rels_named = well.named.rels_named;
       }))
 
@@ -95,14 +97,16 @@ module _ (s t : Records) (shape : Shape) (id : ℕ) (lost : IsGone s t shape for
   degrees : AreCounted (kind_at t format.nodes_file) (degree t) (rel_at t) (high t format.relationships_file) most
   degrees = un.degrees s t format.nodes_file id lost.change refl most
       (λ n some. let ne = other n some in degree_other n ne ∙ well.degrees.each n (λ z. some (kind_other n ne ∙ z)))
-      (λ n d. let ne = other n (λ z. let p = sym z ∙ d in omega arith) in let z = degree_other n ne in let b = well.degrees.few n (sym (kind_other n ne) ∙ d) in omega arith)
+      (λ n d. let ne = other n (λ z. let p = sym z ∙ d in omega arith) in let z = degree_other n ne in let b = well.degrees.few n (sym (kind_other n ne) ∙ d) in
+      omega arith)
 
   pub gone_well : KeepsRules t shape most empty
   gone_well = record {
     ranges = ch.in_range s t format.nodes_file id lost.change shape lost.meta (λ _. lost.fits) well.ranges;
     split = ch.split_all s t format.nodes_file id lost.change (λ _. (lost.free, lost.split)) well.split;
     kept = ch.kept_all s t format.nodes_file id lost.change (λ e. absurd (true≢false e)) well.kept;
-    linked = un.linked s t format.nodes_file id lost.change refl (λ x n row e i. kind_other n (λ k. no_end s shape well id old.used old.alone x row e (subst (λ z. IsEnd z row) k i))) listed well.linked;
+    linked = un.linked s t format.nodes_file id lost.change refl (λ x n row e i. kind_other n (λ k. no_end s shape well id old.used old.alone x row e
+        (subst (λ z. IsEnd z row) k i))) listed well.linked;
     grouped = un.grouped s t format.nodes_file id lost.change refl (λ n g row e o d. kind_other n (λ k. old.ungrouped g row e (o ∙ k)) ∙ d)
         (λ n d. (sym (kind_other n (dense_new n d)) ∙ d, nc.first_other s t id lost.change n (dense_new n d))) well.grouped;
     exact = un.exact s t format.nodes_file id lost.change refl well.exact;

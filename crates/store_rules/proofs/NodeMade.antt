@@ -77,7 +77,8 @@ module _ (s t : Records) (shape : Shape) (id number : ℕ) (rec : Rec) (made : I
   listed h n o = ⊎_elim
       (λ (e : n ≡ id). subst (λ m. IsListed t h m (StandsAt (rel_at s) (group_at s) h)) (sym e) (⊎_elim
       (λ (k : SparseHead (kind_at t format.nodes_file) h n). listed_empty h (k.is ∙ ap node_head e))
-      (λ (k : GroupHead (kind_at t format.nodes_file) (group_at s) h n). absurd (let p = sym (ap (kind_at t format.nodes_file) e ∙ kind_new) ∙ k.dense in omega arith)) o))
+      (λ (k : GroupHead (kind_at t format.nodes_file) (group_at s) h n). absurd (let p = sym (ap (kind_at t format.nodes_file) e ∙ kind_new) ∙ k.dense in omega
+      arith)) o))
       (λ (ne : n ≢ id). nc.listed_other s t id made.change shape well h n o ne) (nat_cases n id)
 
   dense_old : (n : ℕ) → kind_at t format.nodes_file n ≡ format.dense → n ≢ id
@@ -122,7 +123,8 @@ module _ (s t : Records) (shape : Shape) (id number : ℕ) (rec : Rec) (made : I
   degrees : AreCounted (kind_at t format.nodes_file) (degree t) (rel_at t) (high t format.relationships_file) most
   degrees = un.degrees s t format.nodes_file id made.change refl most
       (λ n some. ⊎_elim
-      (λ (e : n ≡ id). subst (λ z. degree t z ≡ degree_of (rel_at s) (high s format.relationships_file) z) (sym e) (degree_new ∙ sym (ap length (ids_none (λ x. stands_in id (rel_at s x)) (high s format.relationships_file) none_at))))
+      (λ (e : n ≡ id). subst (λ z. degree t z ≡ degree_of (rel_at s) (high s format.relationships_file) z) (sym e)
+      (degree_new ∙ sym (ap length (ids_none (λ x. stands_in id (rel_at s x)) (high s format.relationships_file) none_at))))
       (λ (ne : n ≢ id). degree_other n ne ∙ well.degrees.each n (λ z. some (kind_other n ne ∙ z))) (nat_cases n id))
       (λ n d. ⊎_elim
       (λ (e : n ≡ id). let z : degree t n ≡ 0 = ap (degree t) e ∙ degree_new in omega arith)
@@ -156,8 +158,13 @@ module _ (s t : Records) (shape : Shape) (id number : ℕ) (rec : Rec) (made : I
   abbrev new_node : Properties → Node
   new_node properties = record { id = id; label = text_of (rec_at s format.names_file number); properties = properties }
 
-  pub node_added : (graph_of t).nodes ≡ with_row node_number (record { id = id; label = text_of (rec_at s format.names_file number); properties = no_properties }) (graph_of s).nodes
+  pub node_added : (graph_of t).nodes ≡ with_row node_number (record {
+    id = id;
+    label = text_of (rec_at s format.names_file number);
+    properties = no_properties;
+  }) (graph_of s).nodes
   node_added = rows_with node_number (node_of s) (node_of t) (high s format.nodes_file) (high t format.nodes_file) id (new_node no_properties)
       (nc.nodes_numbered s) refl none_before
-      (nc.node_text s t id made.change id ∙ ap (node_from (rec_at s format.names_file) (property_records s)) node_new ∙ ap (λ p. Some (new_node p)) (properties_from-nil (rec_at s format.names_file) (property_records s)))
+      (nc.node_text s t id made.change id ∙ ap (node_from (rec_at s format.names_file) (property_records s)) node_new ∙ ap (λ p. Some (new_node p))
+      (properties_from-nil (rec_at s format.names_file) (property_records s)))
       (nc.row_other s t id made.change) made.below made.grows

@@ -4,7 +4,8 @@ use Rattle.std.proofs.lemmas.Bool.{cases_lt}
 use Rattle.std.proofs.lemmas.Bool.Decides.{nat_tests}
 
 pub nat_cases : (m n : ℕ) → (m ≡ n) ⊎ (m ≢ n)
-nat_cases m n = ⊎_elim (λ (lt : m < n). inr (λ e. omega arith)) (λ (ge : n ≤ m). ⊎_elim (λ (lt : n < m). inr (λ e. omega arith)) (λ (le : m ≤ n). inl (omega arith)) (cases_lt n m)) (cases_lt m n)
+nat_cases m n = ⊎_elim (λ (lt : m < n). inr (λ e. omega arith)) (λ (ge : n ≤ m). ⊎_elim (λ (lt : n < m). inr (λ e. omega arith))
+    (λ (le : m ≤ n). inl (omega arith)) (cases_lt n m)) (cases_lt m n)
 
 pub lt_true : (a b : ℕ) → a < b → nat_lt a b ≡ true
 lt_true a b h = grind (arith, nat_tests)

@@ -56,7 +56,8 @@ module _ (records : Records) (number : Rec) where
       (λ (same : file ≡ taken_id).
       let none : high records taken_id ≡ 0 = ap (λ (r : Rec). (meta_of r).high) blank ∙ blank_high in
       subst (λ (f : ℕ). high records f ≤ high numbered f) (sym same) (omega (arith, none)))
-      (λ (other : file ≢ taken_id). let same : high numbered file ≡ high records file = ap (λ (r : Rec). (meta_of r).high) (meta_kept file other) in omega (arith, same))
+      (λ (other : file ≢ taken_id). let same : high numbered file ≡ high records file = ap (λ (r : Rec). (meta_of r).high) (meta_kept file other) in omega
+      (arith, same))
       (nat_cases file taken_id)
 
   not_taken : meta_file ≢ taken_id

@@ -52,8 +52,11 @@ once_both (x ∷ xs) ys a b apart =
 -- of a list that a function made, which tells its members apart
 pub once_map : (f : ℕ → ℕ) (ps : List ℕ) → AreOnce ps → ((p q : ℕ) → In p ps → In q ps → f p ≡ f q → p ≡ q) → AreOnce (map f ps)
 once_map f [] a same = tt
-once_map f (p ∷ ps) a same =
-    ((λ i. let r = map_in f (f p) ps i in a.0 (subst (λ z. In z ps) (sym (same p r.0 (inl refl) (inr r.1) r.2)) r.1)), once_map f ps a.1 (λ q z i j. same q z (inr i) (inr j)))
+once_map f (p ∷ ps) a same = (
+  (λ i. let r = map_in f (f p) ps i in a.0 (subst (λ z. In z ps) (sym (same p r.0 (inl refl) (inr r.1) r.2)) r.1)),
+  once_map f ps a.1
+      (λ q z i j. same q z (inr i) (inr j)),
+)
 
 -- of lists that have nothing in common, one after the other
 pub once_flat_map : (f : ℕ → List ℕ) (ps : List ℕ) → AreOnce ps → ((p : ℕ) → In p ps → AreOnce (f p))

@@ -31,7 +31,8 @@ module _ (s : Records) (empty : List ℕ) (grouped : IsGrouped (kind_at s format
     Own = Owns (kind_at s format.nodes_file) (group_at s)
 
     type_is : (row : GroupRow) → group_at s row.id ≡ Some row → field 4 (rec_at s format.groups_file row.id) format.group_type ≡ row.label
-    type_is row is = ap (λ (r : GroupRow). r.label) (some_row (kind_at s format.groups_file row.id) (group_in (rec_at s format.groups_file row.id) row.id) row is).1
+    type_is row is = ap (λ (r : GroupRow). r.label) (some_row (kind_at s format.groups_file row.id) (group_in (rec_at s format.groups_file row.id) row.id)
+        row is).1
 
     pub only_head : (h k : Head) (n : ℕ) (row : RelRow) → Own h n → Own k n → IsOn (group_at s) h row → IsOn (group_at s) k row → h ≡ k
     only_head h k n row (inl a) (inl b) on at = a.is ∙ sym b.is

@@ -103,7 +103,12 @@ is_element s file x first owned = by (nat_eq file format.nodes_file) (nat_eq fil
     (eqb-true file format.relationships_file) owned
   where
     used : (f : ℕ) → (f ≡ format.nodes_file) ⊎ (f ≡ format.relationships_file) → kind_at s f x ≢ 0 → file ≡ f → IsElement s file x first
-    used f which some e = subst (λ g. IsElement s g x first) (sym e) (record { file_is = which; live = live_true (kind_at s f x) some; low = kind_below (high s f) (rec_at s f x) x some })
+    used f which some e = subst (λ g. IsElement s g x first) (sym e) (record {
+      file_is = which;
+      live = live_true (kind_at s f x) some;
+      low = kind_below
+          (high s f) (rec_at s f x) x some;
+    })
 
     of_node : (row : NodeRow) (k : ℕ) → node_first (row_if k row) ≡ Some first → k ≢ 0
     of_node row k e z = let w : None ≡ Some first = sym (ap node_first (row_none k row z)) ∙ e in cc
@@ -114,7 +119,8 @@ is_element s file x first owned = by (nat_eq file format.nodes_file) (nat_eq fil
     by : (a b : Bool) → (a ≡ true → file ≡ format.nodes_file) → (b ≡ true → file ≡ format.relationships_file)
         → cond a (node_first (node_at s x)) (cond b (rel_first (rel_at s x)) None) ≡ Some first → IsElement s file x first
     by true b f g e = used format.nodes_file (inl refl) (of_node (node_in (rec_at s format.nodes_file x) x) (kind_at s format.nodes_file x) e) (f refl)
-    by false true f g e = used format.relationships_file (inr refl) (of_rel (rel_in (rec_at s format.relationships_file x) x) (kind_at s format.relationships_file x) e) (g refl)
+    by false true f g e = used format.relationships_file (inr refl) (of_rel (rel_in (rec_at s format.relationships_file x) x)
+        (kind_at s format.relationships_file x) e) (g refl)
     by false false f g e = absurd cc
 
 module _ (s : Records) (lists : ℕ → ℕ → List ℕ) where
@@ -140,8 +146,10 @@ module _ (s : Records) (lists : ℕ → ℕ → List ℕ) where
   in_all file x first p owned i =
       let element = is_element s file x first owned in
       ⊎_elim
-      (λ (e : file ≡ format.nodes_file). in_left p (of_file format.nodes_file) (of_file format.relationships_file) (subst (λ f. In p (of_file f)) e (here element)))
-      (λ (e : file ≡ format.relationships_file). in_right p (of_file format.nodes_file) (of_file format.relationships_file) (subst (λ f. In p (of_file f)) e (here element))) element.file_is
+      (λ (e : file ≡ format.nodes_file). in_left p (of_file format.nodes_file) (of_file format.relationships_file) (subst (λ f. In p (of_file f)) e
+      (here element)))
+      (λ (e : file ≡ format.relationships_file). in_right p (of_file format.nodes_file) (of_file format.relationships_file) (subst (λ f. In p (of_file f)) e
+      (here element))) element.file_is
     where
       here : IsElement s file x first → In p (of_file file)
       here element = in_flat_map (lists file) p x (used_ids file) (in_ids (is_live s file) (high s file) x element.low element.live) i
@@ -160,14 +168,16 @@ module _ (s : Records) (lists : ℕ → ℕ → List ℕ) where
 
   -- Where no list has a number twice and no two have one in common, all have none twice.
   once_all : ((file x first : ℕ) → owner_in s file x ≡ Some first → AreOnce (lists file x))
-      → ((file x first other y second p : ℕ) → owner_in s file x ≡ Some first → owner_in s other y ≡ Some second → In p (lists file x) → In p (lists other y) → (file ≡ other) × (x ≡ y))
+      → ((file x first other y second p : ℕ) → owner_in s file x ≡ Some first → owner_in s other y ≡ Some second → In p (lists file x) → In p (lists other y) →
+      (file ≡ other) × (x ≡ y))
       → AreOnce all_of
   once_all each apart = once_both (of_file format.nodes_file) (of_file format.relationships_file) (of format.nodes_file (inl refl))
       (of format.relationships_file (inr refl))
       (λ p i j.
       let a = flat_map_in (lists format.nodes_file) p (used_ids format.nodes_file) i in
       let b = flat_map_in (lists format.relationships_file) p (used_ids format.relationships_file) j in
-      let same = (apart format.nodes_file a.0 _ format.relationships_file b.0 _ p (owner_of format.nodes_file a.0 (inl refl) a.1) (owner_of format.relationships_file b.0 (inr refl) b.1) a.2 b.2).0 in
+      let same = (apart format.nodes_file a.0 _ format.relationships_file b.0 _ p (owner_of format.nodes_file a.0 (inl refl) a.1)
+      (owner_of format.relationships_file b.0 (inr refl) b.1) a.2 b.2).0 in
       omega arith)
     where
       of : (file : ℕ) → (file ≡ format.nodes_file) ⊎ (file ≡ format.relationships_file) → AreOnce (of_file file)
@@ -178,11 +188,13 @@ module _ (s : Records) (lists : ℕ → ℕ → List ℕ) where
   length_all : length all_of ≡ sum_by (λ x. length (lists format.nodes_file x)) (used_ids format.nodes_file) + sum_by
       (λ x. length (lists format.relationships_file x)) (used_ids format.relationships_file)
   length_all = length-append (of_file format.nodes_file) (of_file format.relationships_file)
-      ∙ (λ i. length-flat_map (lists format.nodes_file) (used_ids format.nodes_file) i + length-flat_map (lists format.relationships_file) (used_ids format.relationships_file) i)
+      ∙ (λ i. length-flat_map (lists format.nodes_file) (used_ids format.nodes_file) i + length-flat_map (lists format.relationships_file)
+      (used_ids format.relationships_file) i)
 
   -- a sum over the graph's elements is how many the lists of all have, where it is so for each
   sum_all : (measure : Properties → ℕ)
-      → ((file x first : ℕ) → owner_in s file x ≡ Some first → measure (properties_from (rec_at s format.names_file) (property_records s) first) ≡ length (lists file x))
+      → ((file x first : ℕ) → owner_in s file x ≡ Some first → measure (properties_from (rec_at s format.names_file) (property_records s) first) ≡ length
+      (lists file x))
       → sum_by (λ (node : Node). measure node.properties) (graph_of s).nodes + sum_by (λ (edge : Edge). measure edge.properties) (graph_of s).edges ≡ length
       all_of
   sum_all measure each = (λ i. nodes i + edges i) ∙ sym length_all
@@ -191,14 +203,18 @@ module _ (s : Records) (lists : ℕ → ℕ → List ℕ) where
           → measure (properties_from (rec_at s format.names_file) (property_records s) (property_from s file x)) ≡ length (lists file x)
       of file x which used = each file x (property_from s file x) (owner_in-used s file x which (λ e. eqb-false (kind_at s file x) 0 used e))
 
-      node_sum : (x : ℕ) (b : Bool) → (b ≡ false → measure (properties_from (rec_at s format.names_file) (property_records s) (property_from s format.nodes_file x)) ≡ length (lists format.nodes_file x))
-          → sum_by (λ (node : Node). measure node.properties) (option_list (node_from (rec_at s format.names_file) (property_records s) (cond b None (Some (node_in (rec_at s format.nodes_file x) x)))))
+      node_sum : (x : ℕ) (b : Bool) → (b ≡ false → measure (properties_from (rec_at s format.names_file) (property_records s) (property_from s format.nodes_file
+          x)) ≡ length (lists format.nodes_file x))
+          → sum_by (λ (node : Node). measure node.properties) (option_list (node_from (rec_at s format.names_file) (property_records s)
+          (cond b None (Some (node_in (rec_at s format.nodes_file x) x)))))
           ≡ sum_by (λ z. length (lists format.nodes_file z)) (option_list (cond (not b) (Some x) None))
       node_sum x true h = refl
       node_sum x false h = ap (λ n. 0 + n) (h refl)
 
-      edge_sum : (x : ℕ) (b : Bool) → (b ≡ false → measure (properties_from (rec_at s format.names_file) (property_records s) (property_from s format.relationships_file x)) ≡ length (lists format.relationships_file x))
-          → sum_by (λ (edge : Edge). measure edge.properties) (option_list (edge_from (rec_at s format.names_file) (property_records s) (cond b None (Some (rel_in (rec_at s format.relationships_file x) x)))))
+      edge_sum : (x : ℕ) (b : Bool) → (b ≡ false → measure (properties_from (rec_at s format.names_file) (property_records s)
+          (property_from s format.relationships_file x)) ≡ length (lists format.relationships_file x))
+          → sum_by (λ (edge : Edge). measure edge.properties) (option_list (edge_from (rec_at s format.names_file) (property_records s)
+          (cond b None (Some (rel_in (rec_at s format.relationships_file x) x)))))
           ≡ sum_by (λ z. length (lists format.relationships_file z)) (option_list (cond (not b) (Some x) None))
       edge_sum x true h = refl
       edge_sum x false h = ap (λ n. 0 + n) (h refl)
@@ -249,14 +265,17 @@ module _ (s : Records) (shape : Shape) {most : ℕ} {empty : List ℕ} (keeps : 
 
   -- what is in use is among the identifiers in use
   used_in : (file p : ℕ) → is_live s file p ≡ true → In p (ids (is_live s file) (high s file))
-  used_in file p live = in_ids (is_live s file) (high s file) p (kind_below (high s file) (rec_at s file p) p (λ e. true≢false (sym live ∙ live_false (kind_at s file p) e))) live
+  used_in file p live = in_ids (is_live s file) (high s file) p (kind_below (high s file) (rec_at s file p) p
+      (λ e. true≢false (sym live ∙ live_false (kind_at s file p) e))) live
 
   -- the properties in use are those of the lists
   length-properties : length (ids (is_live s format.properties_file) (high s format.properties_file)) ≡ length (all_of s held)
   length-properties = length_same (ids (is_live s format.properties_file) (high s format.properties_file)) (all_of s held)
       (once_ids (is_live s format.properties_file) (high s format.properties_file))
-      (once_all s held (λ file x first owned. once_walk (next_property files.properties) first (held file x) (keeps.properties.held.walk file x first owned)) keeps.properties.held.once)
-      (λ p i. let k = keeps.properties.held.held p (ids_in (is_live s format.properties_file) (high s format.properties_file) p i).1 in in_all s held k.0 k.1 k.2 p k.3.0 k.3.1)
+      (once_all s held (λ file x first owned. once_walk (next_property files.properties) first (held file x) (keeps.properties.held.walk file x first owned))
+      keeps.properties.held.once)
+      (λ p i. let k = keeps.properties.held.held p (ids_in (is_live s format.properties_file) (high s format.properties_file) p i).1 in in_all s held k.0 k.1
+      k.2 p k.3.0 k.3.1)
       (λ p i. let k = all_in s held p i in used_in format.properties_file p (keeps.properties.held.only k.0 k.1 k.2 p k.3.0 k.3.1))
 
   -- and the blocks in use those of the properties of the lists
@@ -264,13 +283,15 @@ module _ (s : Records) (shape : Shape) {most : ℕ} {empty : List ℕ} (keeps : 
   length-blocks_in_use = length_same (ids (is_live s format.strings_file) (high s format.strings_file)) (all_of s held_blocks)
       (once_ids (is_live s format.strings_file) (high s format.strings_file))
       (once_all s held_blocks (λ file x first owned. (properties_right s shape keeps file x first owned).blocks_once)
-      (λ file x first other y second b owned too i j. block_owned_once s shape keeps file x first other y second (listed s shape keeps file x) (listed s shape keeps other y) owned too
+      (λ file x first other y second b owned too i j. block_owned_once s shape keeps file x first other y second (listed s shape keeps file x)
+      (listed s shape keeps other y) owned too
       (properties_right s shape keeps file x first owned) (properties_right s shape keeps other y second too) b i j))
       (λ b i.
       let there = block_there s shape keeps b (ids_in (is_live s format.strings_file) (high s format.strings_file) b i).1 in
       let k = keeps.properties.held.held there.0 there.1 in
       in_all s held_blocks k.0 k.1 k.2 b k.3.0 (in_listed s shape keeps k.0 k.1 there.0 b k.3.1 there.2))
-      (λ b i. let k = all_in s held_blocks b i in used_in format.strings_file b (block_live s shape keeps k.0 k.1 k.2 (listed s shape keeps k.0 k.1) k.3.0 (properties_right s shape keeps k.0 k.1 k.2 k.3.0) b k.3.1))
+      (λ b i. let k = all_in s held_blocks b i in used_in format.strings_file b (block_live s shape keeps k.0 k.1 k.2 (listed s shape keeps k.0 k.1) k.3.0
+      (properties_right s shape keeps k.0 k.1 k.2 k.3.0) b k.3.1))
 
   -- the count of properties is that of their file
   pub count_properties : (meta_in s format.properties_file).live ≡ property_count (graph_of s)

@@ -39,7 +39,8 @@ module _ (s t : Records) (shape : Shape) (file x : ℕ) (old new : List Property
   pub field_same : (f y n at : ℕ) → is_meta_file f ≡ true → f ≢ format.properties_file → f ≢ format.strings_file → at + n ≤ 64
       → (f ≡ file → Apart n at 4 (property_place file)) → field n (rec_at t f y) at ≡ field n (rec_at s f y) at
   field_same f y n at is a b inside apart = pair_cases file x f y
-      (λ p q. subst (λ g. field n (rec_at t g y) at ≡ field n (rec_at s g y) at) (sym p) (subst (λ z. field n (rec_at t file z) at ≡ field n (rec_at s file z) at) (sym q) (h.own n at inside (apart p))))
+      (λ p q. subst (λ g. field n (rec_at t g y) at ≡ field n (rec_at s g y) at) (sym p) (subst (λ z. field n (rec_at t file z) at ≡ field n (rec_at s file z)
+      at) (sym q) (h.own n at inside (apart p))))
       (λ ne. ap (λ r. field n r at) (record_same f y is a b ne))
 
   -- a number in the first 12 bytes stands before it

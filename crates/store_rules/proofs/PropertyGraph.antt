@@ -119,7 +119,8 @@ module _ (s t : Records) (shape : Shape) (file x : ℕ) (old new : List Property
     own_node e = node_used t x (used_both format.nodes_file e).1
         ∙ (λ i. Some (record {
           id = x;
-          label = text_of (fr.name_file s t shape file x old new h i (fr.node_field s t shape file x old new h x format.node_label (inl (omega arith)) (omega arith) i));
+          label = text_of (fr.name_file s t shape file x old new h i (fr.node_field s t shape file x old new h x format.node_label (inl (omega arith))
+              (omega arith) i));
           properties = own_properties format.nodes_file e i;
         }))
         ∙ sym (ap (option_map (change_node change)) (node_used s x (used_both format.nodes_file e).0))
@@ -155,6 +156,13 @@ module _ (s t : Records) (shape : Shape) (file x : ℕ) (old new : List Property
     -- the graph is the old one with that change
     pub graph_changed : graph_of t ≡ with_properties (graph_of s) (target_in file x) change
     graph_changed = ⊎_elim
-        (λ (e : file ≡ format.nodes_file). (λ i. record { nodes = nodes_changed e i; edges = edges_stay e i; names = names_stay i; indexes = indexes_stay i }) ∙ ap (λ f. with_properties (graph_of s) (target_in f x) change) (sym e))
-        (λ (e : file ≡ format.relationships_file). (λ i. record { nodes = nodes_stay e i; edges = edges_changed e i; names = names_stay i; indexes = indexes_stay i }) ∙ ap (λ f. with_properties (graph_of s) (target_in f x) change) (sym e))
+        (λ (e : file ≡ format.nodes_file). (λ i. record { nodes = nodes_changed e i; edges = edges_stay e i; names = names_stay i; indexes = indexes_stay i })
+        ∙ ap (λ f. with_properties (graph_of s) (target_in f x) change) (sym e))
+        (λ (e : file ≡ format.relationships_file). (λ i. record {
+          nodes = nodes_stay e i;
+          edges = edges_changed e i;
+          names = names_stay i;
+          indexes =
+              indexes_stay i;
+        }) ∙ ap (λ f. with_properties (graph_of s) (target_in f x) change) (sym e))
         h.element

@@ -65,7 +65,8 @@ module _ (s t : Records) (shape : Shape) (file x : ℕ) (old new : List Property
   owner_other f y ne = ⊎_elim
       (λ (e : f ≡ format.nodes_file). rw (eq_true f format.nodes_file e) (ap node_first (fr.node_other s t shape file x old new h y (λ k. ne (e ∙ k)))))
       (λ (a : f ≢ format.nodes_file). rw (eq_false f format.nodes_file a) (⊎_elim
-      (λ (e : f ≡ format.relationships_file). rw (eq_true f format.relationships_file e) (ap rel_first (fr.rel_other s t shape file x old new h y (λ k. ne (e ∙ k)))))
+      (λ (e : f ≡ format.relationships_file). rw (eq_true f format.relationships_file e) (ap rel_first (fr.rel_other s t shape file x old new h y
+      (λ k. ne (e ∙ k)))))
       (λ (b : f ≢ format.relationships_file). rw (eq_false f format.relationships_file b) refl)
       (nat_cases f format.relationships_file))) (nat_cases f format.nodes_file)
 
@@ -73,7 +74,8 @@ module _ (s t : Records) (shape : Shape) (file x : ℕ) (old new : List Property
   list_was : held.lists file x ≡ ids_of old
   list_was = walk_is (next_property (rec_at s format.properties_file)) (property_from s file x) (held.lists file x) (ids_of old)
       (held.walk file x (property_from s file x) owned)
-      (subst (λ z. IsWalk (next_property (rec_at s format.properties_file)) z (ids_of old)) (sym h.was.first_is) (linked_walk (property_records s) old h.was.linked))
+      (subst (λ z. IsWalk (next_property (rec_at s format.properties_file)) z (ids_of old)) (sym h.was.first_is) (linked_walk (property_records s)
+      old h.was.linked))
 
   -- the lists now
   abbrev lists : ℕ → ℕ → List ℕ
@@ -106,7 +108,8 @@ module _ (s t : Records) (shape : Shape) (file x : ℕ) (old new : List Property
     sides = sides;
     walk = λ f y first o e.
         let is : property_from t file x ≡ first = inner (property_from t file x) first (sym owned_now ∙ (λ i. owner_in t (sym o.0 i) (sym o.1 i)) ∙ e) in
-        rw (here f y o) (subst (λ z. IsWalk (next_property (rec_at t format.properties_file)) z (ids_of new)) (sym h.now.first_is ∙ is) (linked_walk (property_records t) new h.now.linked));
+        rw (here f y o) (subst (λ z. IsWalk (next_property (rec_at t format.properties_file)) z (ids_of new)) (sym h.now.first_is ∙ is)
+        (linked_walk (property_records t) new h.now.linked));
     come = λ f y p o i. subst (In p) (here f y o) i;
     back = λ p i. (file, x, property_from t file x, (owned_now, subst (In p) (sym (here file x (refl, refl))) i));
     keep = λ f y first p e i out. pair_cases file x f y
@@ -125,27 +128,32 @@ module _ (s t : Records) (shape : Shape) (file x : ℕ) (old new : List Property
   record_stays : (f y first p : ℕ) → Stays (owner_in s) held.lists lists (ids_of old) f y first → In p (held.lists f y)
       → rec_at t format.properties_file p ≡ rec_at s format.properties_file p
   record_stays f y first p k i =
-      (stays_kept s t shape format.properties_file (ids_of old) (ids_of new) h.properties (λ r. field 4 r format.property_next) (owner_in s) (owner_in t) held lists IsMine f y first p k i).1
+      (stays_kept s t shape format.properties_file (ids_of old) (ids_of new) h.properties (λ r. field 4 r format.property_next) (owner_in s) (owner_in t)
+      held lists IsMine f y first p k i).1
 
   -- keys are names, and no key comes twice in a list
   keys_now : HaveKeys (owner_in t) lists (rec_at t format.properties_file) (high s format.names_file)
   keys_now = record {
     few = λ f y first e. ⊎_elim
         (λ (o : IsMine f y). let many = ap length (here f y o) ∙ length-map new (λ (e : Property). e.id) in let few = h.now.few in omega arith)
-        (λ (k : Stays (owner_in s) held.lists lists (ids_of old) f y first). let many = ap length k.same in let few = well.properties.keys.few f y first k.owned in omega arith) (sides f y first e);
+        (λ (k : Stays (owner_in s) held.lists lists (ids_of old) f y first). let many = ap length k.same in let few = well.properties.keys.few f y first
+        k.owned in omega arith) (sides f y first e);
     named = λ f y first p e i. ⊎_elim
-        (λ (o : IsMine f y). h.known (field 4 (rec_at t format.properties_file p) format.property_key) (linked_key (property_records t) new h.now.linked p (subst (In p) (here f y o) i)))
+        (λ (o : IsMine f y). h.known (field 4 (rec_at t format.properties_file p) format.property_key) (linked_key (property_records t) new h.now.linked p
+        (subst (In p) (here f y o) i)))
         (λ (k : Stays (owner_in s) held.lists lists (ids_of old) f y first).
         let j = subst (In p) k.same i in
         subst (λ r. field 4 r format.property_key < high s format.names_file) (sym (record_stays f y first p k j))
         (well.properties.keys.named f y first p k.owned j)) (sides f y first e);
     distinct = λ f y first p q e i j same. ⊎_elim
-        (λ (o : IsMine f y). linked_keys_apart (property_records t) new h.now.linked h.now.keys_once p q (subst (In p) (here f y o) i) (subst (In q) (here f y o) j) same)
+        (λ (o : IsMine f y). linked_keys_apart (property_records t) new h.now.linked h.now.keys_once p q (subst (In p) (here f y o) i)
+        (subst (In q) (here f y o) j) same)
         (λ (k : Stays (owner_in s) held.lists lists (ids_of old) f y first).
         let a = subst (In p) k.same i in
         let b = subst (In q) k.same j in
         well.properties.keys.distinct f y first p q k.owned a b
-        (sym (ap (λ r. field 4 r format.property_key) (record_stays f y first p k a)) ∙ same ∙ ap (λ r. field 4 r format.property_key) (record_stays f y first q k b))) (sides f y first e);
+        (sym (ap (λ r. field 4 r format.property_key) (record_stays f y first p k a)) ∙ same ∙ ap (λ r. field 4 r format.property_key)
+        (record_stays f y first q k b))) (sides f y first e);
   }
 
   -- ---- blocks
@@ -231,7 +239,8 @@ module _ (s t : Records) (shape : Shape) (file x : ℕ) (old new : List Property
 
   -- an owner of blocks is a new property, or one that stays with its record
   block_sides : (f p first : ℕ) → block_owner_in t f p ≡ Some first
-      → IsNew f p ⊎ (Stays (block_owner_in s) blocks.lists block_lists (blocks_of old) f p first × (rec_at t format.properties_file p ≡ rec_at s format.properties_file p))
+      → IsNew f p ⊎ (Stays (block_owner_in s) blocks.lists block_lists (blocks_of old) f p first × (rec_at t format.properties_file p ≡ rec_at s
+      format.properties_file p))
   block_sides f p first e =
       let parts = owner_parts (kind_at t format.properties_file) (rec_at t format.properties_file) f p first e in
       let kind = parts.1 in
@@ -255,7 +264,8 @@ module _ (s t : Records) (shape : Shape) (file x : ℕ) (old new : List Property
       (λ (no : ¬ In p (ids_of old)).
       let kept = h.properties.kept p live no in (
         owner_long (kind_at t format.properties_file) (rec_at t format.properties_file) f p parts.0
-            (kind_of_live t format.properties_file p kept.0 ∙ ap (λ r. field 1 r format.kind) kept.1 ∙ sym (kind_of_live s format.properties_file p live) ∙ parts.1)
+            (kind_of_live t format.properties_file p kept.0 ∙ ap (λ r. field 1 r format.kind) kept.1 ∙ sym (kind_of_live s format.properties_file p live)
+            ∙ parts.1)
             ∙ ap (λ r. Some (field 4 r format.property_first_block)) kept.1 ∙ ap (λ z. Some z) parts.2,
         blocks_by-there new p (blocks.lists f p) (λ j. ⊎_elim no (λ dead. true≢false (sym live ∙ dead)) (h.properties.from p j)),
       ))
@@ -282,8 +292,11 @@ module _ (s t : Records) (shape : Shape) (file x : ℕ) (old new : List Property
     keep = block_kept;
     apart = λ f p g q b o u i j.
         let k = entry_of p (blocks.lists f p) o.1 in
-        let l = entry_of q (blocks.lists g q) u.1 in
-        (o.0 ∙ sym u.0, k.is ∙ one_block new k.entry l.entry b h.now.blocks_once k.among l.among (subst (In b) k.listed i) (subst (In b) l.listed j) ∙ sym l.is);
+        let l = entry_of q (blocks.lists g q) u.1 in (
+          o.0 ∙ sym u.0,
+          k.is ∙ one_block new k.entry l.entry b h.now.blocks_once k.among l.among (subst (In b) k.listed i) (subst (In b) l.listed j)
+              ∙ sym l.is,
+        );
   }
 
   -- so each block in use is in the list of one property
@@ -302,12 +315,14 @@ module _ (s t : Records) (shape : Shape) (file x : ℕ) (old new : List Property
         (λ (o : IsNew f p).
         let k = entry_of p (blocks.lists f p) o.1 in
         let l = (entry_long f p first k e).0 in
-        rw k.listed (subst (λ n. ArePieces (size_in t) n k.entry.blocks) (ap length l.long ∙ sym l.size ∙ ap (λ z. field 2 (rec_at t format.properties_file z) format.property_length) (sym k.is))
+        rw k.listed (subst (λ n. ArePieces (size_in t) n k.entry.blocks) (ap length l.long ∙ sym l.size ∙ ap (λ z. field 2 (rec_at t format.properties_file z)
+        format.property_length) (sym k.is))
         (blocks_pieces (rec_at t format.strings_file) (long_text k.entry.value) k.entry.blocks k.right.blocks)))
         (λ k. rw k.0.same (subst (λ r. ArePieces (size_in t) (field 2 r format.property_length) (blocks.lists f p)) (sym k.1)
         (pieces_stay (size_in s) (size_in t) (field 2 (rec_at s format.properties_file p) format.property_length) (blocks.lists f p)
         (λ b i. ap (λ r. field 1 r format.block_length)
-        (stays_kept s t shape format.strings_file (blocks_of old) (blocks_of new) h.strings (λ r. field 4 r format.block_next) (block_owner_in s) (block_owner_in t) blocks block_lists IsNew f p first b k.0 i).1)
+        (stays_kept s t shape format.strings_file (blocks_of old) (blocks_of new) h.strings (λ r. field 4 r format.block_next) (block_owner_in s)
+        (block_owner_in t) blocks block_lists IsNew f p first b k.0 i).1)
         (well.properties.texts.pieces f p first k.0.owned)))) (block_sides f p first e);
   }
 

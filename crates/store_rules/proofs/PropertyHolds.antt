@@ -47,11 +47,25 @@ module _ (records : Records) where
     kept_in : (file x p : ℕ) (k : HasProperty records file x p) → In p (h.properties.held.lists file x)
     kept_in file x p k =
         let a = k.among in
-        subst (In p) (walk_is (next_property records) k.first a.members (h.properties.held.lists file x) a.list.walk (h.properties.held.walk file x k.first k.owns)) a.member
+        subst (In p) (walk_is (next_property records) k.first a.members (h.properties.held.lists file x) a.list.walk (h.properties.held.walk file x k.first
+        k.owns)) a.member
 
     pub held_kept : (p : ℕ) → IsHeldOnce records p
     held_kept p = record {
-      held = λ live. let k = h.properties.held.held p live in (k.0, k.1, record { first = k.2; owns = k.3.0; among = record { members = h.properties.held.lists k.0 k.1; list = kept_list k.0 k.1 k.2 k.3.0; member = k.3.1 } });
+      held = λ live. let k = h.properties.held.held p live in (
+        k.0,
+        k.1,
+        record {
+          first = k.2;
+          owns = k.3.0;
+          among = record {
+            members = h.properties.held.lists
+                k.0 k.1;
+            list = kept_list k.0 k.1 k.2 k.3.0;
+            member = k.3.1;
+          };
+        },
+      );
       once = λ file x other y a b. h.properties.held.once file x a.first other y b.first p a.owns b.owns (kept_in file x p a) (kept_in other y p b);
     }
 
@@ -78,5 +92,6 @@ module _ (records : Records) where
           let i = subst (λ f. In b (h.properties.blocks.lists f k.1)) t.0 k.3.1 in
           (k.1, record { long = t.1; members = h.properties.blocks.lists format.properties_file k.1; list = kept_text k.1 t.1; member = i });
       once = λ p q a c.
-          (h.properties.blocks.once format.properties_file p (first_block records p) format.properties_file q (first_block records q) b (owns_text p a.long) (owns_text q c.long) (kept_block p b a) (kept_block q b c)).1;
+          (h.properties.blocks.once format.properties_file p (first_block records p) format.properties_file q (first_block records q) b (owns_text p a.long)
+          (owns_text q c.long) (kept_block p b a) (kept_block q b c)).1;
     }

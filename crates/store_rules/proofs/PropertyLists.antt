@@ -57,7 +57,8 @@ properties_from-walk name_file files first ps walk few = ap (λ xs. map_of name_
 
 -- they are the same by other names, where the texts of their keys are
 pub map_of-names : (name_file now : ℕ → Rec) (files : PropertyRecords) (ps : List ℕ)
-    → ((p : ℕ) → In p ps → text_of (now (field 4 (files.properties p) format.property_key)) ≡ text_of (name_file (field 4 (files.properties p) format.property_key)))
+    → ((p : ℕ) → In p ps → text_of (now (field 4 (files.properties p) format.property_key)) ≡ text_of
+    (name_file (field 4 (files.properties p) format.property_key)))
     → map_of now (map (property_at files) ps) ≡ map_of name_file (map (property_at files) ps)
 map_of-names name_file now files [] same = refl
 map_of-names name_file now files (p ∷ ps) same =
@@ -139,7 +140,12 @@ module _ (files : PropertyRecords) where
   -- the links of a list's records lead through its identifiers
   linked_walk : (es : List Property) → AreLinked files es → IsWalk (next_property files.properties) (first_property es) (ids_of es)
   linked_walk [] h = refl
-  linked_walk (e ∷ es) h = (refl, (λ k. let low = h.0.low in omega arith), subst (λ z. IsWalk (next_property files.properties) z (ids_of es)) (sym h.0.next_is) (linked_walk es h.1))
+  linked_walk (e ∷ es) h = (
+    refl,
+    (λ k. let low = h.0.low in omega arith),
+    subst (λ z. IsWalk (next_property files.properties) z (ids_of es)) (sym h.0.next_is)
+        (linked_walk es h.1),
+  )
 
   -- each property of the list is the one that is read at its identifier
   linked_read : (es : List Property) → AreLinked files es → map (property_at files) (ids_of es) ≡ es
@@ -173,7 +179,8 @@ module _ (files : PropertyRecords) where
 -- the content of a property's record; a text in blocks alone has blocks
 abbrev IsOf : PropertyRecords → Rec → ℕ → ℕ → Content → Type 0
 IsOf files r kind size c = IsRead files c
-    × (((kind ≢ format.text_in_blocks) × (blocks_from files.strings (Some c) ≡ [])) ⊎ ((kind ≡ format.text_in_blocks) × (c ≡ Long size (field 4 r format.property_first_block))))
+    × (((kind ≢ format.text_in_blocks) × (blocks_from files.strings (Some c) ≡ [])) ⊎ ((kind ≡ format.text_in_blocks) ×
+    (c ≡ Long size (field 4 r format.property_first_block))))
 
 -- the first of four whose test holds
 abbrev first_of_four : {A : Type 0} → Bool → Bool → Bool → Bool → A → A → A → A → A → A
@@ -287,8 +294,11 @@ module _ (s : Records) (shape : Shape) {most : ℕ} {empty : List ℕ} (keeps : 
 
   -- a block in use is one
   block_known : (b : ℕ) → is_live s format.strings_file b ≡ true → IsKnown files.strings b
-  block_known b live = let u = is_used format.strings_file b refl live in
-      (u.low, eqb-true (field 1 (files.strings b) format.kind) format.block (tested (nat_eq (field 1 (files.strings b) format.kind) format.block) _ u.layout u.laid))
+  block_known b live = let u = is_used format.strings_file b refl live in (
+    u.low,
+    eqb-true (field 1 (files.strings b) format.kind) format.block (tested (nat_eq (field 1 (files.strings b) format.kind) format.block)
+        _ u.layout u.laid),
+  )
     where
       tested : (t : Bool) (o : Option Layout) (layout : Layout) → cond t o None ≡ Some layout → t ≡ true
       tested true o layout h = refl
@@ -317,8 +327,17 @@ module _ (s : Records) (shape : Shape) {most : ℕ} {empty : List ℕ} (keeps : 
       (λ b i. block_known b (rule.blocks.only format.properties_file p first b owned i)) in
       let many = length-pieces files.strings (text_size p) bs are in
       let ids : block_ids files.strings (text_size p) first ≡ bs = followed-walk ((text_size p + 47) / 48) (next_block files.strings) first bs walk
-      (omega arith) in
-      ((more, most, subst (λ xs. AreBlocks files.strings (pieces files.strings xs) xs) (sym ids) right.0, ap (λ xs. length (pieces files.strings xs)) ids ∙ right.1, ap head_of ids ∙ walk_head (next_block files.strings) first bs walk), ids)
+      (omega arith) in (
+        (
+          more,
+          most,
+          subst (λ xs. AreBlocks files.strings (pieces files.strings xs) xs) (sym ids) right.0,
+          ap (λ xs. length (pieces files.strings xs)) ids
+              ∙ right.1,
+          ap head_of ids ∙ walk_head (next_block files.strings) first bs walk,
+        ),
+        ids,
+      )
     where
       walk_head : (next : ℕ → ℕ) (from : ℕ) (xs : List ℕ) → IsWalk next from xs → head_of xs ≡ from
       walk_head next from [] w = sym w
@@ -356,7 +375,8 @@ module _ (s : Records) (shape : Shape) {most : ℕ} {empty : List ℕ} (keeps : 
       let u = is_used format.properties_file p refl live in
       let c = property_content p live in
       ⊎_elim
-      (λ (k : (field 1 (files.properties p) format.kind ≢ format.text_in_blocks) × (blocks_from files.strings (Some c.0) ≡ [])). inl ((λ e. k.0 (sym u.kind ∙ e)), ap (blocks_from files.strings) c.1 ∙ k.1))
+      (λ (k : (field 1 (files.properties p) format.kind ≢ format.text_in_blocks) × (blocks_from files.strings (Some c.0) ≡ [])). inl
+      ((λ e. k.0 (sym u.kind ∙ e)), ap (blocks_from files.strings) c.1 ∙ k.1))
       (λ (k : (field 1 (files.properties p) format.kind ≡ format.text_in_blocks) × (c.0 ≡ Long (text_size p) (first_of p))).
       let owned = owns_blocks p (u.kind ∙ k.0) in
       let read : IsRead files (Long (text_size p) (first_of p)) = subst (IsRead files) k.1 c.2.0 in
@@ -386,7 +406,8 @@ module _ (s : Records) (shape : Shape) {most : ℕ} {empty : List ℕ} (keeps : 
   blocks_of_one : (p : ℕ) → is_live s format.properties_file p ≡ true → AreOnce (property_at files p).blocks
   blocks_of_one p live = ⊎_elim
       (λ (k : LacksBlocks p). subst AreOnce (sym k.1) tt)
-      (λ (k : OwnsBlocks p). subst AreOnce (sym k.1) (once_walk (next_block files.strings) (first_of p) (held_blocks p) (keeps.properties.blocks.walk format.properties_file p (first_of p) k.0)))
+      (λ (k : OwnsBlocks p). subst AreOnce (sym k.1) (once_walk (next_block files.strings) (first_of p) (held_blocks p)
+      (keeps.properties.blocks.walk format.properties_file p (first_of p) k.0)))
       (property_blocks p live)
 
   -- nor in those of two
@@ -413,7 +434,8 @@ module _ (s : Records) (shape : Shape) {most : ℕ} {empty : List ℕ} (keeps : 
         few = omega arith;
         ids_once = subst AreOnce (sym (ids_of-read files ps)) once;
         blocks_once = subst AreOnce (sym (flat_map-map (λ (e : Property). e.blocks) (property_at files) ps))
-            (once_flat_map (λ p. (property_at files p).blocks) ps once (λ p i. blocks_of_one p (live p i)) (λ p q b i j k l. block_of_one p q b (live p i) (live q j) k l));
+            (once_flat_map (λ p. (property_at files p).blocks) ps once (λ p i. blocks_of_one p (live p i)) (λ p q b i j k l. block_of_one p q b (live p i)
+            (live q j) k l));
         keys_once = subst AreOnce (sym (map-map (λ (e : Property). e.key) (property_at files) ps))
             (once_map (λ p. field 4 (files.properties p) format.property_key) ps once (λ p q i j e. rule.keys.distinct file x first p q owned i j e));
       }
@@ -425,8 +447,11 @@ module _ (s : Records) (shape : Shape) {most : ℕ} {empty : List ℕ} (keeps : 
       linked : (from : ℕ) (ps : List ℕ) → IsWalk (next_property files.properties) from ps → ((p : ℕ) → In p ps → is_live s format.properties_file p ≡ true)
           → AreLinked files (map (property_at files) ps)
       linked from [] walk live = tt
-      linked from (p ∷ ps) walk live =
-          (property_here p (first_property (map (property_at files) ps)) (live p (inl refl)) (first_listed (next_property files.properties p) ps walk.2), linked (next_property files.properties p) ps walk.2 (λ q i. live q (inr i)))
+      linked from (p ∷ ps) walk live = (
+        property_here p (first_property (map (property_at files) ps)) (live p (inl refl)) (first_listed (next_property files.properties p) ps walk.2),
+        linked
+            (next_property files.properties p) ps walk.2 (λ q i. live q (inr i)),
+      )
 
   -- so each list of an element's properties is that one
   listed_is : (file x first : ℕ) (es : List Property) → owner_in s file x ≡ Some first → AreProperties files first es → es ≡ listed file x
@@ -441,7 +466,8 @@ module _ (s : Records) (shape : Shape) {most : ℕ} {empty : List ℕ} (keeps : 
   block_listed : (file x first b : ℕ) (es : List Property) → owner_in s file x ≡ Some first → AreProperties files first es → In b (blocks_of es)
       → (p : ℕ) × In p (keeps.properties.held.lists file x) × In b (property_at files p).blocks
   block_listed file x first b es owned are i = flat_map_in (λ p. (property_at files p).blocks) b (keeps.properties.held.lists file x)
-      (subst (In b) (ap blocks_of (listed_is file x first es owned are) ∙ flat_map-map (λ (e : Property). e.blocks) (property_at files) (keeps.properties.held.lists file x)) i)
+      (subst (In b) (ap blocks_of (listed_is file x first es owned are) ∙ flat_map-map (λ (e : Property). e.blocks) (property_at files)
+      (keeps.properties.held.lists file x)) i)
 
   -- and the other way round
   pub in_listed : (file x p b : ℕ) → In p (keeps.properties.held.lists file x) → In b (property_at files p).blocks → In b (blocks_of (listed file x))

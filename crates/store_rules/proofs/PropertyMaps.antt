@@ -50,10 +50,11 @@ module _ (name_file : ℕ → Rec) where
     -- where none has the key, none is found
     find_none : (es : List Property) → LackKey es q → find_in q es ≡ None
     find_none [] lack = refl
-    find_none (e ∷ es) lack = (elim (eq_by_cmp order q (key_text e)) as (λ (b : Bool). eq_by_cmp order q (key_text e) ≡ b → cond b (Some e.value) (find_in q es) ≡ None) [
-      | true ↦ λ h. absurd (lack e.key (inl refl) (sym (same_key q (key_text e) h)))
-      | false ↦ λ h. find_none es (λ k i. lack k (inr i))
-    ]) refl
+    find_none (e ∷ es) lack = (elim (eq_by_cmp order q (key_text e)) as (λ (b : Bool). eq_by_cmp order q (key_text e) ≡ b → cond b (Some e.value) (find_in q es)
+        ≡ None) [
+          | true ↦ λ h. absurd (lack e.key (inl refl) (sym (same_key q (key_text e) h)))
+          | false ↦ λ h. find_none es (λ k i. lack k (inr i))
+        ]) refl
 
     -- what is found where a value is replaced
     find_replaced : (front : List Property) (e now : Property) (back : List Property) → LackKey front (key_text e) → now.key ≡ e.key
@@ -68,10 +69,11 @@ module _ (name_file : ℕ → Rec) where
     -- what is found where a property is taken out
     find_removed : (front : List Property) (e : Property) (back : List Property) → LackKey front (key_text e) → LackKey back (key_text e)
         → find_in q (front ++ back) ≡ cond (eq_by_cmp order q (key_text e)) None (find_in q (front ++ e ∷ back))
-    find_removed [] e back lack rest = (elim (eq_by_cmp order q (key_text e)) as (λ (b : Bool). eq_by_cmp order q (key_text e) ≡ b → find_in q back ≡ cond b None (cond b (Some e.value) (find_in q back))) [
-      | true ↦ λ h. find_none back (λ k i z. rest k i (z ∙ same_key q (key_text e) h))
-      | false ↦ λ h. refl
-    ]) refl
+    find_removed [] e back lack rest = (elim (eq_by_cmp order q (key_text e)) as (λ (b : Bool). eq_by_cmp order q (key_text e) ≡ b → find_in q back ≡ cond b
+        None (cond b (Some e.value) (find_in q back))) [
+          | true ↦ λ h. find_none back (λ k i z. rest k i (z ∙ same_key q (key_text e) h))
+          | false ↦ λ h. refl
+        ]) refl
     find_removed (f ∷ fs) e back lack rest =
         ap (cond (eq_by_cmp order q (key_text f)) (Some f.value)) (find_removed fs e back (λ k i. lack k (inr i)) rest)
         ∙ turned (eq_by_cmp order q (key_text f)) (eq_by_cmp order q (key_text e)) (Some f.value) None (find_in q (fs ++ e ∷ back))

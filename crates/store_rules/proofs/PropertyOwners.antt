@@ -47,9 +47,11 @@ pub linked_keys_apart : (files : PropertyRecords) (es : List Property) → AreLi
 linked_keys_apart files [] h once p q i j same = elim i [ ]
 linked_keys_apart files (e ∷ es) h once p q (inl i) (inl j) same = i ∙ sym j
 linked_keys_apart files (e ∷ es) h once p q (inl i) (inr j) same =
-    absurd (once.0 (subst (λ z. In z (keys_of es)) (sym same ∙ ap (λ z. field 4 (files.properties z) format.property_key) i ∙ h.0.key) (linked_key files es h.1 q j)))
+    absurd (once.0 (subst (λ z. In z (keys_of es)) (sym same ∙ ap (λ z. field 4 (files.properties z) format.property_key) i ∙ h.0.key)
+    (linked_key files es h.1 q j)))
 linked_keys_apart files (e ∷ es) h once p q (inr i) (inl j) same =
-    absurd (once.0 (subst (λ z. In z (keys_of es)) (same ∙ ap (λ z. field 4 (files.properties z) format.property_key) j ∙ h.0.key) (linked_key files es h.1 p i)))
+    absurd (once.0 (subst (λ z. In z (keys_of es)) (same ∙ ap (λ z. field 4 (files.properties z) format.property_key) j ∙ h.0.key)
+    (linked_key files es h.1 p i)))
 linked_keys_apart files (e ∷ es) h once p q (inr i) (inr j) same = linked_keys_apart files es h.1 once.1 p q i j same
 
 -- ---- blocks
@@ -120,5 +122,8 @@ module _ (s : Records) (e : Property) (next : ℕ) (h : IsProperty (property_rec
       let parts = owner_parts (kind_at s format.properties_file) (rec_at s format.properties_file) f e.id first owned in
       let k = long_of_kind (rec_at s format.properties_file e.id) e.value (head_of e.blocks) h.content
       (sym (kind_of_live s format.properties_file e.id live) ∙ parts.1) in
-      let same : head_of e.blocks ≡ first = sym k.first_is ∙ parts.2 in
-      (record { text = k.text; is = k.is; long = k.long; size = k.size; first_is = parts.2 }, subst (λ z. IsWalk (next_block (rec_at s format.strings_file)) z e.blocks) same (blocks_walk (rec_at s format.strings_file) (long_text e.value) e.blocks h.blocks))
+      let same : head_of e.blocks ≡ first = sym k.first_is ∙ parts.2 in (
+        record { text = k.text; is = k.is; long = k.long; size = k.size; first_is = parts.2 },
+        subst (λ z. IsWalk (next_block (rec_at s format.strings_file))
+            z e.blocks) same (blocks_walk (rec_at s format.strings_file) (long_text e.value) e.blocks h.blocks),
+      )

@@ -57,7 +57,8 @@ module _ (s t : Records) (shape : Shape) (file x : ℕ) (old new : List Property
   by_file : {P : ℕ → Type 0} → P format.properties_file → P format.strings_file → ((f : ℕ) → f ≢ format.properties_file → f ≢ format.strings_file → P f)
       → (f : ℕ) → P f
   by_file {P = P} a b other f = ⊎_elim (λ (e : f ≡ format.properties_file). subst P (sym e) a)
-      (λ (p : f ≢ format.properties_file). ⊎_elim (λ (e : f ≡ format.strings_file). subst P (sym e) b) (λ (q : f ≢ format.strings_file). other f p q) (nat_cases f format.strings_file)) (nat_cases f format.properties_file)
+      (λ (p : f ≢ format.properties_file). ⊎_elim (λ (e : f ≡ format.strings_file). subst P (sym e) b) (λ (q : f ≢ format.strings_file). other f p q)
+      (nat_cases f format.strings_file)) (nat_cases f format.properties_file)
 
   -- no mark falls
   marks_le : (f : ℕ) → high s f ≤ high t f
@@ -89,7 +90,8 @@ module _ (s t : Records) (shape : Shape) (file x : ℕ) (old new : List Property
       let meta = meta_of_reused f is in (
         k.0,
         split_stays s t f k.0 (ap metas.meta_of (fr.meta_same s t shape file x old new h f a b)) (λ y. fr.kind_same s t shape file x old new h f y meta a b)
-            (λ y. fr.field_same s t shape file x old new h f y 4 format.free_next meta a b (omega arith) (λ _. let low = fr.place_low s t shape file x old new h in inl (omega arith))) k.1,
+            (λ y. fr.field_same s t shape file x old new h f y 4 format.free_next meta a b (omega arith) (λ _. let low = fr.place_low s t shape file x old new
+            h in inl (omega arith))) k.1,
       ))
 
   -- and for the names
@@ -158,7 +160,8 @@ module _ (s t : Records) (shape : Shape) (file x : ℕ) (old new : List Property
   linked : IsLinked s (kind_at s format.nodes_file) (rel_at s) (group_at s) → IsLinked t (kind_at t format.nodes_file) (rel_at t) (group_at t)
   linked was = subst (λ k. IsLinked t k (rel_at t) (group_at t)) (sym (fr.node_kinds s t shape file x old new h))
       (subst (IsLinked t (kind_at s format.nodes_file) (rel_at t)) (sym (fr.groups_same s t shape file x old new h))
-      (twin.linked_alike s t (kind_at s format.nodes_file) (rel_at s) (rel_at t) (group_at s) rels_there rels_back next_same prev_same (head_same (kind_at s format.nodes_file)) was))
+      (twin.linked_alike s t (kind_at s format.nodes_file) (rel_at s) (rel_at t) (group_at s) rels_there rels_back next_same prev_same
+      (head_same (kind_at s format.nodes_file)) was))
 
   -- the fourth
   grouped : {empty : List ℕ} → IsGrouped (kind_at s format.nodes_file) (first_link s) (rec_at s format.groups_file) (group_at s) empty
@@ -167,15 +170,18 @@ module _ (s t : Records) (shape : Shape) (file x : ℕ) (old new : List Property
       (sym (fr.node_kinds s t shape file x old new h))
       (subst (λ f. IsGrouped (kind_at s format.nodes_file) f (rec_at t format.groups_file) (group_at t) empty) (sym (fr.first_links s t shape file x old new h))
       (subst (λ r. IsGrouped (kind_at s format.nodes_file) (first_link s) r (group_at t) empty) (sym (fr.group_file s t shape file x old new h))
-      (subst (λ g. IsGrouped (kind_at s format.nodes_file) (first_link s) (rec_at s format.groups_file) g empty) (sym (fr.groups_same s t shape file x old new h)) was)))
+      (subst (λ g. IsGrouped (kind_at s format.nodes_file) (first_link s) (rec_at s format.groups_file) g empty)
+      (sym (fr.groups_same s t shape file x old new h)) was)))
 
   exact : AreExact (kind_at s format.groups_file) (rec_at s format.groups_file) (group_at s) (rel_at s) (high s format.relationships_file)
       → AreExact (kind_at t format.groups_file) (rec_at t format.groups_file) (group_at t) (rel_at t) (high t format.relationships_file)
   exact was g row is kind = subst (λ (f : ℕ → Rec). HasCounts (f g) row (rel_at t) (high t format.relationships_file))
       (sym (fr.group_file s t shape file x old new h))
-      (subst (λ m. HasCounts (rec_at s format.groups_file g) row (rel_at t) m) (sym (fr.mark_same s t shape file x old new h format.relationships_file (λ e. omega arith) (λ e. omega arith)))
+      (subst (λ m. HasCounts (rec_at s format.groups_file g) row (rel_at t) m) (sym (fr.mark_same s t shape file x old new h format.relationships_file
+      (λ e. omega arith) (λ e. omega arith)))
       (twin.counts_alike (rel_at s) (rel_at t) rels_there rels_back (rec_at s format.groups_file g) row (high s format.relationships_file)
-      (was g row (ap (λ (f : ℕ → Option GroupRow). f g) (sym (fr.groups_same s t shape file x old new h)) ∙ is) (sym (fr.kind_same s t shape file x old new h format.groups_file g refl (λ e. omega arith) (λ e. omega arith)) ∙ kind))))
+      (was g row (ap (λ (f : ℕ → Option GroupRow). f g) (sym (fr.groups_same s t shape file x old new h)) ∙ is)
+      (sym (fr.kind_same s t shape file x old new h format.groups_file g refl (λ e. omega arith) (λ e. omega arith)) ∙ kind))))
 
   -- the sixth
   names : AreNames (rec_at s format.names_file) (high s format.names_file) → AreNames (rec_at t format.names_file) (high t format.names_file)
@@ -192,8 +198,10 @@ module _ (s t : Records) (shape : Shape) (file x : ℕ) (old new : List Property
       → AreCounted (kind_at t format.nodes_file) (degree t) (rel_at t) (high t format.relationships_file) most
   degrees {most = most} was = subst (λ k. AreCounted k (degree t) (rel_at t) (high t format.relationships_file) most)
       (sym (fr.node_kinds s t shape file x old new h))
-      (subst (λ m. AreCounted (kind_at s format.nodes_file) (degree t) (rel_at t) m most) (sym (fr.mark_same s t shape file x old new h format.relationships_file (λ e. omega arith) (λ e. omega arith)))
-      (twin.counted_alike (rel_at s) (rel_at t) rels_there rels_back (kind_at s format.nodes_file) (degree s) (degree t) (high s format.relationships_file) most (fr.degrees_same s t shape file x old new h) was))
+      (subst (λ m. AreCounted (kind_at s format.nodes_file) (degree t) (rel_at t) m most)
+      (sym (fr.mark_same s t shape file x old new h format.relationships_file (λ e. omega arith) (λ e. omega arith)))
+      (twin.counted_alike (rel_at s) (rel_at t) rels_there rels_back (kind_at s format.nodes_file) (degree s) (degree t) (high s format.relationships_file) most
+      (fr.degrees_same s t shape file x old new h) was))
 
   -- a change of one element's properties keeps the rules
   pub properties_well : {most : ℕ} {empty : List ℕ} → KeepsRules s shape most empty → KeepsRules t shape most empty

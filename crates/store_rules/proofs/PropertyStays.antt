@@ -41,8 +41,11 @@ pub linked_stay : (was now : PropertyRecords) (es : List Property) → ((p : ℕ
     → ((b : ℕ) → In b (blocks_of es) → now.strings b ≡ was.strings b)
     → AreLinked was es → AreLinked now es
 linked_stay was now [] same blocks h = tt
-linked_stay was now (e ∷ es) same blocks h =
-    (property_stays was now e (first_property es) (same e.id (inl refl)) (λ b i. blocks b (in_left b e.blocks (blocks_of es) i)) h.0, linked_stay was now es (λ p i. same p (inr i)) (λ b i. blocks b (in_right b e.blocks (blocks_of es) i)) h.1)
+linked_stay was now (e ∷ es) same blocks h = (
+  property_stays was now e (first_property es) (same e.id (inl refl)) (λ b i. blocks b (in_left b e.blocks (blocks_of es) i)) h.0,
+  linked_stay was now es
+      (λ p i. same p (inr i)) (λ b i. blocks b (in_right b e.blocks (blocks_of es) i)) h.1,
+)
 
 -- so do the properties of an element
 pub properties_stay : (was now : PropertyRecords) (first : ℕ) (es : List Property) → ((p : ℕ) → In p (ids_of es) → now.properties p ≡ was.properties p)

@@ -80,7 +80,11 @@ module _ (s t : Records) (shape : Shape) (file x : ℕ) (store : IsWellFormed s 
   step : (old new : List Property) → ChangesProperties s t shape file x old new → (change : Properties → Properties)
       → change (map_of (rec_at s format.names_file) old) ≡ map_of (rec_at s format.names_file) new
       → IsStoreOf t shape (with_properties (graph_of s) (target_in file x) change)
-  step old new h change is = record { store = properties_well s t shape file x old new h store; graph_is = graph_changed s t shape file x old new h store change is }
+  step old new h change is = record {
+    store = properties_well s t shape file x old new h store;
+    graph_is = graph_changed s t shape file x old new h store change
+        is;
+  }
 
   -- one more, in front of the others
   pub property_added : (e : Property) (old : List Property) → ChangesProperties s t shape file x old (e ∷ old)

@@ -26,7 +26,12 @@ walk_is next from (x ∷ xs) (y ∷ ys) h k =
 -- properties that are linked are a walk from the first one on
 pub linked_walk : (files : PropertyRecords) (es : List Property) → AreLinked files es → IsWalk (next_property files.properties) (first_property es) (ids_of es)
 linked_walk files [] h = refl
-linked_walk files (e ∷ es) h = (refl, (λ z. let low = h.0.low in omega arith), subst (λ z. IsWalk (next_property files.properties) z (ids_of es)) (sym h.0.next_is) (linked_walk files es h.1))
+linked_walk files (e ∷ es) h = (
+  refl,
+  (λ z. let low = h.0.low in omega arith),
+  subst (λ z. IsWalk (next_property files.properties) z (ids_of es))
+      (sym h.0.next_is) (linked_walk files es h.1),
+)
 
 -- the blocks of a text are pieces of its length
 pub blocks_pieces : (string_file : ℕ → Rec) (text : List ℕ) (bs : List ℕ) → AreBlocks string_file text bs
@@ -41,8 +46,12 @@ blocks_pieces string_file text (b ∷ []) h =
 blocks_pieces string_file text (b ∷ c ∷ bs) h =
     let rest = length-drop 48 text in
     let more = h.1.0.some in
-    let size = h.0.size in
-    (omega arith, omega arith, subst (λ n. ArePieces (λ b. field 1 (string_file b) format.block_length) n (c ∷ bs)) rest (blocks_pieces string_file (drop 48 text) (c ∷ bs) h.1))
+    let size = h.0.size in (
+      omega arith,
+      omega arith,
+      subst (λ n. ArePieces (λ b. field 1 (string_file b) format.block_length) n (c ∷ bs)) rest (blocks_pieces string_file
+          (drop 48 text) (c ∷ bs) h.1),
+    )
 
 -- ---- long texts
 

@@ -29,7 +29,8 @@ use Rattle.store_rules.proofs.ViewLaws.{kind_by, kind_low, some_row}
 -- the n bytes from a place on are none of a link's, of a degree's or of a number's of a counted group
 abbrev pub IsKept : ℕ → ℕ → ℕ → Type 0
 IsKept file n at =
-    (file ≡ format.nodes_file → ((at + n ≤ format.node_first_link) ⊎ (format.node_first_property ≤ at)) × ((at + n ≤ format.node_degree) ⊎ (format.node_degree + 4 ≤ at)))
+    (file ≡ format.nodes_file → ((at + n ≤ format.node_first_link) ⊎ (format.node_first_property ≤ at)) × ((at + n ≤ format.node_degree) ⊎
+    (format.node_degree + 4 ≤ at)))
     × (file ≡ format.relationships_file → (at + n ≤ format.relationship_source_previous) ⊎ (format.relationship_first_property ≤ at))
     × (file ≡ format.groups_file → (at + n ≤ format.group_first_out) ⊎ (format.group_loop_count + 4 ≤ at))
 
@@ -44,9 +45,11 @@ HasLinks file = (file ≡ format.nodes_file) ⊎ ((file ≡ format.relationships
 -- no links in the other files
 pub unlinked : (file : ℕ) → (file ≡ format.meta_file) ⊎ (format.groups_file < file) → ¬ HasLinks file
 unlinked file either is = ⊎_elim (λ (e : file ≡ 1). ⊎_elim (λ (z : file ≡ 0). omega arith) (λ (l : 3 < file). omega arith) either)
-    (λ k. ⊎_elim (λ (e : file ≡ 2). ⊎_elim (λ (z : file ≡ 0). omega arith) (λ (l : 3 < file). omega arith) either) (λ (e : file ≡ 3). ⊎_elim (λ (z : file ≡ 0). omega arith) (λ (l : 3 < file). omega arith) either) k) is
+    (λ k. ⊎_elim (λ (e : file ≡ 2). ⊎_elim (λ (z : file ≡ 0). omega arith) (λ (l : 3 < file). omega arith) either) (λ (e : file ≡ 3). ⊎_elim
+    (λ (z : file ≡ 0). omega arith) (λ (l : 3 < file). omega arith) either) k) is
 
--- No number of a record changed but links of relationships, first links of sparse nodes and of the chains of groups, degrees, and numbers of counted groups. Records that fitted their file fit it.
+-- No number of a record changed but links of relationships, first links of sparse nodes and of the
+-- chains of groups, degrees, and numbers of counted groups. Records that fitted their file fit it.
 pub record IsRelinked (s t : Records) : Type 0 where
   pub others : (key : Key) → ¬ HasLinks key.file → t key ≡ s key
   pub same : (key : Key) (n at : ℕ) → at + n ≤ 64 → IsKept key.file n at → field n (t key) at ≡ field n (s key) at
@@ -94,7 +97,8 @@ module _ (s t : Records) (file id at to : ℕ) (linked : HasLinks file) (only : 
   there f x p q lt h = subst (λ g. Fits (high s) g (rec_at now g x)) (sym p)
       (subst (λ z. Fits (high s) file (rec_at now file z)) (sym q)
       (subst (Fits (high s) file) (sym (put_same t (key_in file id) rec))
-      (fits (subst (λ z. z < high s file) q (subst (λ g. x < high s g) p lt)) (subst (λ z. Fits (high s) file (rec_at s file z)) q (subst (λ g. Fits (high s) g (rec_at s g x)) p h)))))
+      (fits (subst (λ z. z < high s file) q (subst (λ g. x < high s g) p lt)) (subst (λ z. Fits (high s) file (rec_at s file z)) q
+      (subst (λ g. Fits (high s) g (rec_at s g x)) p h)))))
 
   set_more : IsRelinked s now
   set_more = record {
@@ -162,10 +166,19 @@ IsFirstLink records h =
 
 -- the heads that a node owns are such
 pub owned_link : (s : Records) (shape : Shape) → AreInRange s shape → (h : Head) (n : ℕ) → Owns (kind_at s format.nodes_file) (group_at s) h n → IsFirstLink s h
-owned_link s shape ranges h n (inl k) = inl (ap (λ (z : Head). kind_at s format.nodes_file z.key.id) k.is ∙ k.sparse, k.is ∙ ap (λ (z : Head). node_head z.key.id) (sym k.is))
+owned_link s shape ranges h n (inl k) = inl (
+  ap (λ (z : Head). kind_at s format.nodes_file z.key.id) k.is ∙ k.sparse,
+  k.is ∙ ap
+      (λ (z : Head). node_head z.key.id) (sym k.is),
+)
 owned_link s shape ranges h n (inr k) =
     let live = (some_row (kind_at s format.groups_file k.row.id) (group_in (rec_at s format.groups_file k.row.id) k.row.id) k.row k.group).0 in
-    inr (ap (λ (z : Key). is_group_kind (kind_at s format.groups_file z.id)) k.key ∙ group_kind s shape ranges k.row.id live, k.key ∙ ap (λ (z : Key). key_in format.groups_file z.id) (sym k.key), k.field)
+    inr (
+      ap (λ (z : Key). is_group_kind (kind_at s format.groups_file z.id)) k.key ∙ group_kind s shape ranges k.row.id live,
+      k.key ∙ ap
+          (λ (z : Key). key_in format.groups_file z.id) (sym k.key),
+      k.field,
+    )
 
 low_small : (s : Records) (to : ℕ) → IsLow (high s format.relationships_file) to → to < 2 ^ 32
 low_small s to low = let b = high_fits s format.relationships_file in ⊎_elim (λ (e : to ≡ format.nil). omega arith)
@@ -187,16 +200,19 @@ module _ (s t : Records) (h : IsRelinked s t) where
       → IsRelinked s (put t (key_in format.nodes_file n) (with_field 4 (rec_at t format.nodes_file n) format.node_first_link to))
   set_first n to sparse low = set_more s t format.nodes_file n format.node_first_link to (inl refl) (λ m place kept. (kept.0 refl).0)
       (λ m d e. absurd (let z = sym sparse ∙ ap (λ (k : Key). kind_at s format.nodes_file k.id) (sym e) ∙ d in omega arith))
-      (λ lt fits. fits_first (high s) (rec_at t format.nodes_file n) to (low_small s to low) low (kind_is format.nodes_file n format.sparse lt sparse) (h.fit format.nodes_file n lt fits)) h
+      (λ lt fits. fits_first (high s) (rec_at t format.nodes_file n) to (low_small s to low) low (kind_is format.nodes_file n format.sparse lt sparse)
+      (h.fit format.nodes_file n lt fits)) h
 
   pub set_group_first : (g at to : ℕ) → is_group_kind (kind_at s format.groups_file g) ≡ true → IsFirstPlace at → IsLow (high s format.relationships_file) to
       → IsRelinked s (put t (key_in format.groups_file g) (with_field 4 (rec_at t format.groups_file g) at to))
   set_group_first g at to grouped place low = set_more s t format.groups_file g at to (inr (inr refl)) (λ m p kept. apart m p (kept.2 refl))
       (other_file format.groups_file g at (λ e. omega arith))
-      (λ lt fits. fits_group_first (high s) (rec_at t format.groups_file g) at to place (low_small s to low) low (group_is g lt grouped) (h.fit format.groups_file g lt fits)) h
+      (λ lt fits. fits_group_first (high s) (rec_at t format.groups_file g) at to place (low_small s to low) low (group_is g lt grouped)
+      (h.fit format.groups_file g lt fits)) h
     where
       within : (20 ≤ at) × (at + 4 ≤ 32)
-      within = ⊎_elim (λ (e : at ≡ 20). (omega arith, omega arith)) (λ k. ⊎_elim (λ (e : at ≡ 24). (omega arith, omega arith)) (λ (e : at ≡ 28). (omega arith, omega arith)) k) place
+      within = ⊎_elim (λ (e : at ≡ 20). (omega arith, omega arith)) (λ k. ⊎_elim (λ (e : at ≡ 24). (omega arith, omega arith))
+          (λ (e : at ≡ 28). (omega arith, omega arith)) k) place
 
       apart : (m p : ℕ) → (p + m ≤ 20) ⊎ (44 ≤ p) → (p + m ≤ at) ⊎ (at + 4 ≤ p)
       apart m p k = ⊎_elim (λ (l : p + m ≤ 20). inl (let b = within.0 in omega arith)) (λ (l : 44 ≤ p). inr (let b = within.1 in omega arith)) k
@@ -205,10 +221,12 @@ module _ (s t : Records) (h : IsRelinked s t) where
       → IsRelinked s (put t (key_in format.groups_file g) (with_field 4 (rec_at t format.groups_file g) at to))
   set_count g at to counted place small = set_more s t format.groups_file g at to (inr (inr refl)) (λ m p kept. apart m p (kept.2 refl))
       (other_file format.groups_file g at (λ e. omega arith))
-      (λ lt fits. fits_count (high s) (rec_at t format.groups_file g) at to place small (kind_is format.groups_file g format.counted lt counted) (h.fit format.groups_file g lt fits)) h
+      (λ lt fits. fits_count (high s) (rec_at t format.groups_file g) at to place small (kind_is format.groups_file g format.counted lt counted)
+      (h.fit format.groups_file g lt fits)) h
     where
       within : (32 ≤ at) × (at + 4 ≤ 44)
-      within = ⊎_elim (λ (e : at ≡ 32). (omega arith, omega arith)) (λ k. ⊎_elim (λ (e : at ≡ 36). (omega arith, omega arith)) (λ (e : at ≡ 40). (omega arith, omega arith)) k) place
+      within = ⊎_elim (λ (e : at ≡ 32). (omega arith, omega arith)) (λ k. ⊎_elim (λ (e : at ≡ 36). (omega arith, omega arith))
+          (λ (e : at ≡ 40). (omega arith, omega arith)) k) place
 
       apart : (m p : ℕ) → (p + m ≤ 20) ⊎ (44 ≤ p) → (p + m ≤ at) ⊎ (at + 4 ≤ p)
       apart m p k = ⊎_elim (λ (l : p + m ≤ 20). inl (let b = within.0 in omega arith)) (λ (l : 44 ≤ p). inr (let b = within.1 in omega arith)) k
@@ -216,16 +234,19 @@ module _ (s t : Records) (h : IsRelinked s t) where
   pub set_degree : (n to : ℕ) → (kind_at s format.nodes_file n ≡ format.sparse) ⊎ (kind_at s format.nodes_file n ≡ format.dense) → to < 2 ^ 32
       → IsRelinked s (put t (key_in format.nodes_file n) (with_field 4 (rec_at t format.nodes_file n) format.node_degree to))
   set_degree n to used small = set_more s t format.nodes_file n format.node_degree to (inl refl) (λ m place kept. (kept.0 refl).1) (λ m d e. inl (omega arith))
-      (λ lt fits. fits_degree (high s) (rec_at t format.nodes_file n) to small (⊎_elim (λ k. inl (kind_is format.nodes_file n format.sparse lt k)) (λ k. inr (kind_is format.nodes_file n format.dense lt k)) used) (h.fit format.nodes_file n lt fits)) h
+      (λ lt fits. fits_degree (high s) (rec_at t format.nodes_file n) to small (⊎_elim (λ k. inl (kind_is format.nodes_file n format.sparse lt k))
+      (λ k. inr (kind_is format.nodes_file n format.dense lt k)) used) (h.fit format.nodes_file n lt fits)) h
 
   pub set_link : (x at to : ℕ) → kind_at s format.relationships_file x ≡ format.related → IsLink at → IsLow (high s format.relationships_file) to
       → IsRelinked s (put t (key_in format.relationships_file x) (with_field 4 (rec_at t format.relationships_file x) at to))
   set_link x at to related link low = set_more s t format.relationships_file x at to (inr (inl refl)) (λ m place kept. apart m place (kept.1 refl))
       (other_file format.relationships_file x at (λ e. omega arith))
-      (λ lt fits. fits_link (high s) (rec_at t format.relationships_file x) at to link (low_small s to low) low (kind_is format.relationships_file x format.related lt related) (h.fit format.relationships_file x lt fits)) h
+      (λ lt fits. fits_link (high s) (rec_at t format.relationships_file x) at to link (low_small s to low) low (kind_is format.relationships_file x
+      format.related lt related) (h.fit format.relationships_file x lt fits)) h
     where
       within : (16 ≤ at) × (at + 4 ≤ 32)
-      within = ⊎_elim (λ (e : at ≡ 16). (omega arith, omega arith)) (λ k. ⊎_elim (λ (e : at ≡ 20). (omega arith, omega arith)) (λ l. ⊎_elim (λ (e : at ≡ 24). (omega arith, omega arith)) (λ (e : at ≡ 28). (omega arith, omega arith)) l) k) link
+      within = ⊎_elim (λ (e : at ≡ 16). (omega arith, omega arith)) (λ k. ⊎_elim (λ (e : at ≡ 20). (omega arith, omega arith))
+          (λ l. ⊎_elim (λ (e : at ≡ 24). (omega arith, omega arith)) (λ (e : at ≡ 28). (omega arith, omega arith)) l) k) link
 
       apart : (m place : ℕ) → (place + m ≤ 16) ⊎ (32 ≤ place) → (place + m ≤ at) ⊎ (at + 4 ≤ place)
       apart m place k = ⊎_elim (λ (l : place + m ≤ 16). inl (let b = within.0 in omega arith)) (λ (l : 32 ≤ place). inr (let b = within.1 in omega arith)) k
@@ -246,5 +267,6 @@ relinked_both s m t h k = record {
   dense = λ n d. k.dense n (kind_stays s m h format.nodes_file n ∙ d) ∙ h.dense n d;
   fit = λ f x lt old.
       let marks : high m ≡ high s = λ i g. mark_stays s m h g i in
-      subst (λ (w : ℕ → ℕ). Fits w f (rec_at t f x)) marks (k.fit f x (subst (λ n. x < n) (sym (mark_stays s m h f)) lt) (subst (λ (w : ℕ → ℕ). Fits w f (rec_at m f x)) (sym marks) (h.fit f x lt old)));
+      subst (λ (w : ℕ → ℕ). Fits w f (rec_at t f x)) marks (k.fit f x (subst (λ n. x < n) (sym (mark_stays s m h f)) lt)
+      (subst (λ (w : ℕ → ℕ). Fits w f (rec_at m f x)) (sym marks) (h.fit f x lt old)));
 }

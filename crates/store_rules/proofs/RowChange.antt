@@ -60,8 +60,10 @@ module _ {E : Type 0} (of : E → ℕ) where
   pub find_collect : (row : ℕ → Option E) (n id : ℕ) → AreNumbered of row → id < n → find (λ e. nat_eq (of e) id) (collect row n) ≡ row id
   find_collect row zero id num lt = absurd (omega arith)
   find_collect row (suc n) id num lt = find-append (λ e. nat_eq (of e) id) (collect row n) (option_list (row n)) ∙ ⊎_elim
-      (λ (k : id ≡ n). ap (λ o. one_of o (find (λ e. nat_eq (of e) id) (option_list (row n)))) (find_past row n id num (omega arith)) ∙ here (row n) (λ e q. num n e q ∙ sym k) ∙ ap row (sym k))
-      (λ (k : id ≢ n). ap (λ o. one_of o (find (λ e. nat_eq (of e) id) (option_list (row n)))) (find_collect row n id num (omega arith)) ∙ there (row id) (row n) (λ e q z. k (sym z ∙ num n e q)))
+      (λ (k : id ≡ n). ap (λ o. one_of o (find (λ e. nat_eq (of e) id) (option_list (row n)))) (find_past row n id num (omega arith)) ∙ here (row n)
+      (λ e q. num n e q ∙ sym k) ∙ ap row (sym k))
+      (λ (k : id ≢ n). ap (λ o. one_of o (find (λ e. nat_eq (of e) id) (option_list (row n)))) (find_collect row n id num (omega arith)) ∙ there (row id)
+      (row n) (λ e q z. k (sym z ∙ num n e q)))
       (nat_cases id n)
     where
       here : (o : Option E) → ((e : E) → o ≡ Some e → of e ≡ id) → find (λ e. nat_eq (of e) id) (option_list o) ≡ o

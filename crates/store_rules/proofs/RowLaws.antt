@@ -196,7 +196,8 @@ module _ {E : Type 0} (of : E → ℕ) where
   pub there_collect : (row : ℕ → Option E) (n id : ℕ) (e : E) → of e ≡ id → row id ≡ Some e → id < n → list_any (λ x. nat_eq (of x) id) (collect row n) ≡ true
   there_collect row zero id e num some lt = absurd (omega arith)
   there_collect row (suc n) id e num some lt = ⊎_elim
-      (λ (k : id ≡ n). right (collect row n) (option_list (row n)) (subst (λ o. list_any (λ x. nat_eq (of x) id) (option_list o) ≡ true) (sym (subst (λ z. row z ≡ Some e) k some)) (rw (eq_true (of e) id num) refl)))
+      (λ (k : id ≡ n). right (collect row n) (option_list (row n)) (subst (λ o. list_any (λ x. nat_eq (of x) id) (option_list o) ≡ true)
+      (sym (subst (λ z. row z ≡ Some e) k some)) (rw (eq_true (of e) id num) refl)))
       (λ (k : id ≢ n). left (collect row n) (option_list (row n)) (there_collect row n id e num some (omega arith)))
       (nat_cases id n)
     where

@@ -90,7 +90,8 @@ module _ (s t : Records) where
       → IsGrouped (kind_at s format.nodes_file) (first_link s) (rec_at s format.groups_file) (group_at s) empty
       → IsGrouped (kind_at t format.nodes_file) (first_link t) (rec_at t format.groups_file) (group_at t) empty
   grouped_stays empty nodes groups h =
-      subst (λ (v : ((ℕ → ℕ) × (ℕ → Rec)) × ((ℕ → Rec) × (ℕ → Option GroupRow))). IsGrouped v.0.0 (λ n. field 4 (v.0.1 n) format.node_first_link) v.1.0 v.1.1 empty)
+      subst (λ (v : ((ℕ → ℕ) × (ℕ → Rec)) × ((ℕ → Rec) × (ℕ → Option GroupRow))). IsGrouped v.0.0 (λ n. field 4 (v.0.1 n) format.node_first_link)
+      v.1.0 v.1.1 empty)
       (λ i. ((sym (kind_same format.nodes_file nodes) i, sym nodes.records i), (sym groups.records i, sym (groups_same groups) i))) h
 
   counts_stay : IsSameFile s t format.groups_file → IsSameFile s t format.relationships_file
@@ -98,7 +99,17 @@ module _ (s t : Records) where
       → AreExact (kind_at t format.groups_file) (rec_at t format.groups_file) (group_at t) (rel_at t) (high t format.relationships_file)
   counts_stay groups rels h =
       subst (λ (v : ((ℕ → ℕ) × (ℕ → Rec)) × ((ℕ → Option GroupRow) × ((ℕ → Option RelRow) × ℕ))). AreExact v.0.0 v.0.1 v.1.0 v.1.1.0 v.1.1.1)
-      (λ i. ((sym (kind_same format.groups_file groups) i, sym groups.records i), (sym (groups_same groups) i, (sym (rels_same rels) i, sym (high_same format.relationships_file rels) i)))) h
+      (λ i. (
+        (sym (kind_same format.groups_file groups) i, sym groups.records i),
+        (
+          sym (groups_same groups) i,
+          (
+            sym (rels_same rels) i,
+            sym
+                (high_same format.relationships_file rels) i,
+          ),
+        ),
+      )) h
 
   names_stay : IsSameFile s t format.names_file → AreNames (rec_at s format.names_file) (high s format.names_file)
       → AreNames (rec_at t format.names_file) (high t format.names_file)
@@ -135,7 +146,17 @@ module _ (s t : Records) where
   stays Counts shape slack local same h = counts_stay same.0 same.1.0 h
   stays Properties shape slack local same h =
       subst (λ (v : PropertyFiles × ((ℕ → Option NodeRow) × ((ℕ → Option RelRow) × ℕ))). HaveProperties v.0 v.1.0 v.1.1.0 v.1.1.1)
-      (λ i. (sym (files_same same.1.1.0 same.1.1.1.0) i, (sym (nodes_same same.0) i, (sym (rels_same same.1.0) i, sym (high_same format.names_file same.1.1.1.1.0) i)))) h
+      (λ i. (
+        sym (files_same same.1.1.0 same.1.1.1.0) i,
+        (
+          sym (nodes_same same.0) i,
+          (
+            sym (rels_same same.1.0) i,
+            sym
+                (high_same format.names_file same.1.1.1.1.0) i,
+          ),
+        ),
+      )) h
   stays Labels shape slack local same h = labels_stay same.0 same.1.0 same.1.1.0 h
   stays Defined shape slack local same h = defined_stay s t same.0 (let e = high_same format.names_file same.1.0 in omega (arith, e)) h
   stays Names shape slack local same h = names_stay same.0 h

@@ -34,7 +34,8 @@ have_nodes s t kinds labels x row e =
 
 -- of relationships
 pub have_rels : (s t : Records) → ((x : ℕ) → kind_at t format.relationships_file x ≡ kind_at s format.relationships_file x)
-    → ((x : ℕ) → rel_in (rec_at t format.relationships_file x) x ≡ record (rel_in (rec_at s format.relationships_file x) x) { property = field 4 (rec_at t format.relationships_file x) format.relationship_first_property })
+    → ((x : ℕ) → rel_in (rec_at t format.relationships_file x) x ≡ record (rel_in (rec_at s format.relationships_file x) x)
+    { property = field 4 (rec_at t format.relationships_file x) format.relationship_first_property })
     → HaveRels (rel_at s) (rel_at t)
 have_rels s t kinds rows x row e =
     let k = some_row (kind_at s format.relationships_file x) (rel_in (rec_at s format.relationships_file x) x) row e in
@@ -63,7 +64,15 @@ module _ (rels now : ℕ → Option RelRow) (there : HaveRels rels now) (back : 
         live = b.1;
         on = ⊎_elim
             (λ (k : (h.key.file ≡ format.nodes_file) × IsEnd h.key.id a.row). inl k)
-            (λ (k : (h.key.file ≡ format.groups_file) × IsInGroup groups h a.row). inr (k.0, record { row = k.1.row; group = k.1.group; label = k.1.label; side = k.1.side })) a.on;
+            (λ (k : (h.key.file ≡ format.groups_file) × IsInGroup groups h a.row). inr (
+              k.0,
+              record {
+                row = k.1.row;
+                group = k.1.group;
+                label = k.1.label;
+                side = k.1.side;
+              },
+            )) a.on;
       }
 
   -- ---- degrees
@@ -114,8 +123,10 @@ module _ (s t : Records) (kind : ℕ → ℕ) (rels now : ℕ → Option RelRow)
       listed = record {
         each = λ h n o. let l = old.listed.each h n o in record {
           members = l.members;
-          chain = subst (λ f. IsChain (λ y. next_in (rec_at t format.relationships_file y) n) (λ y. prev_in (rec_at t format.relationships_file y) n) format.nil f l.members) (sym (first h n o))
-              (chain_stays (λ y. next_in (rec_at s format.relationships_file y) n) (λ y. prev_in (rec_at s format.relationships_file y) n) (λ y. next_in (rec_at t format.relationships_file y) n) (λ y. prev_in (rec_at t format.relationships_file y) n)
+          chain = subst (λ f. IsChain (λ y. next_in (rec_at t format.relationships_file y) n) (λ y. prev_in (rec_at t format.relationships_file y) n)
+              format.nil f l.members) (sym (first h n o))
+              (chain_stays (λ y. next_in (rec_at s format.relationships_file y) n) (λ y. prev_in (rec_at s format.relationships_file y) n)
+              (λ y. next_in (rec_at t format.relationships_file y) n) (λ y. prev_in (rec_at t format.relationships_file y) n)
               format.nil (first_of s h) l.members (λ y i. next y n) (λ y i. prev y n) l.chain);
           only = λ x i. stands_alike rels now there back groups h x (l.only x i);
           all = λ x a. l.all x (stands_alike now rels back there groups h x a);

@@ -60,13 +60,15 @@ module _ (s t : Records) (file id : ℕ) (change : IsChanged s t file id) (apart
       }))
 
   -- the fourth, where dense nodes are those that they were
-  pub grouped : {empty : List ℕ} → ((n g : ℕ) (row : GroupRow) → group_at s g ≡ Some row → row.owner ≡ n → kind_at s format.nodes_file n ≡ format.dense → kind_at t format.nodes_file n ≡ format.dense)
+  pub grouped : {empty : List ℕ} → ((n g : ℕ) (row : GroupRow) → group_at s g ≡ Some row → row.owner ≡ n → kind_at s format.nodes_file n ≡ format.dense
+      → kind_at t format.nodes_file n ≡ format.dense)
       → ((n : ℕ) → kind_at t format.nodes_file n ≡ format.dense → (kind_at s format.nodes_file n ≡ format.dense) × (first_link t n ≡ first_link s n))
       → IsGrouped (kind_at s format.nodes_file) (first_link s) (rec_at s format.groups_file) (group_at s) empty
       → IsGrouped (kind_at t format.nodes_file) (first_link t) (rec_at t format.groups_file) (group_at t) empty
   grouped {empty} there back old = subst (λ r. IsGrouped (kind_at t format.nodes_file) (first_link t) r (group_at t) empty) (sym group_file_same)
       (subst (λ g. IsGrouped (kind_at t format.nodes_file) (first_link t) (rec_at s format.groups_file) g empty) (sym groups_same)
-      (grouped_stays (kind_at s format.nodes_file) (kind_at t format.nodes_file) (first_link s) (first_link t) (rec_at s format.groups_file) (group_at s) there back old))
+      (grouped_stays (kind_at s format.nodes_file) (kind_at t format.nodes_file) (first_link s) (first_link t) (rec_at s format.groups_file) (group_at s)
+      there back old))
 
   -- and counted groups stay exact
   pub exact : AreExact (kind_at s format.groups_file) (rec_at s format.groups_file) (group_at s) (rel_at s) (high s format.relationships_file)
@@ -74,7 +76,8 @@ module _ (s t : Records) (file id : ℕ) (change : IsChanged s t file id) (apart
   exact old g row is kind = subst (λ r. HasCounts r row (rel_at t) (high t format.relationships_file)) (sym ((same format.groups_file refl refl).each g))
       (subst (λ r. HasCounts (rec_at s format.groups_file g) row r (high t format.relationships_file)) (sym rels_same)
       (subst (λ m. HasCounts (rec_at s format.groups_file g) row (rel_at s) m) (sym rel_mark)
-      (old g row (ap (λ (f : ℕ → Option GroupRow). f g) (sym groups_same) ∙ is) (sym (kind_same s t format.groups_file (same format.groups_file refl refl) g) ∙ kind))))
+      (old g row (ap (λ (f : ℕ → Option GroupRow). f g) (sym groups_same) ∙ is) (sym (kind_same s t format.groups_file (same format.groups_file refl refl) g)
+      ∙ kind))))
 
   -- the fifth, by nodes and names that may have changed
   pub properties : (nodes : ℕ → Option NodeRow) (names : ℕ) → HaveProperties (property_files s) nodes (rel_at s) names
@@ -83,7 +86,8 @@ module _ (s t : Records) (file id : ℕ) (change : IsChanged s t file id) (apart
       (subst (λ f. HaveProperties f nodes (rel_at s) names) (sym properties_same) old)
 
   -- the seventh, by the kinds and degrees of the nodes
-  pub degrees : (most : ℕ) → ((n : ℕ) → kind_at t format.nodes_file n ≢ format.free_kind → degree t n ≡ degree_of (rel_at s) (high s format.relationships_file) n)
+  pub degrees : (most : ℕ) → ((n : ℕ) → kind_at t format.nodes_file n ≢ format.free_kind → degree t n ≡ degree_of (rel_at s) (high s format.relationships_file)
+      n)
       → ((n : ℕ) → kind_at t format.nodes_file n ≡ format.sparse → degree t n ≤ most)
       → AreCounted (kind_at t format.nodes_file) (degree t) (rel_at t) (high t format.relationships_file) most
   degrees most each few = subst (λ r. AreCounted (kind_at t format.nodes_file) (degree t) r (high t format.relationships_file) most) (sym rels_same)

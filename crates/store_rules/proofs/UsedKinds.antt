@@ -17,7 +17,8 @@ module _ (s : Records) (shape : Shape) (ranges : AreInRange s shape) where
       (fits.layout, ap (layout_by f (rec_at s f x)) (kind_low (high s f) (rec_at s f x) x lt) ∙ fits.is)
 
   pub rel_kind : (x : ℕ) → kind_at s format.relationships_file x ≢ format.free_kind → kind_at s format.relationships_file x ≡ format.related
-  rel_kind x live = ⊎_elim (λ e. e) (λ ne. absurd (let l = laid_out format.relationships_file x refl live in none (kind_at s format.relationships_file x) live ne l.0 l.1))
+  rel_kind x live = ⊎_elim (λ e. e) (λ ne. absurd (let l = laid_out format.relationships_file x refl live in none (kind_at s format.relationships_file x)
+      live ne l.0 l.1))
       (nat_cases (kind_at s format.relationships_file x) format.related)
     where
       none : (kind : ℕ) → kind ≢ 0 → kind ≢ format.related → (layout : Layout)

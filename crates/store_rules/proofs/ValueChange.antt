@@ -42,9 +42,11 @@ module _ (s t : Records) (shape : Shape) (file x : ℕ) (old new : List Property
       let mine = owner_in-used s file x h.element h.used in
       let stay = properties_stay was now first es
       (λ p i. (h.properties.kept p (lists.property_live s shape well format.nodes_file y first es owned are p i)
-      (λ o. let k = lists.property_owned_once s shape well format.nodes_file y first file x (property_from s file x) es old owned mine are h.was p i o in ne k.0 k.1)).1)
+      (λ o. let k = lists.property_owned_once s shape well format.nodes_file y first file x (property_from s file x) es old owned mine are h.was p i o in ne k.0
+      k.1)).1)
       (λ b i. (h.strings.kept b (lists.block_live s shape well format.nodes_file y first es owned are b i)
-      (λ o. let k = lists.block_owned_once s shape well format.nodes_file y first file x (property_from s file x) es old owned mine are h.was b i o in ne k.0 k.1)).1) are in
+      (λ o. let k = lists.block_owned_once s shape well format.nodes_file y first file x (property_from s file x) es old owned mine are h.was b i o in ne k.0
+      k.1)).1) are in
       properties_read now first es stay ∙ sym (properties_read was first es are)
 
   -- so its values do

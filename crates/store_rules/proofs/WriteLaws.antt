@@ -46,12 +46,25 @@ among_metas file q is e = among_listed file q e meta_files is
 
 -- nothing was written where records were only read
 pub none_written : (s t : State) → SameButReads s t → WritesAtMost 0 s t
-none_written s t same = record { keys = []; few = omega arith; own = tt; only = record { each = λ q w. inl (subst (λ (z : State). z.written q ≡ true) same w) } }
+none_written s t same = record {
+  keys = [];
+  few = omega arith;
+  own = tt;
+  only = record { each = λ q w. inl (subst (λ (z : State). z.written q ≡ true) same w) };
+}
 
 -- these keys, and meta records
 pub some_written : (s t : State) (keys xs : List Key) → AreOwn keys → ((q : Key) → IsAmong q xs → IsAmong q (keys ++ meta_keys)) → WritesOnly s t xs
     → WritesAtMost (length keys) s t
-some_written s t keys xs own are h = record { keys = keys; few = omega arith; own = own; only = record { each = λ q w. ⊎_elim (λ old. inl old) (λ i. inr (are q i)) (h.each q w) } }
+some_written s t keys xs own are h = record {
+  keys = keys;
+  few = omega arith;
+  own = own;
+  only = record {
+    each = λ q w. ⊎_elim (λ old. inl old)
+        (λ i. inr (are q i)) (h.each q w);
+  };
+}
 
 pub more_written : {n m : ℕ} {s t : State} → n ≤ m → WritesAtMost n s t → WritesAtMost m s t
 more_written le h = record { keys = h.keys; few = let f = h.few in omega arith; own = h.own; only = h.only }
@@ -64,8 +77,10 @@ then_written h k = record {
   own = own_both h.keys k.keys h.own k.own;
   only = record {
     each = λ q w. ⊎_elim
-        (λ old. ⊎_elim (λ older. inl older) (λ i. inr (among_both q h.keys meta_keys (λ j. among_left q (h.keys ++ k.keys) meta_keys (among_left q h.keys k.keys j)) (among_right q (h.keys ++ k.keys) meta_keys) i)) (h.only.each q old))
-        (λ i. inr (among_both q k.keys meta_keys (λ j. among_left q (h.keys ++ k.keys) meta_keys (among_right q h.keys k.keys j)) (among_right q (h.keys ++ k.keys) meta_keys) i)) (k.only.each q w);
+        (λ old. ⊎_elim (λ older. inl older) (λ i. inr (among_both q h.keys meta_keys (λ j. among_left q (h.keys ++ k.keys) meta_keys
+        (among_left q h.keys k.keys j)) (among_right q (h.keys ++ k.keys) meta_keys) i)) (h.only.each q old))
+        (λ i. inr (among_both q k.keys meta_keys (λ j. among_left q (h.keys ++ k.keys) meta_keys (among_right q h.keys k.keys j))
+        (among_right q (h.keys ++ k.keys) meta_keys) i)) (k.only.each q w);
   };
 }
 
@@ -73,7 +88,15 @@ then_written h k = record {
 
 pub this_written : (key : Key) (s t : State) (xs : List Key) → ((q : Key) → IsAmong q xs → IsAmong q (key ∷ meta_keys)) → WritesOnly s t xs
     → WritesBeside key 0 s t
-this_written key s t xs are h = record { keys = []; few = omega arith; own = tt; only = record { each = λ q w. ⊎_elim (λ old. inl old) (λ i. inr (are q i)) (h.each q w) } }
+this_written key s t xs are h = record {
+  keys = [];
+  few = omega arith;
+  own = tt;
+  only = record {
+    each = λ q w. ⊎_elim (λ old. inl old) (λ i. inr (are q i))
+        (h.each q w);
+  };
+}
 
 pub beside_more : {key : Key} {n m : ℕ} {s t : State} → n ≤ m → WritesBeside key n s t → WritesBeside key m s t
 beside_more le h = record { keys = h.keys; few = let f = h.few in omega arith; own = h.own; only = h.only }
@@ -85,8 +108,11 @@ beside_then {key} h k = record {
   own = own_both h.keys k.keys h.own k.own;
   only = record {
     each = λ q w. ⊎_elim
-        (λ old. ⊎_elim (λ older. inl older) (λ i. inr (⊎_elim (λ e. inl e) (λ l. inr (among_both q h.keys meta_keys (λ j. among_left q (h.keys ++ k.keys) meta_keys (among_left q h.keys k.keys j)) (among_right q (h.keys ++ k.keys) meta_keys) l)) i)) (h.only.each q old))
-        (λ i. inr (⊎_elim (λ e. inl e) (λ l. inr (among_both q k.keys meta_keys (λ j. among_left q (h.keys ++ k.keys) meta_keys (among_right q h.keys k.keys j)) (among_right q (h.keys ++ k.keys) meta_keys) l)) i)) (k.only.each q w);
+        (λ old. ⊎_elim (λ older. inl older)
+        (λ i. inr (⊎_elim (λ e. inl e) (λ l. inr (among_both q h.keys meta_keys (λ j. among_left q (h.keys ++ k.keys) meta_keys
+        (among_left q h.keys k.keys j)) (among_right q (h.keys ++ k.keys) meta_keys) l)) i)) (h.only.each q old))
+        (λ i. inr (⊎_elim (λ e. inl e) (λ l. inr (among_both q k.keys meta_keys (λ j. among_left q (h.keys ++ k.keys) meta_keys (among_right q h.keys k.keys j))
+        (among_right q (h.keys ++ k.keys) meta_keys) l)) i)) (k.only.each q w);
   };
 }
 
@@ -96,7 +122,22 @@ beside_written {key} own h = record { keys = key ∷ h.keys; few = let f = h.few
 -- this one, these keys, and meta records
 pub these_written : (key : Key) (s t : State) (keys xs : List Key) → AreOwn keys → ((q : Key) → IsAmong q xs → IsAmong q (key ∷ keys ++ meta_keys))
     → WritesOnly s t xs → WritesBeside key (length keys) s t
-these_written key s t keys xs own are h = record { keys = keys; few = omega arith; own = own; only = record { each = λ q w. ⊎_elim (λ old. inl old) (λ i. inr (are q i)) (h.each q w) } }
+these_written key s t keys xs own are h = record {
+  keys = keys;
+  few = omega arith;
+  own = own;
+  only = record {
+    each = λ q w. ⊎_elim (λ old. inl old)
+        (λ i. inr (are q i)) (h.each q w);
+  };
+}
 
 pub none_beside : (key : Key) (s t : State) → SameButReads s t → WritesBeside key 0 s t
-none_beside key s t same = record { keys = []; few = omega arith; own = tt; only = record { each = λ q w. inl (subst (λ (z : State). z.written q ≡ true) same w) } }
+none_beside key s t same = record {
+  keys = [];
+  few = omega arith;
+  own = tt;
+  only = record {
+    each = λ q w. inl (subst (λ (z : State). z.written q ≡ true) same w);
+  };
+}

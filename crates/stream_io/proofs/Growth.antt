@@ -20,7 +20,8 @@ module _ (r : Window) (order : IsInOrder r) where
       let o = order in
       let within : r.searched - r.start ≤ r.end - r.start = omega (arith, o.start_order, o.searched_order) in
       let searched : r.start + (r.searched - r.start) ≡ r.searched = omega (arith, o.start_order) in
-      subst IsPiece (ap (slice_range r.buffer.items r.start) (sym searched) ∙ sym (moved_front r.buffer.items ys r.start r.end (r.searched - r.start) within moved)) o.no_newline
+      subst IsPiece (ap (slice_range r.buffer.items r.start) (sym searched) ∙ sym (moved_front r.buffer.items ys r.start r.end (r.searched - r.start)
+      within moved)) o.no_newline
 
   module _ (ys : List ℕ) (same : take r.end ys ≡ take r.end r.buffer.items) where
     pub grown_no_newline : IsPiece (slice_range ys r.start r.searched)

@@ -40,13 +40,15 @@ module _ {R : Type 0} (space : SpaceGhosts R) (names : List (List ℕ)) (first :
     (further : (a b c : R) → space.onward a b → space.onward b c → space.onward a c) (old now : R) (found : List Item) (run : Run)
     (taking : IsTaking space names first old now found run) where
   -- what the run says of the records as they are now, it says of those at the start
-  at_start : (P : Graph → Type 0) → (space.tells → IsNamedStore (space.state now).records (space.state now).shape names → P (graph_of (space.state now).records))
+  at_start : (P : Graph → Type 0) → (space.tells → IsNamedStore (space.state now).records (space.state now).shape names → P
+      (graph_of (space.state now).records))
       → space.tells → IsNamedStore (space.state old).records (space.state old).shape names → P (graph_of (space.state old).records)
   at_start P says tells store = subst (λ (s : State). P (graph_of s.records)) taking.read.same (says tells (named-read space old now names taking.read store))
 
   -- a result was found
   pub taking-on : (next : R) → IsRead space now next → (later : Run) (item : Item)
-      → (space.tells → IsNamedStore (space.state now).records (space.state now).shape names → to_come (graph_of (space.state now).records) run ≡ with_first (item ∷ []) (to_come (graph_of (space.state now).records) later))
+      → (space.tells → IsNamedStore (space.state now).records (space.state now).shape names → to_come (graph_of (space.state now).records) run ≡ with_first
+      (item ∷ []) (to_come (graph_of (space.state now).records) later))
       → IsShown item → stopped_by later ≡ None → IsTaking space names first old next (found ++ item ∷ []) later
   taking-on next reads later item comes shown goes = record {
     coming = λ tells store.
@@ -60,7 +62,8 @@ module _ {R : Type 0} (space : SpaceGhosts R) (names : List (List ℕ)) (first :
   }
 
   -- all results were found
-  pub taking-end : (space.tells → IsNamedStore (space.state now).records (space.state now).shape names → to_come (graph_of (space.state now).records) run ≡ stream [])
+  pub taking-end : (space.tells → IsNamedStore (space.state now).records (space.state now).shape names → to_come (graph_of (space.state now).records)
+      run ≡ stream [])
       → space.tells → IsNamedStore (space.state old).records (space.state old).shape names → found ≡ (to_come (graph_of (space.state old).records) first).items
   taking-end ends tells store =
       let is : to_come (graph_of (space.state old).records) run ≡ stream [] = at_start (λ graph. to_come graph run ≡ stream []) ends tells store in

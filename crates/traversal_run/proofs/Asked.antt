@@ -18,7 +18,11 @@ above x (y ∷ ys) far = (far 0 (omega arith), above x ys (λ j lt. far (suc j) 
 -- pairs in order, and one after the other
 ascends_pairs : (xs : List ℕ) → AllPairs (λ x y. x < y) xs → Ascends xs
 ascends_pairs [] pairs = tt
-ascends_pairs (x ∷ xs) pairs = (above x xs (λ j lt. pairs 0 (suc j) 0 (omega arith) (omega arith)), ascends_pairs xs (λ i j d low high. pairs (suc i) (suc j) d (omega arith) (omega arith)))
+ascends_pairs (x ∷ xs) pairs = (
+  above x xs (λ j lt. pairs 0 (suc j) 0 (omega arith) (omega arith)),
+  ascends_pairs xs (λ i j d low high. pairs (suc i) (suc j) d
+      (omega arith) (omega arith)),
+)
 
 -- so it is after a sort and a dedup
 pub ascends-dedup : (xs : List ℕ) → IsSorted nat_cmp xs → Ascends (dedup nat_eq xs)

@@ -107,4 +107,5 @@ module _ (s : Records) (shape : Shape) (store : IsIndexed s shape) (label key : 
           → has_index (graph_of s) label key ≡ true
       found-index ds walked d i pair =
           (λ j. has_index (graph_of s) (own_label j) (own_key j))
-          ∙ has_defined s shape store l k d label_low key_low (subst (λ (xs : List ℕ). In d xs) (walk_is (next_definition s) (first_definition s) ds store.indexes.definitions walked store.indexes.walk) i) pair
+          ∙ has_defined s shape store l k d label_low key_low (subst (λ (xs : List ℕ). In d xs) (walk_is (next_definition s) (first_definition s)
+          ds store.indexes.definitions walked store.indexes.walk) i) pair

@@ -39,7 +39,11 @@ changed f coming = record { items = f coming.items; past = coming.past }
 
 no_count : (graph : Graph) (stage : Stage) (coming : Stream) → counts_past stage coming.items ≡ false
     → after_row graph (fresh stage) coming ≡ changed (after_stage graph stage) coming
-no_count graph stage coming none = λ i. record { items = after_stage graph stage coming.items; past = (ap (λ (b : Bool). coming.past || b) none ∙ or_false coming.past) i }
+no_count graph stage coming none = λ i. record {
+  items = after_stage graph stage coming.items;
+  past = (ap (λ (b : Bool). coming.past || b) none
+      ∙ or_false coming.past) i;
+}
 
 filtered_all : (graph : Graph) (test : Filter) (list : List Item) → flat_map (filtered graph test) list ≡ filter (passes graph test) list
 filtered_all graph test [] = refl
@@ -56,7 +60,8 @@ through_body graph [] coming = refl
 through_body graph (bodies.Neighbours hop ∷ body) coming = ap (through graph (map body_row body))
     (no_count graph (stages.Mapped (mappings.Neighbours hop)) coming refl) ∙ through_body graph body (changed (after_body graph (bodies.Neighbours hop)) coming)
 through_body graph (bodies.Filter test ∷ body) coming =
-    ap (through graph (map body_row body)) (no_count graph (stages.Mapped (mappings.Filter test)) coming refl ∙ (λ i. record { items = filtered_all graph test coming.items i; past = coming.past }))
+    ap (through graph (map body_row body)) (no_count graph (stages.Mapped (mappings.Filter test)) coming refl ∙
+    (λ i. record { items = filtered_all graph test coming.items i; past = coming.past }))
     ∙ through_body graph body (changed (after_body graph (bodies.Filter test)) coming)
 
 through_repeat : (graph : Graph) (body : List BodyStep) (times : ℕ) (coming : Stream)
@@ -73,7 +78,11 @@ stepped graph step coming = record { items = after_step graph step coming.items;
 
 quiet_step : (graph : Graph) (step : Step) (coming out : Stream) → out ≡ changed (after_step graph step) coming → step_past step coming.items ≡ false
     → out ≡ stepped graph step coming
-quiet_step graph step coming out same none = same ∙ (λ i. record { items = after_step graph step coming.items; past = sym (ap (λ (b : Bool). coming.past || b) none ∙ or_false coming.past) i })
+quiet_step graph step coming out same none = same ∙ (λ i. record {
+  items = after_step graph step coming.items;
+  past = sym (ap (λ (b : Bool). coming.past || b)
+      none ∙ or_false coming.past) i;
+})
 
 through_step : (graph : Graph) (step : Step) (coming : Stream) → through graph (rows_of_step step) coming ≡ stepped graph step coming
 through_step graph (steps.Repeat body times) coming = quiet_step graph (steps.Repeat body times) coming
@@ -97,7 +106,11 @@ through_steps graph (step ∷ list) coming =
     through-append graph (rows_of_step step) (rows_of list) coming
     ∙ ap (through graph (rows_of list)) (through_step graph step coming)
     ∙ through_steps graph list (stepped graph step coming)
-    ∙ (λ i. record { items = after_steps graph list (after_step graph step coming.items); past = or_assoc coming.past (step_past step coming.items) (counts_past_in graph list (after_step graph step coming.items)) i })
+    ∙ (λ i. record {
+      items = after_steps graph list (after_step graph step coming.items);
+      past = or_assoc coming.past (step_past step coming.items)
+          (counts_past_in graph list (after_step graph step coming.items)) i;
+    })
 
 pub repeat_more : (times : ℕ) (rows : List Row) → repeat_rows times rows ++ rows ≡ repeat_rows (times + 1) rows
 repeat_more times rows = let next : suc times ≡ times + 1 = omega arith in repeat_end times ∙ ap (λ n. repeat_rows n rows) next

@@ -60,14 +60,17 @@ pub node_unnamed : (s : State) (id : ℕ) (node : NodeRow) → Some node ≡ nod
 node_unnamed s id node found high_label =
     let is = node_rows.kind-row_at-Some s.records id node (sym found) in
     WrongElement format.nodes_file id refl (kind_below (high s.records format.nodes_file) (rec_at s.records format.nodes_file id) id is.0)
-    (λ keeps. let low = subst (λ (r : NodeRow). r.label < name_count s.records) (sym is.1) (keeps.named (live s.records format.nodes_file id is.0)) in omega arith)
+    (λ keeps. let low = subst (λ (r : NodeRow). r.label < name_count s.records) (sym is.1) (keeps.named (live s.records format.nodes_file id is.0)) in omega
+    arith)
 
 pub rel_unnamed : (s : State) (id : ℕ) (rel : RelRow) → Some rel ≡ rels.row_at s.records id → name_count s.records ≤ rel.label
     → Breaks s.records s.shape (damage format.relationships_file id 5)
 rel_unnamed s id rel found high_label =
     let is = rel_rows.kind-row_at-Some s.records id rel (sym found) in
-    WrongElement format.relationships_file id refl (kind_below (high s.records format.relationships_file) (rec_at s.records format.relationships_file id) id is.0)
-    (λ keeps. let low = subst (λ (r : RelRow). r.label < name_count s.records) is.1 (keeps.named (live s.records format.relationships_file id is.0)) in omega arith)
+    WrongElement format.relationships_file id refl (kind_below (high s.records format.relationships_file) (rec_at s.records format.relationships_file id)
+    id is.0)
+    (λ keeps. let low = subst (λ (r : RelRow). r.label < name_count s.records) is.1 (keeps.named (live s.records format.relationships_file id is.0)) in omega
+    arith)
 
 all_named : (records : Records) (mark : ℕ) (ps : List ℕ) → ((p : ℕ) → In p ps → key_of records p < mark)
     → list_all (λ (prop : Prop). nat_lt prop.key mark) (map prop_of (map (property_at (property_records records)) ps)) ≡ true

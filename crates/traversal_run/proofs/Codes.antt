@@ -154,7 +154,8 @@ unseen-seen : (seen other later : List Item) → ((item : Item) → list_any (is
 unseen-seen seen other [] same = refl
 unseen-seen seen other (item ∷ later) same =
     let more = unseen-seen (seen ++ item ∷ []) (other ++ item ∷ []) later
-    (λ x. list_any-append (is_same x) seen (item ∷ []) ∙ ap (λ b. b || list_any (is_same x) (item ∷ [])) (same x) ∙ sym (list_any-append (is_same x) other (item ∷ []))) in
+    (λ x. list_any-append (is_same x) seen (item ∷ []) ∙ ap (λ b. b || list_any (is_same x) (item ∷ [])) (same x) ∙ sym (list_any-append (is_same x) other
+    (item ∷ []))) in
     λ i. cond (same item i) (unseen-seen seen other later same i) (item ∷ more i)
 
 -- an item is kept where it is new
@@ -188,7 +189,8 @@ or_last false false c p = refl
 
 -- the list that is seen after one more, by its parts
 after-item : (p : Item → Bool) (vertices edges : List ℕ) (codes : List (List ℕ)) (item : Item)
-    → list_any p (seen_items vertices edges codes ++ item ∷ []) ≡ (list_any p (map items.Vertex vertices) || (list_any p (map bare_edge edges) || list_any p (map value_item codes))) || (p item || false)
+    → list_any p (seen_items vertices edges codes ++ item ∷ []) ≡ (list_any p (map items.Vertex vertices) || (list_any p (map bare_edge edges) || list_any p
+    (map value_item codes))) || (p item || false)
 after-item p vertices edges codes item = list_any-append p (seen_items vertices edges codes) (item ∷ [])
     ∙ ap (λ b. b || (p item || false)) (any-seen p vertices edges codes)
 

@@ -25,7 +25,8 @@ pub counts_row : (graph : Graph) (stage : Stage) (told : Bool) (so_far after : �
 counts_row graph stage told so_far after waiting left coming outs is nothing more none =
     subst (λ (s : Stage). Advances graph (record { stage = s; waiting = waiting }) coming outs (record { stage = stages.Count after told; waiting = left }))
     (sym is)
-    (subst (λ (list : List Item). Advances graph (record { stage = stages.Count so_far told; waiting = waiting }) coming list (record { stage = stages.Count after told; waiting = left })) (sym nothing)
+    (subst (λ (list : List Item). Advances graph (record { stage = stages.Count so_far told; waiting = waiting }) coming list
+    (record { stage = stages.Count after told; waiting = left })) (sym nothing)
     (counts_all graph told so_far after waiting left coming more none))
 
 -- a count passes where those that wait make too many

@@ -108,7 +108,8 @@ pub fed : (graph : Graph) (source rest : Source) (rows later : List Row) (ready 
     → 0 < length rows → row ≡ get_or rows 0 any → AreIdle rows
     → Feeds graph source row.stage outs rest stage
     → take 1 later ≡ take 1 (set rows 0 (record row { stage = stage }))
-    → ((more : Stream) → with_first ready (through graph (drop 1 later) more) ≡ through graph (drop 1 (set rows 0 (record row { stage = stage }))) (with_first outs more))
+    → ((more : Stream) → with_first ready (through graph (drop 1 later) more) ≡ through graph (drop 1 (set rows 0 (record row { stage = stage })))
+    (with_first outs more))
     → with_first ready (through graph later (stream (left_of graph rest))) ≡ through graph rows (stream (left_of graph source))
 fed graph source rest [] later ready row any outs stage lt is idle feeds front behind = absurd (omega arith)
 fed graph source rest (first ∷ rows) later ready row any outs stage lt is idle feeds front behind =
@@ -126,7 +127,8 @@ pub fed_past : (graph : Graph) (source : Source) (rows : List Row) (row any : Ro
 fed_past graph source [] row any lt is idle past = absurd (omega arith)
 fed_past graph source (first ∷ rows) row any lt is idle past =
     past_through graph rows (after_row graph first (stream (left_of graph source)))
-    (ap (λ waiting. counts_past first.stage (waiting ++ left_of graph source)) idle.0 ∙ ap (λ (r : Row). counts_past r.stage (left_of graph source)) (sym is) ∙ past)
+    (ap (λ waiting. counts_past first.stage (waiting ++ left_of graph source)) idle.0 ∙ ap (λ (r : Row). counts_past r.stage (left_of graph source)) (sym is)
+    ∙ past)
 
 -- what a filter gives for an item
 pub filter_takes : (graph : Graph) (test : Filter) (item : Item) (outs : List Item) (passed : Bool) → passed ≡ passes graph test item

@@ -142,7 +142,8 @@ counted_at_past : (graph : Graph) (rows : List Row) (at : ℕ) (any : Row) (old 
 counted_at_past graph [] at any old list n after told fits lt idle is comes counts gives = absurd (omega arith)
 counted_at_past graph (row ∷ rows) zero any old list n after told fits lt idle is comes counts gives =
     past_through graph rows (after_row graph row old)
-    (ap (λ (s : Stream). s.past) (ap (after_row graph row) comes ∙ count_row graph row n told list is idle.0) ∙ counted_past told fits n after list counts gives)
+    (ap (λ (s : Stream). s.past) (ap (after_row graph row) comes ∙ count_row graph row n told list is idle.0) ∙ counted_past told fits n after list counts
+    gives)
 counted_at_past graph (row ∷ rows) (suc at) any old list n after told fits lt idle is comes counts gives =
     counted_at_past graph rows at any (after_row graph row old) list n after told fits (omega arith) idle.1 is comes counts gives
 
@@ -155,7 +156,8 @@ module _ (graph : Graph) (rows : List Row) (at : ℕ) (n after : ℕ) (told fits
   fed_count any last list rest is counts gives over =
       counted_at graph rows at any last (stream list) (stream rest) (filter (passes_rows graph (take at rows)) list) n after told fits lt idle is
       (through_filters graph (take at rows) list are (idle_take rows at idle))
-      (ap (λ (coming : List Item). through graph (take at rows) (stream coming)) over ∙ nothing_through graph (take at rows) (idle_take rows at idle) (filters_quiet (take at rows) are))
+      (ap (λ (coming : List Item). through graph (take at rows) (stream coming)) over ∙ nothing_through graph (take at rows) (idle_take rows at idle)
+      (filters_quiet (take at rows) are))
       counts gives
 
   -- the count passes
@@ -277,7 +279,8 @@ module _ (graph : Graph) (item : Item) (list : List NumberedFilter) (rows : List
       → passes_numbered graph (list ++ numbered ∷ []) item ≡ passes_rows graph (take (i + 1) rows) item
   numbered_more numbered test stage filter =
       list_all-append (λ (n : NumberedFilter). passes graph n.filter.now item) list (numbered ∷ [])
-      ∙ (λ j. same j && (and_true (passes graph numbered.filter.now item) ∙ ap (λ (f : Filter). passes graph f item) filter ∙ ap (λ (s : Stage). passes_stage graph s item) (sym stage)) j)
+      ∙ (λ j. same j && (and_true (passes graph numbered.filter.now item) ∙ ap (λ (f : Filter). passes graph f item) filter ∙ ap
+      (λ (s : Stage). passes_stage graph s item) (sym stage)) j)
       ∙ sym row_more
 
   -- one that is none

@@ -70,14 +70,22 @@ module _ (p : Item → Bool) where
 
   are_among : (nodes : List Node) → AreAmong nodes nodes
   are_among [] = tt
-  are_among (node ∷ nodes) = (ap (λ (b : Bool). b || list_any (λ (other : Node). nat_eq node.id other.id) nodes) (nat_eq_equiv.refl node.id), one_more node nodes nodes (are_among nodes))
+  are_among (node ∷ nodes) = (
+    ap (λ (b : Bool). b || list_any (λ (other : Node). nat_eq node.id other.id) nodes) (nat_eq_equiv.refl node.id),
+    one_more node
+        nodes nodes (are_among nodes),
+  )
 
   -- so to be among those that pass is to pass
   same_test : (test : ℕ → Bool) (all : List Node) → ((id : ℕ) → test id ≡ list_any (is_vertex id) (filter p (map vertex_of all))) → (nodes : List Node)
       → AreAmong all nodes
       → AllByRecursion (λ (node : Node). test node.id ≡ p (vertex_of node)) nodes
   same_test test all is [] among = tt
-  same_test test all is (node ∷ nodes) among = (is node.id ∙ picked node.id all ∙ ap (λ (b : Bool). b && p (vertex_of node)) among.0, same_test test all is nodes among.1)
+  same_test test all is (node ∷ nodes) among = (
+    is node.id ∙ picked node.id all ∙ ap (λ (b : Bool). b && p (vertex_of node)) among.0,
+    same_test test all is
+        nodes among.1,
+  )
 
   vertices_passing : (nodes : List Node) → map vertex_of (filter (λ (node : Node). p (vertex_of node)) nodes) ≡ filter p (map vertex_of nodes)
   vertices_passing [] = refl
@@ -117,5 +125,6 @@ found-left graph label key value ids left found among =
     ∙ filter_both has_label holds (map vertex_of graph.nodes) in
     let test : (id : ℕ) → is_left left id ≡ list_any (is_vertex id) (filter p (map vertex_of graph.nodes))
     = λ id. among id ∙ any_vertex id ids ∙ ap (list_any (is_vertex id)) (found ∙ both) in
-    ap (map vertex_of) (filter_same (λ (node : Node). is_left left node.id) (λ (node : Node). p (vertex_of node)) graph.nodes (same_test p (is_left left) graph.nodes test graph.nodes (are_among p graph.nodes)))
+    ap (map vertex_of) (filter_same (λ (node : Node). is_left left node.id) (λ (node : Node). p (vertex_of node)) graph.nodes (same_test p (is_left left)
+    graph.nodes test graph.nodes (are_among p graph.nodes)))
     ∙ vertices_passing p graph.nodes ∙ sym both

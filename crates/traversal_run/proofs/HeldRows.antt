@@ -134,7 +134,12 @@ module _ (d : ℕ) (row new next : Row) (outs ready : List Item)
       let empty : outs ≡ [] = nothing none in
       let later : new.waiting ≡ [] = rest ∙ ap (drop 1) none in
       let ends : ready ≡ [] = ⊎_elim passed (λ l. given l ∙ empty) (cases_lt (suc (suc at)) (length (first ∷ rows))) in
-      inr (one.0, idle_set (set rows at new) (suc at) (record (get_or (set rows at new) (suc at) next) { waiting = outs }) empty (idle_set rows at new later one.1), ends)) near
+      inr (
+        one.0,
+        idle_set (set rows at new) (suc at) (record (get_or (set rows at new) (suc at) next) { waiting = outs }) empty
+            (idle_set rows at new later one.1),
+        ends,
+      )) near
 
 -- the same of all that is known of rows
 pub near-advanced : (d most : ℕ) (rows later : List Row) (at : ℕ) (row new any : Row) (outs ready : List Item) → at < length rows → row ≡ get_or rows at any
@@ -212,5 +217,6 @@ near-fed d most rows later row new any outs ready lt is same hops plain batch id
       plain = subst ArePlain (sym (put any)) (plain-set (set rows 0 new) 1 behind any refl (plain-set rows 0 new any stage_of near.plain));
       hops = omega arith;
       near = subst (λ (list : List Row). AreNear d false list ready) (sym (put any))
-          (near_first_gives d rows row new any outs ready lt is same (subst (λ b. IsBatch d b outs) (sym hops) batch) idle (λ l. passed (omega arith)) (λ l. given (omega arith)));
+          (near_first_gives d rows row new any outs ready lt is same (subst (λ b. IsBatch d b outs) (sym hops) batch) idle (λ l. passed (omega arith))
+          (λ l. given (omega arith)));
     }

@@ -63,14 +63,16 @@ near_begins d most run within = record { plain = within.plain; hops = within.hop
 
 near_taken : (d : ℕ) (behind : Bool) (rows : List Row) (item : Item) (ready : List Item) → AreNear d behind rows (item ∷ ready) → AreWithin d behind rows ready
 near_taken d behind [] item ready near =
-    ⊎_elim (λ (few : elements_in (item ∷ ready) ≤ room_behind d behind). let fewer = elements-later item ready in let b : elements_in ready ≤ room_behind d behind = omega arith in b)
+    ⊎_elim (λ (few : elements_in (item ∷ ready) ≤ room_behind d behind). let fewer = elements-later item ready in let b : elements_in ready ≤ room_behind d
+    behind = omega arith in b)
     (λ (one : length (item ∷ ready) ≤ 1). none_left ready (omega arith)) near
   where
     none_left : (list : List Item) → length list ≤ 0 → elements_in list ≤ room_behind d behind
     none_left [] none = omega arith
     none_left (first ∷ list) none = absurd (omega arith)
 near_taken d behind (row ∷ rows) item ready near =
-    ⊎_elim (λ (few : (elements_in row.waiting ≤ room_behind d behind) × AreNear d (is_hop row.stage) rows (item ∷ ready)). (few.0, near_taken d (is_hop row.stage) rows item ready few.1))
+    ⊎_elim (λ (few : (elements_in row.waiting ≤ room_behind d behind) × AreNear d (is_hop row.stage) rows (item ∷ ready)).
+    (few.0, near_taken d (is_hop row.stage) rows item ready few.1))
     (λ (one : (length row.waiting ≤ 1) × AreIdle rows × (item ∷ ready ≡ [])). absurd (clash one.2)) near
   where
     clash : item ∷ ready ≡ [] → ⊥
@@ -97,7 +99,8 @@ near_cut d behind (first ∷ rows) ready zero row any lt is other near =
 near_cut d behind (first ∷ rows) ready (suc at) row any lt is other near =
     ⊎_elim (λ (few : (elements_in first.waiting ≤ room_behind d behind) × AreNear d (is_hop first.stage) rows ready).
     near_cut d (is_hop first.stage) rows ready at row any (omega arith) is other few.1)
-    (λ (one : (length first.waiting ≤ 1) × AreIdle rows × (ready ≡ [])). subst (AreNear d false (drop (suc at) rows)) (sym one.2) (near-idle d false (drop (suc at) rows) (idle_drop rows (suc at) one.1))) near
+    (λ (one : (length first.waiting ≤ 1) × AreIdle rows × (ready ≡ [])). subst (AreNear d false (drop (suc at) rows)) (sym one.2)
+    (near-idle d false (drop (suc at) rows) (idle_drop rows (suc at) one.1))) near
 
 pub near-cut : (d most : ℕ) (rows later : List Row) (ready : List Item) (at : ℕ) (row any : Row) → at < length rows → row ≡ get_or rows at any
     → is_spent row.stage ≡ true → later ≡ drop (at + 1) rows
@@ -182,7 +185,8 @@ within-begins d list run plain rows ready =
     let fresh = fresh_steps list plain in
     let same : hops_in run.rows.items ≡ hops_of list = ap hops_in rows ∙ hops_begin list in
     within_made d (hops_of list) run (subst ArePlain (sym rows) fresh.0) (omega arith)
-    (subst (λ (r : List Item). AreWithin d false run.rows.items r) (sym ready) (subst (λ (rs : List Row). AreWithin d false rs []) (sym rows) (within_idle d false (rows_of list) fresh.1)))
+    (subst (λ (r : List Item). AreWithin d false run.rows.items r) (sym ready) (subst (λ (rs : List Row). AreWithin d false rs []) (sym rows)
+    (within_idle d false (rows_of list) fresh.1)))
 
 -- ---- the end
 
@@ -190,4 +194,5 @@ pub within-none : (d most : ℕ) (run : Run) → run.rows.items ≡ [] → run.r
 within-none d most run rows ready =
     let same : hops_in run.rows.items ≡ 0 = ap hops_in rows in
     within_made d most run (subst ArePlain (sym rows) tt) (omega arith)
-    (subst (λ (r : List Item). AreWithin d false run.rows.items r) (sym ready) (subst (λ (rs : List Row). AreWithin d false rs []) (sym rows) (within_idle d false [] tt)))
+    (subst (λ (r : List Item). AreWithin d false run.rows.items r) (sym ready) (subst (λ (rs : List Row). AreWithin d false rs []) (sym rows)
+    (within_idle d false [] tt)))

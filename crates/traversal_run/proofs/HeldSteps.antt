@@ -54,10 +54,12 @@ or_second false b true_is = true_is
 
 module _ (graph : Graph) (labels : List (List ℕ)) (id : ℕ) where
   leaving_few : length (filter (leaves_by labels id) graph.edges) ≤ degree_in graph id
-  leaving_few = filter_fewer (leaves_by labels id) (is_at id) (λ e true_is. or_first (nat_eq e.from id) (nat_eq e.to id) (and_parts (nat_eq e.from id) (is_named labels e.label) true_is).0) graph.edges
+  leaving_few = filter_fewer (leaves_by labels id) (is_at id) (λ e true_is. or_first (nat_eq e.from id) (nat_eq e.to id) (and_parts (nat_eq e.from id)
+      (is_named labels e.label) true_is).0) graph.edges
 
   entering_few : length (filter (enters_by labels id) graph.edges) ≤ degree_in graph id
-  entering_few = filter_fewer (enters_by labels id) (is_at id) (λ e true_is. or_second (nat_eq e.from id) (nat_eq e.to id) (and_parts (nat_eq e.to id) (is_named labels e.label) true_is).0) graph.edges
+  entering_few = filter_fewer (enters_by labels id) (is_at id) (λ e true_is. or_second (nat_eq e.from id) (nat_eq e.to id) (and_parts (nat_eq e.to id)
+      (is_named labels e.label) true_is).0) graph.edges
 
   edges_few : (direction : Direction) → length (edges_at graph direction labels id) ≤ 2 * degree_in graph id
   edges_few directions.Outgoing = let few = leaving_few in omega arith

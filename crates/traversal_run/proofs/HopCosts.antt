@@ -1,5 +1,6 @@
 -- What the edges of a hop's types cost, by their numbers and by their texts.
-use Rattle.std.proofs.Common.{◌≡◌, ◌<◌, ℕ, ◌+◌, true, false, not, ◌&&◌, ◌||◌, nat_eq, if◌then◌else◌, List, [], ◌∷◌, length, map, refl, sym, ap, ◌∙◌, subst, arith}
+use Rattle.std.proofs.Common.{◌≡◌, ◌<◌, ℕ, ◌+◌, true, false, not, ◌&&◌, ◌||◌, nat_eq, if◌then◌else◌, List, [], ◌∷◌, length, map, refl, sym, ap, ◌∙◌}
+use Rattle.std.proofs.Common.{subst, arith}
 use Rattle.std.specs.List.{filter, list_any}
 use Rattle.std.proofs.lemmas.Cmp.{nat_eq_equiv}
 use Rattle.std.proofs.lemmas.List.Folds.{list_any_at}
@@ -32,7 +33,8 @@ module _ (s : Records) (shape : Shape) (store : IsWellFormed s shape) where
       → length (filter (is_met direction labels n) (rows_of s)) ≡ met_count (graph_of s) direction names n
   met_rows labels names stand direction n =
       sym (AllZip-long (IsRowOf s) (filter (is_met direction labels n) (rows_of s)) (filter (is_met_edge direction names n) (graph_of s).edges)
-      (zip_filter (IsRowOf s) (is_met direction labels n) (is_met_edge direction names n) (agree direction) (rows_of s) (graph_of s).edges (rows_are s shape store)))
+      (zip_filter (IsRowOf s) (is_met direction labels n) (is_met_edge direction names n) (agree direction) (rows_of s) (graph_of s).edges
+      (rows_are s shape store)))
     where
       typed : (row : EdgeRow) (edge : Edge) → IsRowOf s row edge → is_wanted labels row.label ≡ is_named names edge.label
       typed row edge is = stand row.label is.known ∙ ap (is_named names) is.label
@@ -74,6 +76,7 @@ pub hop_costs : (s t : State) → IsWellFormed s.records s.shape → (hop : Hop)
     → ReadsAtMost (most_reads s hop.direction numbers id) s t → ReadsAtMost (reads_at_vertex s.records hop id) s t
 hop_costs s t store hop numbers id types reads =
     subst (λ n. ReadsAtMost n s t)
-    (ap (λ n. if nat_eq (kind_at s.records format.nodes_file id) format.dense then type_count (graph_of s.records) id + n + 1 else degree_in (graph_of s.records) id + 1)
+    (ap (λ n. if nat_eq (kind_at s.records format.nodes_file id) format.dense then type_count (graph_of s.records) id + n + 1 else degree_in
+    (graph_of s.records) id + 1)
     (met_types s.records s.shape store numbers hop.labels types hop.direction id)
     ∙ ap (λ b. if b then 0 else walk_reads s.records hop id) (sym (types_known s.records numbers hop.labels types))) reads

@@ -60,7 +60,8 @@ module _ (s : Records) (shape : Shape) (store : IsWellFormed s shape) where
   nothing_at : (texts : List (List ℕ)) (id : ℕ) → ((x : ℕ) (e : Edge) → edge_of s x ≡ Some e → leaves_by texts id e ≡ false)
       → ((x : ℕ) (e : Edge) → edge_of s x ≡ Some e → enters_by texts id e ≡ false)
       → (direction : Direction) → edges_at (graph_of s) direction texts id ≡ []
-  nothing_at texts id leave enter direction = by direction (collect_none (edge_of s) (leaves_by texts id) (high s format.relationships_file) (λ x e lt is. leave x e is)) (collect_none (edge_of s) (enters_by texts id) (high s format.relationships_file) (λ x e lt is. enter x e is))
+  nothing_at texts id leave enter direction = by direction (collect_none (edge_of s) (leaves_by texts id) (high s format.relationships_file)
+      (λ x e lt is. leave x e is)) (collect_none (edge_of s) (enters_by texts id) (high s format.relationships_file) (λ x e lt is. enter x e is))
     where
       by : (direction : Direction) → filter (leaves_by texts id) (graph_of s).edges ≡ [] → filter (enters_by texts id) (graph_of s).edges ≡ []
           → edges_at (graph_of s) direction texts id ≡ []
@@ -83,7 +84,8 @@ module _ (s : Records) (shape : Shape) (store : IsWellFormed s shape) where
 
   -- an end is a node
   not_here : (id : ℕ) → has_node (graph_of s) id ≡ false → (n end : ℕ) → end ≡ n → kind_at s format.nodes_file n ≢ format.free_kind → nat_eq end id ≡ false
-  not_here id gone n end is used = eq_false end id (λ same. clash (sym (subst (λ m. has_node (graph_of s) m ≡ true) (sym is ∙ same) (node_there s n used)) ∙ gone))
+  not_here id gone n end is used = eq_false end id (λ same. clash (sym (subst (λ m. has_node (graph_of s) m ≡ true) (sym is ∙ same) (node_there s n used))
+      ∙ gone))
     where
       clash : true ≡ false → ⊥
       clash e = cc
@@ -93,8 +95,10 @@ module _ (s : Records) (shape : Shape) (store : IsWellFormed s shape) where
       → edges_at (graph_of s) direction texts id ≡ []
   edges_at-no_node texts id direction gone =
       nothing_at texts id
-      (λ x e is. let edge = edge_is x e is in ap (λ b. b && is_named texts e.label) (not_here id gone edge.row.from e.from edge.from (store.linked.ends x edge.row edge.is).from))
-      (λ x e is. let edge = edge_is x e is in ap (λ b. b && is_named texts e.label) (not_here id gone edge.row.to e.to edge.to (store.linked.ends x edge.row edge.is).to)) direction
+      (λ x e is. let edge = edge_is x e is in ap (λ b. b && is_named texts e.label) (not_here id gone edge.row.from e.from edge.from
+      (store.linked.ends x edge.row edge.is).from))
+      (λ x e is. let edge = edge_is x e is in ap (λ b. b && is_named texts e.label) (not_here id gone edge.row.to e.to edge.to
+      (store.linked.ends x edge.row edge.is).to)) direction
 
 -- the numbers of some texts stand for them, where some number is known or no text is written
 pub stand_for : (s : Records) (labels : List ℕ) (texts : List (List ℕ)) → FindsNames s labels texts → All (λ label. label < name_count s) labels
@@ -104,7 +108,8 @@ stand_for s [] (text ∷ texts) finds below none = absurd (clash (none refl))
   where
     clash : text ∷ texts ≡ [] → ⊥
     clash e = cc
-stand_for s (label ∷ labels) [] finds below none = absurd (clash (sym (ap (λ b. b || list_any (nat_eq label) labels) (nat_eq_equiv.refl label)) ∙ finds label (below 0 label (omega arith))))
+stand_for s (label ∷ labels) [] finds below none = absurd (clash (sym (ap (λ b. b || list_any (nat_eq label) labels) (nat_eq_equiv.refl label)) ∙ finds label
+    (below 0 label (omega arith))))
   where
     clash : true ≡ false → ⊥
     clash e = cc
@@ -163,14 +168,16 @@ module _ (s : Records) where
       λ i. items.Edge (is.id i) (is.label i) (is.from i) (is.to i) ∷ rows-items rows edges are.1 i
 
   -- each edge is at the vertex by this end, and this is the other one
-  ends_by : (id : ℕ) (test : Edge → Bool) (other : Edge → ℕ) → ((row : EdgeRow) (edge : Edge) → IsRowOf s row edge → test edge ≡ true → other_end id row ≡ other edge)
+  ends_by : (id : ℕ) (test : Edge → Bool) (other : Edge → ℕ) → ((row : EdgeRow) (edge : Edge) → IsRowOf s row edge → test edge ≡ true → other_end id row ≡ other
+      edge)
       → (edges : List Edge) (rows : List EdgeRow) → AreRowsOf s rows (filter test edges)
       → map (end_item id) rows ≡ map (λ (edge : Edge). items.Vertex (other edge)) (filter test edges)
   ends_by id test other each [] [] are = refl
   ends_by id test other each [] (row ∷ rows) are = absurd are
   ends_by id test other each (edge ∷ edges) rows are = by (ends_by id test other each edges) (test edge) refl rows are
     where
-      by : ((rows : List EdgeRow) → AreRowsOf s rows (filter test edges) → map (end_item id) rows ≡ map (λ (edge : Edge). items.Vertex (other edge)) (filter test edges))
+      by : ((rows : List EdgeRow) → AreRowsOf s rows (filter test edges) → map (end_item id) rows ≡ map (λ (edge : Edge). items.Vertex (other edge))
+          (filter test edges))
           → (passes : Bool) → test edge ≡ passes → (rows : List EdgeRow) → AreRowsOf s rows (cond passes (edge ∷ filter test edges) (filter test edges))
           → map (end_item id) rows ≡ map (λ (edge : Edge). items.Vertex (other edge)) (cond passes (edge ∷ filter test edges) (filter test edges))
       by later true is [] are = absurd are

@@ -103,7 +103,6 @@ as_hop stage hop item s t makes reads =
     (λ (is : stage ≡ stages.Mapped (mappings.Incident hop)). subst (λ (step : Stage). StageReads step item s t) is reads) makes
 
 module _ {R : Type 0} (space : SpaceGhosts R) (names : List (List ℕ)) (stage : Stage) (old : R) (before : Left) where
-
   -- it is no vertex in use, or that was not told
   pub took_row : (step : Stage) (now mid : R) (left rest : Left) (x : ℕ) → FedHop space names stage step old now before left → TakesId left x rest
       → ReadsAtMost 1 (space.state now) (space.state mid) → JustTook space names stage old mid before rest
@@ -123,7 +122,8 @@ module _ {R : Type 0} (space : SpaceGhosts R) (names : List (List ℕ)) (stage :
   -- the step took it
   pub took_step : (step : Stage) (now mid last : R) (left rest : Left) (x : ℕ) → FedHop space names stage step old now before left → TakesId left x rest
       → ReadsAtMost 1 (space.state now) (space.state mid) → IsRead space old mid
-      → (space.tells → IsNamedStore (space.state mid).records (space.state mid).shape names → StageReads step (items.Vertex x) (space.state mid) (space.state last))
+      → (space.tells → IsNamedStore (space.state mid).records (space.state mid).shape names → StageReads step (items.Vertex x) (space.state mid)
+      (space.state last))
       → JustTook space names stage old last before rest
   took_step step now mid last left rest x fed takes get read steps = record {
     one = λ id hop makes only.
@@ -168,7 +168,8 @@ module _ {R : Type 0} (space : SpaceGhosts R) (names : List (List ℕ)) (stage :
     one = λ id hop makes only.
         let cost : space.tells → IsNamedStore (space.state old).records (space.state old).shape names
         → ReadsAtMost (reads_for_hop (space.state old).records hop id) (space.state old) (space.state now)
-        = ⊎_elim (λ (l : HopLeft old now stage step left id). λ tells store. subst (λ (r : R). ReadsAtMost (reads_for_hop (space.state old).records hop id) (space.state old) (space.state r)) (sym l.here) (reads_none (reads_for_hop (space.state old).records hop id) (space.state old)))
+        = ⊎_elim (λ (l : HopLeft old now stage step left id). λ tells store. subst (λ (r : R). ReadsAtMost (reads_for_hop (space.state old).records hop id)
+        (space.state old) (space.state r)) (sym l.here) (reads_none (reads_for_hop (space.state old).records hop id) (space.state old)))
         (λ (t : HopTaken space names old now hop left id). t.cost) (fed.one id hop makes only) in
         (none, cost);
     none = λ before_none. (none, (fed.none before_none).1);
@@ -214,16 +215,19 @@ pub quiet_alone : (rows : List Row) → IsHopAlone rows → (at : ℕ) (any : Ro
 quiet_alone rows alone at any lt opens =
     let lt_one : at < 1 = subst (λ (rs : List Row). at < length rs) alone.is lt in
     let none : at ≡ 0 = omega arith in
-    off_on opens (ap (λ n. is_open (get_or rows n any).stage) none ∙ ap (λ (rs : List Row). is_open (get_or rs 0 any).stage) alone.is ∙ hop_shut alone.row.stage alone.hop)
+    off_on opens (ap (λ n. is_open (get_or rows n any).stage) none ∙ ap (λ (rs : List Row). is_open (get_or rs 0 any).stage) alone.is ∙ hop_shut alone.row.stage
+    alone.hop)
 
 -- the only row is one still, after it was fed
 pub alone_fed : (rows later : List Row) (any : Row) (stage : Stage) (outs : List Item) (alone : IsHopAlone rows)
     → is_hop stage ≡ is_hop (get_or rows 0 any).stage
-    → ((next : Row) → later ≡ set (set rows 0 (record (get_or rows 0 any) { stage = stage })) 1 (record (get_or (set rows 0 (record (get_or rows 0 any) { stage = stage })) 1 next) { waiting = outs }))
+    → ((next : Row) → later ≡ set (set rows 0 (record (get_or rows 0 any) { stage = stage })) 1
+    (record (get_or (set rows 0 (record (get_or rows 0 any) { stage = stage })) 1 next) { waiting = outs }))
     → IsHopAlone later
 alone_fed rows later any stage outs alone hops put = record {
   row = record alone.row { stage = stage };
-  is = put any ∙ (λ i. set (set (alone.is i) 0 (record (get_or (alone.is i) 0 any) { stage = stage })) 1 (record (get_or (set (alone.is i) 0 (record (get_or (alone.is i) 0 any) { stage = stage })) 1 any) { waiting = outs }));
+  is = put any ∙ (λ i. set (set (alone.is i) 0 (record (get_or (alone.is i) 0 any) { stage = stage })) 1
+      (record (get_or (set (alone.is i) 0 (record (get_or (alone.is i) 0 any) { stage = stage })) 1 any) { waiting = outs }));
   idle = alone.idle;
   hop = hops ∙ ap (λ (rs : List Row). is_hop (get_or rs 0 any).stage) alone.is ∙ alone.hop;
 }
@@ -250,7 +254,8 @@ module _ {R : Type 0} (space : SpaceGhosts R) (names : List (List ℕ)) (old now
   pub hop_stops : HopState space names old now first run → HopStops space names old now first
   hop_stops state = record {
     one = λ id hop is tells store.
-        ⊎_elim (λ (here : (now ≡ old) × IsHop run id hop). subst (λ (r : R). ReadsAtMost (reads_for_hop (space.state old).records hop id) (space.state old) (space.state r)) (sym here.0) (reads_none (reads_for_hop (space.state old).records hop id) (space.state old)))
+        ⊎_elim (λ (here : (now ≡ old) × IsHop run id hop). subst (λ (r : R). ReadsAtMost (reads_for_hop (space.state old).records hop id) (space.state old)
+        (space.state r)) (sym here.0) (reads_none (reads_for_hop (space.state old).records hop id) (space.state old)))
         (λ (made : HopCost space names old now hop id × IsReady run). made.0 tells store) (state.one id hop is);
     ready = λ is. (state.ready is).0;
   }
@@ -290,7 +295,13 @@ module _ {R : Type 0} (space : SpaceGhosts R) (names : List (List ℕ)) (old now
           ⊎_elim (λ (here : (now ≡ old) × IsHop run id hop).
           let run_is = here.1 in
           let fed = turn run_is.alone run_is.vertices in
-          let then : IsReady new = record { vertices = fed.edges ∙ run_is.vertices; none = (fed.one id hop run_is.makes run_is.only).0; alone = on run_is.alone run_is.vertices; going = same ∙ run_is.going } in
+          let then : IsReady new = record {
+            vertices = fed.edges ∙ run_is.vertices;
+            none = (fed.one id hop run_is.makes run_is.only).0;
+            alone = on run_is.alone
+                run_is.vertices;
+            going = same ∙ run_is.going;
+          } in
           then)
           (λ (made : HopCost space names old now hop id × IsReady run). ready_on (on made.1.alone made.1.vertices) made.1) (state.one id hop is) in
           inr (cost, ready);

@@ -113,30 +113,36 @@ map_option f (Some a) = refl
 module _ (records : Records) where
   high_node : (id : ℕ) → high records format.nodes_file ≤ id → node_of records id ≡ None
   high_node id le = ap (node_from (rec_at records format.names_file) (property_records records))
-      (row_none (kind_at records format.nodes_file id) (node_in (rec_at records format.nodes_file id) id) (kind_high (high records format.nodes_file) (rec_at records format.nodes_file id) id le))
+      (row_none (kind_at records format.nodes_file id) (node_in (rec_at records format.nodes_file id) id) (kind_high (high records format.nodes_file)
+      (rec_at records format.nodes_file id) id le))
 
   high_edge : (id : ℕ) → high records format.relationships_file ≤ id → edge_of records id ≡ None
   high_edge id le = ap (edge_from (rec_at records format.names_file) (property_records records))
-      (row_none (kind_at records format.relationships_file id) (rel_in (rec_at records format.relationships_file id) id) (kind_high (high records format.relationships_file) (rec_at records format.relationships_file id) id le))
+      (row_none (kind_at records format.relationships_file id) (rel_in (rec_at records format.relationships_file id) id)
+      (kind_high (high records format.relationships_file) (rec_at records format.relationships_file id) id le))
 
   -- the element of the first identifier comes first, where there is one
   pub left-takes : (edges : Bool) (old new : Left) (id : ℕ) → TakesId old id new
       → elements_left (graph_of records) edges old ≡ option_list (element_at records edges id) ++ elements_left (graph_of records) edges new
   left-takes false old new id takes =
       let nodes = collect (node_of records) (high records format.nodes_file) in
-      ap (map vertex_of) (rows_left node_number (node_of records) (nodes_numbered records) (is_left old) (is_left new) id takes.among takes.first (high records format.nodes_file) (high_node id))
+      ap (map vertex_of) (rows_left node_number (node_of records) (nodes_numbered records) (is_left old) (is_left new) id takes.among takes.first
+      (high records format.nodes_file) (high_node id))
       ∙ map-append vertex_of (option_list (node_of records id)) (filter (λ node. is_left new (node_number node)) nodes)
       ∙ ap (λ list. list ++ elements_left (graph_of records) false new) (map_option vertex_of (node_of records id))
   left-takes true old new id takes =
       let edges = collect (edge_of records) (high records format.relationships_file) in
-      ap (map edge_item) (rows_left edge_number (edge_of records) (edges_numbered records) (is_left old) (is_left new) id takes.among takes.first (high records format.relationships_file) (high_edge id))
+      ap (map edge_item) (rows_left edge_number (edge_of records) (edges_numbered records) (is_left old) (is_left new) id takes.among takes.first
+      (high records format.relationships_file) (high_edge id))
       ∙ map-append edge_item (option_list (edge_of records id)) (filter (λ edge. is_left new (edge_number edge)) edges)
       ∙ ap (λ list. list ++ elements_left (graph_of records) true new) (map_option edge_item (edge_of records id))
 
   -- nothing is to come where no identifier below the mark is
   pub left-none : (edges : Bool) (left : Left) → HasNoneBelow (element_mark records edges) left → elements_left (graph_of records) edges left ≡ []
-  left-none false left none = ap (map vertex_of) (none_left node_number (node_of records) (nodes_numbered records) (is_left left) (high records format.nodes_file) none)
-  left-none true left none = ap (map edge_item) (none_left edge_number (edge_of records) (edges_numbered records) (is_left left) (high records format.relationships_file) none)
+  left-none false left none = ap (map vertex_of) (none_left node_number (node_of records) (nodes_numbered records) (is_left left)
+      (high records format.nodes_file) none)
+  left-none true left none = ap (map edge_item) (none_left edge_number (edge_of records) (edges_numbered records) (is_left left)
+      (high records format.relationships_file) none)
 
 -- ---- the first that was to come
 

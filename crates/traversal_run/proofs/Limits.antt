@@ -77,7 +77,8 @@ module _ (steps : List Stage) (at : ℕ) (new any : Stage) (outs ready : ℕ) (w
     (passed : at + 1 < length steps → ready ≡ 0) (given : length steps ≤ at + 1 → ready ≡ outs) where
   same_limit : with_more (last_limit (set steps at new)) ready ≡ with_more (last_limit steps) 0
   same_limit = ⊎_elim
-      (λ (lt : at + 1 < length steps). ap (with_more (last_limit (set steps at new))) (passed lt) ∙ ap (λ o. with_more o 0) (last_other steps at new (omega arith)))
+      (λ (lt : at + 1 < length steps). ap (with_more (last_limit (set steps at new))) (passed lt) ∙ ap (λ o. with_more o 0) (last_other steps at new
+      (omega arith)))
       (λ (le : length steps ≤ at + 1).
       let long : length steps ≡ suc at = omega arith in
       ap (with_more (last_limit (set steps at new))) (given le) ∙ ap (λ o. with_more o outs) (last_set steps at new long) ∙ limits
@@ -223,12 +224,14 @@ module _ (over : Bool) (rows : List Row) (row : Row) (ready : List Item) (none :
   spent-yes spent counts_none is = (
     λ yes. ap (λ (items : List Item). allowed_by over (stages_of rows) (length items)) none
         ∙ allowed-zero_is over rows (length rows - 1) row row last_there last_is spent (sym is ∙ yes),
-    λ all. is ∙ (allowed-zero_last over rows (length rows - 1) row row last_there last_is (sym (ap (λ (items : List Item). allowed_by over (stages_of rows) (length items)) none) ∙ all)).1,
+    λ all. is ∙ (allowed-zero_last over rows (length rows - 1) row row last_there last_is
+        (sym (ap (λ (items : List Item). allowed_by over (stages_of rows) (length items)) none) ∙ all)).1,
   )
 
   pub spent-no : (spent : Bool) → spent ≡ is_spent row.stage → allowed_by over (stages_of rows) (length ready) ≡ Some 0 → IsTrue spent
   spent-no spent is all =
-      is ∙ (allowed-zero_last over rows (length rows - 1) row row last_there last_is (sym (ap (λ (items : List Item). allowed_by over (stages_of rows) (length items)) none) ∙ all)).0
+      is ∙ (allowed-zero_last over rows (length rows - 1) row row last_there last_is
+      (sym (ap (λ (items : List Item). allowed_by over (stages_of rows) (length items)) none) ∙ all)).0
 
 -- ---- the steps of a query
 

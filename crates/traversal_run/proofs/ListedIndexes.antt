@@ -63,7 +63,12 @@ module _ {E : Type 0} (test : E → Bool) where
 
   row_any : (row : Option E) → list_any test (option_list row) ≡ true → (e : E) × (row ≡ Some e) × (test e ≡ true)
   row_any None is = absurd (true≢false (sym is))
-  row_any (Some e) is = (e, refl, ⊎_elim (λ (here : test e ≡ true). here) (λ (none : false ≡ true). absurd (true≢false (sym none))) (or_either (test e) false is))
+  row_any (Some e) is = (
+    e,
+    refl,
+    ⊎_elim (λ (here : test e ≡ true). here) (λ (none : false ≡ true). absurd (true≢false (sym none)))
+        (or_either (test e) false is),
+  )
 
   collect_any : (row : ℕ → Option E) (n : ℕ) → list_any test (collect row n) ≡ true → HasRow row n
   collect_any row zero is = absurd (true≢false (sym is))

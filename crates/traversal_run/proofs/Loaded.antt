@@ -65,7 +65,8 @@ no_edge_properties s id free = ap edge_properties (find-none (λ edge. nat_eq (e
 
 -- no row of a relationship: it isn't in use
 rel_free : (s : Records) (id : ℕ) → rels.row_at s id ≡ None → kind_at s format.relationships_file id ≡ format.free_kind
-rel_free s id none = ⊎_elim (λ (e : kind ≡ 0). e) (λ (used : kind ≢ 0). absurd (let row = row_some kind (row_of (rec_at s format.relationships_file id) id) used in cc)) (nat_cases kind 0)
+rel_free s id none = ⊎_elim (λ (e : kind ≡ 0). e) (λ (used : kind ≢ 0). absurd (let row = row_some kind (row_of (rec_at s format.relationships_file id) id)
+    used in cc)) (nat_cases kind 0)
   where
     kind : ℕ
     kind = kind_at s format.relationships_file id
@@ -99,7 +100,8 @@ no_node_label s id none = ap (option_map (λ (node : Node). node.label)) (node_n
 pub node_label-is : (s : Records) (id : ℕ) (row : NodeRow) → Some row ≡ nodes.row_at s id → label_of (graph_of s) (items.Vertex id) ≡ Some (name_at s row.label)
 node_label-is s id row found =
     let is = node_rows.kind-row_at-Some s id row (sym found) in
-    ap (option_map (λ (node : Node). node.label)) (find_collect node_number (node_of s) (high s format.nodes_file) id (nodes_numbered s) (kind_below (high s format.nodes_file) (rec_at s format.nodes_file id) id is.0) ∙ node_used s id is.0)
+    ap (option_map (λ (node : Node). node.label)) (find_collect node_number (node_of s) (high s format.nodes_file) id (nodes_numbered s)
+    (kind_below (high s format.nodes_file) (rec_at s format.nodes_file id) id is.0) ∙ node_used s id is.0)
     ∙ ap (λ (r : NodeRow). Some (name_at s r.label)) (sym is.1)
 
 -- ---- a text that is no name
@@ -114,7 +116,8 @@ module _ (s : State) (store : IsWellFormed s.records s.shape) (text : List ℕ) 
       let owned = owner_in-used s.records file x element used in
       let are = properties_right s.records s.shape store file x first owned in
       value_lacked s.records s.shape store file x element used es text are (λ k i e.
-      absurd (let no = none k (key_known s.records s.shape store file x first es owned are k i) in let yes = subst (λ t. is_text text t ≡ true) (sym e) (is_text-itself text) in cc))
+      absurd (let no = none k (key_known s.records s.shape store file x first es owned are k i) in let yes = subst (λ t. is_text text t ≡ true) (sym e)
+      (is_text-itself text) in cc))
 
   none_of_none : maps.get no_properties text ≡ None
   none_of_none = get-empty order text

@@ -70,7 +70,8 @@ module _ (records : Records) (shape : Shape) (names : List (List ℕ)) (store : 
       let own : text ≡ name_at records found = some_same (sym at ∙ names_at found low) in
       same_tests (nat_eq number found) (is_text text (name_at records number))
       (λ e. subst (λ z. is_text text (name_at records z) ≡ true) (sym (eqb-true number found e)) (subst (λ t. is_text text t ≡ true) own (is_text-itself text)))
-      (λ e. let one = store.store.names.distinct number found lt low (sym (is_text-same text (name_at records number) e) ∙ own) in ap (λ z. nat_eq z found) one ∙ nat_eq_equiv.refl found)
+      (λ e. let one = store.store.names.distinct number found lt low (sym (is_text-same text (name_at records number) e) ∙ own) in ap (λ z. nat_eq z found) one
+      ∙ nat_eq_equiv.refl found)
     where
       some_same : {a b : List ℕ} → Some a ≡ Some b → a ≡ b
       some_same e = cc

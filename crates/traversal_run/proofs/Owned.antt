@@ -84,8 +84,10 @@ module _ (name_file : ℕ → Rec) (names : ℕ) (named : AreNames name_file nam
   find-named (e ∷ es) key low known =
       let test : eq_by_cmp order (text_of (name_file key)) (text_of (name_file e.key)) ≡ nat_eq e.key key =
       same_tests (eq_by_cmp order (text_of (name_file key)) (text_of (name_file e.key))) (nat_eq e.key key)
-      (λ h. subst (λ k. nat_eq k key ≡ true) (named.distinct key e.key low (known e.key (inl refl)) (same_key (text_of (name_file key)) (text_of (name_file e.key)) h)) (nat_eq_equiv.refl key))
-      (λ h. subst (λ k. eq_by_cmp order (text_of (name_file key)) (text_of (name_file k)) ≡ true) (sym (eqb-true e.key key h)) ((eq_by_cmp_equiv nat_list_cmp_total).refl (text_of (name_file key)))) in
+      (λ h. subst (λ k. nat_eq k key ≡ true) (named.distinct key e.key low (known e.key (inl refl)) (same_key (text_of (name_file key))
+      (text_of (name_file e.key)) h)) (nat_eq_equiv.refl key))
+      (λ h. subst (λ k. eq_by_cmp order (text_of (name_file key)) (text_of (name_file k)) ≡ true) (sym (eqb-true e.key key h))
+      ((eq_by_cmp_equiv nat_list_cmp_total).refl (text_of (name_file key)))) in
       ap (λ b. cond b (Some e.value) (maps.find order (text_of (name_file key)) (map (named_property name_file) es))) test
       ∙ by (nat_eq e.key key) (find-named es key low (λ k i. known k (inr i)))
     where
@@ -110,12 +112,19 @@ module _ (records : Records) (shape : Shape) (store : IsWellFormed records shape
   pub value_none : FindsName records None text → maps.get properties text ≡ None
   value_none finds =
       let names = rec_at records format.names_file in
-      ap (λ m. maps.get m text) are ∙ get-map_of_none names es text (λ k i e. absurd (let no = finds k (known k i) in let yes = subst (λ t. is_text text t ≡ true) (sym e) (is_text-itself text) in cc))
+      ap (λ m. maps.get m text) are ∙ get-map_of_none names es text (λ k i e. absurd (let no = finds k (known k i) in let yes = subst
+      (λ t. is_text text t ≡ true) (sym e) (is_text-itself text) in cc))
 
 -- what was read of an owner are the item's properties
 pub are_read : (records now : Records) (item : Item) (owner : Owner) (listed : HasListed records now item owner) (props : List Prop)
     → props ≡ map prop_of listed.es → AreRead records props (properties_of (graph_of records) item)
-are_read records now item owner listed props read = record { es = listed.es; read = read; known = listed.known; once = listed.has.are.keys_once; are = listed.is }
+are_read records now item owner listed props read = record {
+  es = listed.es;
+  read = read;
+  known = listed.known;
+  once = listed.has.are.keys_once;
+  are = listed.is;
+}
 
 pub none_read : (records : Records) (item : Item) (props : List Prop) → props ≡ [] → properties_of (graph_of records) item ≡ no_properties
     → AreRead records props (properties_of (graph_of records) item)

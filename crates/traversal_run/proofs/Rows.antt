@@ -116,8 +116,11 @@ pub finished : (graph : Graph) (rows : List Row) (at : ℕ) (row any : Row) (out
 finished graph rows at row any outs stage lt is idle quiet finishes =
     let nothing = nothing_through graph (take at rows) (idle_take rows at idle) quiet in
     let coming : row.waiting ++ (through graph (take at rows) (stream [])).items ≡ [] =
-    ap (λ w. w ++ (through graph (take at rows) (stream [])).items) (idle_at rows at row any lt is idle) ∙ ap (λ (s : Stream). s.items) nothing in
-    (ap (after_stage graph row.stage) coming ∙ finishes.0 ∙ ap (λ list. outs ++ after_stage graph stage list) (sym coming), ap (counts_past row.stage) coming ∙ finishes.1 ∙ ap (counts_past stage) (sym coming))
+    ap (λ w. w ++ (through graph (take at rows) (stream [])).items) (idle_at rows at row any lt is idle) ∙ ap (λ (s : Stream). s.items) nothing in (
+      ap (after_stage graph row.stage) coming ∙ finishes.0 ∙ ap (λ list. outs ++ after_stage graph stage list) (sym coming),
+      ap (counts_past row.stage) coming
+          ∙ finishes.1 ∙ ap (counts_past stage) (sym coming),
+    )
 
 -- Where no item waits, none does behind a row with another step.
 pub idle_behind : (rows : List Row) (at : ℕ) (new : Row) → AreIdle rows → AreIdle (drop (at + 1) (set rows at new))
@@ -152,7 +155,8 @@ pub passes_through : (graph : Graph) (rows : List Row) (at : ℕ) (row any : Row
     → (through graph rows coming).past ≡ true
 passes_through graph [] at row any coming lt is passes = absurd (omega arith)
 passes_through graph (first ∷ rows) zero row any coming lt is passes =
-    past_through graph rows (after_row graph first coming) (true_or coming.past (counts_past first.stage (first.waiting ++ coming.items)) (subst PassesAt is passes coming.items))
+    past_through graph rows (after_row graph first coming) (true_or coming.past (counts_past first.stage (first.waiting ++ coming.items))
+    (subst PassesAt is passes coming.items))
 passes_through graph (first ∷ rows) (suc at) row any coming lt is passes =
     passes_through graph rows at row any (after_row graph first coming) (omega arith) is passes
 
@@ -186,11 +190,19 @@ pub through_spent : (graph : Graph) (rows : List Row) (at : ℕ) (row any : Row)
 through_spent graph [] at row any coming lt is spent none = absurd (omega arith)
 through_spent graph (first ∷ rows) zero row any coming lt is spent none =
     let here : is_spent first.stage ≡ true = ap (λ (r : Row). is_spent r.stage) (sym is) ∙ spent in
-    λ i. record { items = spent_gives graph first.stage (first.waiting ++ coming.items) here i; past = or_none coming.past (counts_past first.stage (first.waiting ++ coming.items)) (spent_counts_none first.stage (first.waiting ++ coming.items) here) i }
+    λ i. record {
+      items = spent_gives graph first.stage (first.waiting ++ coming.items) here i;
+      past = or_none coming.past (counts_past first.stage
+          (first.waiting ++ coming.items)) (spent_counts_none first.stage (first.waiting ++ coming.items) here) i;
+    }
 through_spent graph (first ∷ rows) (suc at) row any coming lt is spent none =
     let both = both_true (is_count first.stage) (list_all (λ (r : Row). not (is_count r.stage)) (take at rows)) none in
     through_spent graph rows at row any (after_row graph first coming) (omega arith) is spent both.1
-    ∙ (λ i. record { items = []; past = or_none coming.past (counts_past first.stage (first.waiting ++ coming.items)) (counts_none first.stage (first.waiting ++ coming.items) both.0) i })
+    ∙ (λ i. record {
+      items = [];
+      past = or_none coming.past (counts_past first.stage (first.waiting ++ coming.items)) (counts_none first.stage
+          (first.waiting ++ coming.items) both.0) i;
+    })
 
 -- so the rows up to it may be left out
 pub through-cut : (graph : Graph) (rows : List Row) (at : ℕ) (row any : Row) (coming : List Item) → at < length rows → row ≡ get_or rows at any

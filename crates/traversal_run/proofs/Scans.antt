@@ -67,7 +67,8 @@ ready_not run from most item none there =
 
 -- a turn, where no item is ready
 pub scan_turns : (at before now later : ℕ) (old new : Run) → old.ready ≡ []
-    → ((from most : ℕ) → IsScanWith old from most [] [] → (item : Item) × TakesVertex from now later item new.source × (new.rows.items ≡ limit_row most (item ∷ []) ∷ []) × (new.ready ≡ []))
+    → ((from most : ℕ) → IsScanWith old from most [] [] → (item : Item) × TakesVertex from now later item new.source × (new.rows.items ≡ limit_row most
+    (item ∷ []) ∷ []) × (new.ready ≡ []))
     → ((from most : ℕ) (item : Item) → IsScanWith old from (most + 1) (item ∷ []) [] → (later ≡ now) × IsScanReady new from most item)
     → ScanState at before now old → ScanState at before later new
 scan_turns at before now later old new none scan limit state =
@@ -192,7 +193,8 @@ limit_advanced Same rows later at row new any outs ready most item lt is only ta
     let first : at ≡ 0 = omega arith in
     let here : row ≡ limit_row most (item ∷ []) = is ∙ (λ i. get_or (only i) (first i) any) in
     let step = takes here in
-    let rows_is : later ≡ new ∷ [] = put any ∙ (λ i. set (set (only i) (first i) new) (first i + 1) (record (get_or (set (only i) (first i) new) (first i + 1) any) { waiting = outs })) in
+    let rows_is : later ≡ new ∷ [] = put any ∙ (λ i. set (set (only i) (first i) new) (first i + 1) (record (get_or (set (only i) (first i) new) (first i + 1)
+    any) { waiting = outs })) in
     let long : length (set rows at new) ≡ length rows = length-set rows at new in
     let one : length rows ≡ 1 = ap length only in
     (rows_is ∙ ap (λ r. r ∷ []) step.1, given (omega arith) ∙ step.0, step.2)

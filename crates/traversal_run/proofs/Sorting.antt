@@ -134,7 +134,8 @@ module _ {X : Type 0} (less : X → X → Bool) (order : IsStrictWeakOrder less)
       let heads : y ∷ filter (ties less x) ys ≡ x ∷ filter (ties less x) xs =
       sym (cond-true (ties less x y) (y ∷ filter (ties less x) ys) (filter (ties less x) ys) tied) ∙ x_first in
       let head : y ≡ x = cc in
-      let tails : xs ≡ ys = one_stable_order xs ys up.1 rise.1 (λ z. rests (ties less z x) x (filter (ties less z) xs) (filter (ties less z) ys) (same z ∙ ap (λ w. filter (ties less z) (w ∷ ys)) head)) in
+      let tails : xs ≡ ys = one_stable_order xs ys up.1 rise.1 (λ z. rests (ties less z x) x (filter (ties less z) xs) (filter (ties less z) ys)
+      (same z ∙ ap (λ w. filter (ties less z) (w ∷ ys)) head)) in
       (λ i. sym head i ∷ tails i)
 
   -- what a stable sort leaves

@@ -55,7 +55,8 @@ texts_once-more seen text texts is_new is = by (list_any (is_text text) seen) is
     by : (b n : Bool) → n ≡ not b → cond b (texts_once seen texts) (text ∷ texts_once (text ∷ seen) texts) ≡ cond n (text ∷ []) [] ++ texts_once
         (cond n (seen ++ text ∷ []) seen) texts
     by true false e = refl
-    by false true e = ap (λ rest. text ∷ rest) (texts_once-seen (text ∷ seen) (seen ++ text ∷ []) texts (λ t. sym (list_any-append (is_text t) seen (text ∷ []) ∙ or_swap (list_any (is_text t) seen) (is_text t text))))
+    by false true e = ap (λ rest. text ∷ rest) (texts_once-seen (text ∷ seen) (seen ++ text ∷ []) texts (λ t. sym (list_any-append (is_text t) seen (text ∷ [])
+        ∙ or_swap (list_any (is_text t) seen) (is_text t text))))
     by true true e = absurd cc
     by false false e = absurd cc
 

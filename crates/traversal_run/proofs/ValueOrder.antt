@@ -77,8 +77,11 @@ module _ (name_file : ℕ → Rec) (names : ℕ) (named : AreNames name_file nam
   -- no text comes twice among the keys of an element
   are_apart : (es : List Property) → ((k : ℕ) → In k (keys_of es) → k < names) → AreOnce (keys_of es) → AreApart (map (named_property name_file) es)
   are_apart [] known once = tt
-  are_apart (e ∷ es) known once =
-      (find-named name_file names named es e.key (known e.key (inl refl)) (λ k i. known k (inr i)) ∙ ap (option_map (λ (p : Property). p.value)) (absent_key es e.key once.0), are_apart es (λ k i. known k (inr i)) once.1)
+  are_apart (e ∷ es) known once = (
+    find-named name_file names named es e.key (known e.key (inl refl)) (λ k i. known k (inr i)) ∙ ap (option_map (λ (p : Property). p.value))
+        (absent_key es e.key once.0),
+    are_apart es (λ k i. known k (inr i)) once.1,
+  )
 
 -- the rows in order are the entries of the map
 pub entries-sorted : (records : Records) (names : ℕ) → AreNames (rec_at records format.names_file) names → (es : List Property)

@@ -29,8 +29,10 @@ module _ (s : Records) (id : ℕ) where
   -- a node that a line names is the vertex that is read
   pub item_at-node : item_at (graph_of s) (targets.Node id) ≡ element_at s false id
   item_at-node = ⊎_elim
-      (λ (free : kind ≡ 0). ap (option_map vertex_of) (node_not_found s id free) ∙ ap (λ (row : Option views.NodeRow). option_map vertex_of (node_from names (property_records s) row)) (sym (row_none kind (node_in (rec_at s format.nodes_file id) id) free)))
-      (λ (used : kind ≢ 0). ap (option_map vertex_of) (find_collect node_number (node_of s) (high s format.nodes_file) id (nodes_numbered s) (kind_below (high s format.nodes_file) (rec_at s format.nodes_file id) id used)))
+      (λ (free : kind ≡ 0). ap (option_map vertex_of) (node_not_found s id free) ∙ ap (λ (row : Option views.NodeRow). option_map vertex_of
+      (node_from names (property_records s) row)) (sym (row_none kind (node_in (rec_at s format.nodes_file id) id) free)))
+      (λ (used : kind ≢ 0). ap (option_map vertex_of) (find_collect node_number (node_of s) (high s format.nodes_file) id (nodes_numbered s)
+      (kind_below (high s format.nodes_file) (rec_at s format.nodes_file id) id used)))
       (nat_cases kind 0)
     where
       kind : ℕ
@@ -42,7 +44,8 @@ module _ (s : Records) (id : ℕ) where
       (λ (free : kind ≡ 0). ap (option_map edge_item) (find-none (λ edge. nat_eq (edge_number edge) id) (graph_of s).edges (no_edge s id free))
       ∙ ap (λ (row : Option views.RelRow). option_map edge_item (edge_from names (property_records s) row))
       (sym (row_none kind (rel_in (rec_at s format.relationships_file id) id) free)))
-      (λ (used : kind ≢ 0). ap (option_map edge_item) (find_collect edge_number (edge_of s) (high s format.relationships_file) id (edges_numbered s) (kind_below (high s format.relationships_file) (rec_at s format.relationships_file id) id used)))
+      (λ (used : kind ≢ 0). ap (option_map edge_item) (find_collect edge_number (edge_of s) (high s format.relationships_file) id (edges_numbered s)
+      (kind_below (high s format.relationships_file) (rec_at s format.relationships_file id) id used)))
       (nat_cases kind 0)
     where
       kind : ℕ

@@ -77,7 +77,12 @@ made_opened content mid config shape found space made same found_is suits is =
 pub made_log : (content mid now : Files) (shape found : Shape) (made : IsStore content found) → record_at mid ≡ made.space → shape ≡ found
     → HasOnly now (raising_entries found (record_at mid)) → HasOpeningEntry content shape now
 made_log content mid now shape found made same found_is log =
-    inr (made.space, made.redoes, subst (λ (s : Shape). HasOnly now (raising_entries s made.space)) (sym found_is) (subst (λ (r : Key → Rec). HasOnly now (raising_entries found r)) same log))
+    inr (
+      made.space,
+      made.redoes,
+      subst (λ (s : Shape). HasOnly now (raising_entries s made.space)) (sym found_is)
+          (subst (λ (r : Key → Rec). HasOnly now (raising_entries found r)) same log),
+    )
 
 -- what a stop leaves of it
 pub made_crash : {D : Type 0} (g : Ghosts D) (first mid now : D) (shape found : Shape) (space : Key → Rec) → record_at (g.reads mid) ≡ space → shape ≡ found
@@ -108,7 +113,9 @@ pub unmade_crash : {D : Type 0} (g : Ghosts D) (first mid now : D) (config : Con
     → AtEachMoment g first now (λ left. g.may_leave first left ⊎ IsOldOrNew (g.reads first) (shape_of config) left)
 unmade_crash g first mid now config shape unmade same is images before crash =
     at_each_moment_on g first mid now _ _ (unmade_left g first mid config images before) crash
-    (λ left made. inr (⊎_elim (λ none. inl (none.0, none.1 ∙ same)) (λ redoes. inr (Redoes-same left _ _ (ap (λ (records : Key → Rec). laid_over records (creation_pairs shape)) same ∙ ap (made_over (g.reads first)) is) redoes)) made))
+    (λ left made. inr (⊎_elim (λ none. inl (none.0, none.1 ∙ same))
+    (λ redoes. inr (Redoes-same left _ _ (ap (λ (records : Key → Rec). laid_over records (creation_pairs shape)) same ∙ ap (made_over (g.reads first)) is)
+    redoes)) made))
 
 -- the new store
 pub unmade_opened : (content mid : Files) (config : Config) (shape made : Shape) (space : Key → Rec) → IsUnmade content → record_at mid ≡ record_at content
@@ -118,7 +125,11 @@ unmade_opened content mid config shape made space unmade same made_is shape_is i
 
 -- none was made after the recovery either
 pub unmade_mid : (content mid : Files) → IsUnmade content → record_at mid ≡ record_at content → HasEntries mid [] 0 → IsUnmade mid
-unmade_mid content mid unmade same log = record { log = log; blank = λ file is_file. ap (λ (records : Key → Rec). records (meta_key_of file)) same ∙ unmade.blank file is_file }
+unmade_mid content mid unmade same log = record {
+  log = log;
+  blank = λ file is_file. ap (λ (records : Key → Rec). records (meta_key_of file)) same
+      ∙ unmade.blank file is_file;
+}
 
 -- a content with no entry redoes to its own records
 pub redoes_own : (content : Files) → IsUnmade content → Redoes content (record_at content)

@@ -91,7 +91,8 @@ pub appended_crash : {D : Type 0} (g : Ghosts D) (first now : D) (metas : List R
     → ((entries : List Pairs) → AllHaveEntries (g.may_leave first) entries tail → AtEachMoment g first now (IsAppended (g.may_leave first) entries own tail))
     → AtEachMoment g first now (IsAppended (g.may_leave first) (kept.logged reads).entries own tail)
 appended_crash g first now metas changed own tail kept reads images leaves =
-    leaves (kept.logged reads).entries (AllHaveEntries-redo (g.may_leave first) _ tail (space_of g first metas changed) (images_redo_by g first metas changed tail kept reads images))
+    leaves (kept.logged reads).entries (AllHaveEntries-redo (g.may_leave first) _ tail (space_of g first metas changed) (images_redo_by g first metas changed
+    tail kept reads images))
 
 -- it redoes to what was committed, or to that with the new records
 pub before_or_after : {D : Type 0} (g : Ghosts D) (first now : D) (metas : List Rec) (changed own : Pairs) (tail : ℕ) → IsKept g first metas changed tail
@@ -100,7 +101,8 @@ pub before_or_after : {D : Type 0} (g : Ghosts D) (first now : D) (metas : List 
     → AtEachMoment g first now (λ left. Redoes left (space_of g first metas changed) ⊎ Redoes left (laid_over (space_of g first metas changed) own))
 before_or_after g first now metas changed own tail kept reads images leaves =
     at_each_moment_weaker g first now _ _ (appended_crash g first now metas changed own tail kept reads images leaves)
-    (Redoes-appended (g.may_leave first) (kept.logged reads).entries own tail (space_of g first metas changed) (images_redo_by g first metas changed tail kept reads images))
+    (Redoes-appended (g.may_leave first) (kept.logged reads).entries own tail (space_of g first metas changed) (images_redo_by g first metas changed tail kept
+    reads images))
 
 -- so does what is read
 pub read_before_or_after : {D : Type 0} (g : Ghosts D) (first now : D) (metas : List Rec) (changed own : Pairs) (tail : ℕ) → IsKept g first metas changed tail
@@ -149,7 +151,8 @@ pub kept_appended : {D : Type 0} (g : Ghosts D) (first now : D) (metas : List Re
     → (g.tells_reads → (entries : List Pairs) → HasEntries (g.reads first) entries tail → HasOneMore (g.reads now) entries own tail)
     → (g.tells_reads → g.tells_images → Settled log_file (g.reads now) (g.may_leave now))
     → (g.tells_reads → SameButEntry tail own (g.reads first) (g.reads now))
-    → (g.tells_reads → g.tells_images → (entries : List Pairs) → AllHaveEntries (g.may_leave first) entries tail → AtEachMoment g first now (IsAppended (g.may_leave first) entries own tail))
+    → (g.tells_reads → g.tells_images → (entries : List Pairs) → AllHaveEntries (g.may_leave first) entries tail → AtEachMoment g first now
+    (IsAppended (g.may_leave first) entries own tail))
     → IsKept g now metas merged next
 kept_appended g first now metas changed own merged tail next counts kept finds next_is appended settled elsewhere crash = record {
   logged = λ reads.
@@ -164,7 +167,8 @@ kept_appended g first now metas changed own merged tail next counts kept finds n
       left in
       (is.old, is.was_left, is.elsewhere));
   held = λ reads id below.
-      kept.held reads id below ∙ ap (λ (r : Rec). Some r) (sym (record_at-log (meta_key_of id) tail (entry_bytes (length own) + 1) (g.reads first) (g.reads now) (elsewhere reads)));
+      kept.held reads id below ∙ ap (λ (r : Rec). Some r) (sym (record_at-log (meta_key_of id) tail (entry_bytes (length own) + 1) (g.reads first) (g.reads now)
+      (elsewhere reads)));
 }
 
 -- and what is committed then
@@ -186,7 +190,8 @@ kept_now g disk metas changed tail P only kept reads images has = at_each_moment
 -- while a checkpoint is made
 pub checkpoint_crash : {D : Type 0} (g : Ghosts D) (first now : D) (metas : List Rec) (changed : Pairs) (tail : ℕ) → IsKept g first metas changed tail
     → g.tells_reads → g.tells_images
-    → ((tail : ℕ) → IsLogged (g.reads first) changed tail → AreAlike (g.reads first) changed (g.may_leave first) → AtEachMoment g first now (λ left. Redoes left (laid_over (record_at (g.reads first)) changed)))
+    → ((tail : ℕ) → IsLogged (g.reads first) changed tail → AreAlike (g.reads first) changed (g.may_leave first) → AtEachMoment g first now
+    (λ left. Redoes left (laid_over (record_at (g.reads first)) changed)))
     → AtEachMoment g first now (λ left. Redoes left (space_of g first metas changed))
 checkpoint_crash g first now metas changed tail kept reads images crash =
     at_each_moment_weaker g first now _ _ (crash tail (kept.logged reads) (kept.alike reads images))
@@ -205,5 +210,6 @@ pub Either-same : (content : Files) (a b : Key → Rec) (own new_own : Pairs) �
 Either-same content a b own new_own same same_own left =
     ⊎_elim
     (λ before. inl (Redoes-same content a b same before))
-    (λ after. inr (Redoes-same content (laid_over a new_own) (laid_over b own) (ap (λ (records : Key → Rec). laid_over records new_own) same ∙ ap (laid_over b) same_own) after))
+    (λ after. inr (Redoes-same content (laid_over a new_own) (laid_over b own) (ap (λ (records : Key → Rec). laid_over records new_own) same ∙ ap (laid_over b)
+    same_own) after))
     left

@@ -58,7 +58,8 @@ module _ {D : Type 0} {g : Ghosts D} where
         → AtEachMoment g s.base.disk.now disk (λ left. Redoes left (committed s) ⊎ Redoes left (working s))
     crash_read disk is stored told images =
         subst (λ (now : D). AtEachMoment g s.base.disk.now now (λ left. Redoes left (committed s) ⊎ Redoes left (working s))) (sym is)
-        (at_each_moment_weaker g s.base.disk.now m.base.disk.now (g.may_leave s.base.disk.now) (λ left. Redoes left (committed s) ⊎ Redoes left (working s)) (reads.base.disk.time images)
+        (at_each_moment_weaker g s.base.disk.now m.base.disk.now (g.may_leave s.base.disk.now) (λ left. Redoes left (committed s) ⊎ Redoes left (working s))
+        (reads.base.disk.time images)
         (λ image left. inl (stored.images told images image left)))
 
     -- and later the one or the other
@@ -82,7 +83,11 @@ module _ {D : Type 0} {g : Ghosts D} where
     }
 
     pub doubt_on : IsInDoubt m.base t.base → IsInDoubt s.base t.base
-    doubt_on doubt = record { failed = doubt.failed; stored = either_on_disk t.base.disk.now (committed m) (committed s) (working m) (working s) same working_is doubt.stored }
+    doubt_on doubt = record {
+      failed = doubt.failed;
+      stored = either_on_disk t.base.disk.now (committed m) (committed s) (working m) (working s) same working_is
+          doubt.stored;
+    }
 
     -- what was read, and then not called, is what it was
     pub dropped_on : t.base.disk.now ≡ m.base.disk.now → IsOnDisk g t.base.disk.now (λ left. Redoes left (committed m)) → IsTrue t.base.live
@@ -103,7 +108,8 @@ module _ {D : Type 0} {g : Ghosts D} where
         (subst (λ (tail : ℕ). FitsCommit tail s.base.changed.pairs s.base.own.pairs) (sym reads.base.tail) fits))
 
     -- the entry alone, where the commit wrote it alone
-    pub alone_on : (g.tells_reads → FitsCommit m.base.tail m.base.changed.pairs m.base.own.pairs → SameButEntry m.base.tail m.base.own.pairs (content m) (content t))
+    pub alone_on : (g.tells_reads → FitsCommit m.base.tail m.base.changed.pairs m.base.own.pairs → SameButEntry m.base.tail m.base.own.pairs (content m)
+        (content t))
         → g.tells_reads → FitsCommit s.base.tail s.base.changed.pairs s.base.own.pairs → SameButEntry s.base.tail s.base.own.pairs (content s) (content t)
     alone_on later told fits =
         let there : SameButEntry s.base.tail s.base.own.pairs (content m) (content t) =
@@ -118,7 +124,8 @@ module _ {D : Type 0} {g : Ghosts D} where
     -- ---- what snapshots see
 
     module _ (old new : Snapshots)
-        (before : g.tells_reads → (reader : ℕ) → is_open reader new.open_ones ≡ true → sees new.open_ones reader (committed s) ≡ sees old.open_ones reader (committed s)) where
+        (before : g.tells_reads → (reader : ℕ) → is_open reader new.open_ones ≡ true → sees new.open_ones reader (committed s) ≡ sees old.open_ones reader
+        (committed s)) where
       -- over what was committed
       pub sights_before : (disk : D) → IsOnDisk g disk (λ left. Redoes left (committed s)) → KeepsSights g (committed s) disk old new
       sights_before disk stored = λ told space redoes reader is.

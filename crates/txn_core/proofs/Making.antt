@@ -70,7 +70,8 @@ old_or_new g disk shape unmade settled left is =
     is.entries_are
 
 pub new_crash : {D : Type 0} (g : Ghosts D) (first now : D) (shape : Shape) → IsUnmade (g.reads first) → IsAllSettled g first
-    → ((entries : List Pairs) → AllHaveEntries (g.may_leave first) entries 0 → AtEachMoment g first now (IsAppended (g.may_leave first) entries (creation_pairs shape) 0))
+    → ((entries : List Pairs) → AllHaveEntries (g.may_leave first) entries 0 → AtEachMoment g first now (IsAppended (g.may_leave first) entries
+    (creation_pairs shape) 0))
     → AtEachMoment g first now (IsOldOrNew (g.reads first) shape)
 new_crash g first now shape unmade settled leaves =
     at_each_moment_weaker g first now _ _
@@ -83,7 +84,8 @@ pub new_space : (first now : Files) (shape : Shape) (metas : List Rec) (changed 
     → SameButEntry 0 creation first now → laid_over (with_metas metas (record_at now)) merged ≡ made_over first shape
 new_space first now shape metas changed creation merged blank none is unmade finds elsewhere =
     let held : AreMetasOf (record_at now) metas = subst (AreMetasOf (record_at now)) (sym blank)
-    (λ id below. held_unmade first unmade id below ∙ ap (λ (r : Rec). Some r) (sym (record_at-log (meta_key_of id) 0 (entry_bytes (length creation) + 1) first now elsewhere))) in
+    (λ id below. held_unmade first unmade id below ∙ ap (λ (r : Rec). Some r) (sym (record_at-log (meta_key_of id) 0 (entry_bytes (length creation) + 1)
+    first now elsewhere))) in
     ap (λ (records : Key → Rec). laid_over records merged) (with_metas-same metas (record_at now) held)
     ∙ space-merged first now changed creation merged 0 finds elsewhere
     ∙ ap (λ (pairs : Pairs). laid_over (laid_over (record_at first) pairs) creation) none

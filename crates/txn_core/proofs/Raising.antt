@@ -60,7 +60,8 @@ pub raise_crash : {D : Type 0} (g : Ghosts D) (first now : D) (metas : List Rec)
 raise_crash g first now metas own shape is old kept reads images crash =
     let space = with_metas metas (record_at (g.reads first)) in
     at_each_moment_weaker g first now _ _ (before_or_after g first now metas [] own 0 kept reads images crash)
-    (λ left. ⊎_elim (λ was. inl was) (λ more. inr (Redoes-same left (laid_over space own) (raised shape space) (ap (laid_over space) is ∙ sym (raised_old shape space old)) more)))
+    (λ left. ⊎_elim (λ was. inl was) (λ more. inr (Redoes-same left (laid_over space own) (raised shape space) (ap (laid_over space) is ∙ sym
+    (raised_old shape space old)) more)))
 
 -- an entry more leaves a settled disk settled
 pub settled_appended : {D : Type 0} (g : Ghosts D) (first now : D) (own : Pairs) → CountsNow g → g.tells_images → HasEntries (g.reads first) [] 0
@@ -68,7 +69,8 @@ pub settled_appended : {D : Type 0} (g : Ghosts D) (first now : D) (own : Pairs)
     → ((entries : List Pairs) → AllHaveEntries (g.may_leave first) entries 0 → AtEachMoment g first now (IsAppended (g.may_leave first) entries own 0))
     → SameButEntry 0 own (g.reads first) (g.reads now) → Settled log_file (g.reads now) (g.may_leave now) → IsAllSettled g now
 settled_appended g first now own counts images log settled crash elsewhere logged file below image left place =
-    let is = at_each_moment_now g first now _ counts images (crash [] (λ old was. HasEntries-read [] 0 (g.reads first) old log (settled-log g first settled old was))) image left in
+    let is = at_each_moment_now g first now _ counts images (crash [] (λ old was. HasEntries-read [] 0 (g.reads first) old log
+    (settled-log g first settled old was))) image left in
     ⊎_elim
     (λ record_file.
     let other = is_record_file-not_log file record_file in

@@ -42,7 +42,14 @@ growth_by-one pair ps (next ∷ rest) rising = by_cmp next.0 pair.0 (growth_by p
     (λ e. another (apart next.0 pair.0 Less e (λ x. cc)) (growth_by-one pair ps rest rising.1))
     (λ e.
     let below = subst (λ (key : Key). IsBelow key rest) (exact_keys next.0 pair.0 e) rising.0 in
-    omega (arith, growth_by-step ps next rest rising, growth_by-step (pair ∷ ps) next rest rising, growth_le ps next.0, growth_by-above pair ps rest below rising.1))
+    omega (
+      arith,
+      growth_by-step ps next rest rising,
+      growth_by-step (pair ∷ ps) next rest rising,
+      growth_le ps next.0,
+      growth_by-above pair ps rest below
+          rising.1,
+    ))
     (λ e. another (apart next.0 pair.0 Greater e (λ x. cc)) (growth_by-one pair ps rest rising.1))
   where
     another : key_eq next.0 pair.0 ≡ false → growth_by ps rest ≤ 1 + growth_by (pair ∷ ps) rest

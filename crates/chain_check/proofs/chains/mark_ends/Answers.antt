@@ -84,10 +84,12 @@ returns-in-None-2-clause-met g c = λ tells.
     let node_told : (p : ℕ) → Decides (marked first p) (AmongHeads (IsSparse s.records) (AreNodeEnds s.records) nodes p) =
     told_clear (IsSparse s.records) (AreNodeEnds s.records) nodes c.args.marks.now first c.requires.clear told in
     let node_heads : (k : ℕ) → k < nodes → HeadKeeps (IsSparse s.records) (AreNodeEnds s.records) k = search (rules, c.in_ok-id.ensures.keeps tells) in
-    let marks : IfNone c.in_ok-id-2.field-0 ((p : ℕ) → Decides (marked last p) ((marked first p ≡ true) ⊎ AmongHeads (λ k. IsChained chained s.records (group_of k)) (AreGroupEnds s.records) groups p))
+    let marks : IfNone c.in_ok-id-2.field-0 ((p : ℕ) → Decides (marked last p) ((marked first p ≡ true) ⊎ AmongHeads (λ k. IsChained chained s.records
+    (group_of k)) (AreGroupEnds s.records) groups p))
     = subst (λ (r : Records). IfNone c.in_ok-id-2.field-0 ((p : ℕ) → Decides (marked last p) ((marked first p ≡ true) ⊎ AmongHeads
     (λ k. IsChained chained r (group_of k)) (AreGroupEnds r) groups p))) c.in_ok-id.ensures.read.records (c.in_ok-id-2.ensures.marks tells) in
-    let group_told : (p : ℕ) → Decides (marked last p) ((marked first p ≡ true) ⊎ AmongHeads (λ k. IsChained chained s.records (group_of k)) (AreGroupEnds s.records) groups p) = search (rules, marks) in
+    let group_told : (p : ℕ) → Decides (marked last p) ((marked first p ≡ true) ⊎ AmongHeads (λ k. IsChained chained s.records (group_of k))
+    (AreGroupEnds s.records) groups p) = search (rules, marks) in
     let keeps : IfNone c.in_ok-id-2.field-0 ((k : ℕ) → k < groups → HeadKeeps (λ k. IsChained chained s.records (group_of k)) (AreGroupEnds s.records) k)
     = subst (λ (r : Records). IfNone c.in_ok-id-2.field-0 ((k : ℕ) → k < groups → HeadKeeps (λ k. IsChained chained r (group_of k)) (AreGroupEnds r) k))
     c.in_ok-id.ensures.read.records (c.in_ok-id-2.ensures.keeps tells) in
@@ -96,7 +98,8 @@ returns-in-None-2-clause-met g c = λ tells.
     = subst (λ (r : Records). IfNone c.in_ok-id-2.field-0 ((p : ℕ) → IsOnce (λ k. IsChained chained r (group_of k)) (AreGroupEnds r) groups p))
     c.in_ok-id.ensures.read.records (c.in_ok-id-2.ensures.once tells) in
     let group_once : (p : ℕ) → IsOnce (λ k. IsChained chained s.records (group_of k)) (AreGroupEnds s.records) groups p = search (rules, once) in
-    let all_told = subst (λ m. (p : ℕ) → Decides (marked last p) ((marked first p ≡ true) ⊎ AmongHeads (λ k. IsChained chained s.records (group_of k)) (AreGroupEnds s.records) (3 * m) p)) group_mark group_told in
+    let all_told = subst (λ m. (p : ℕ) → Decides (marked last p) ((marked first p ≡ true) ⊎ AmongHeads (λ k. IsChained chained s.records (group_of k))
+    (AreGroupEnds s.records) (3 * m) p)) group_mark group_told in
     record {
       nodes = nodes_keep s.records (λ n lt. keeps_of_head s.records n (node_heads n lt));
       groups = keeps_of_heads s.records chained right (λ k low. group_heads k (omega arith));

@@ -39,7 +39,8 @@ returns-clause-marks g c = λ tells.
     let old = c.args.marks.now in
     let new = c.list_heads.new.marks in
     let mark : nodes ≡ high records nodes_file = ap (λ (m : Meta). m.high) c.meta-nodes.ensures ∙ ap (λ (r : Records). high r nodes_file) same in
-    IfOk-weaker c.list_heads.result (λ found. IfNone found ((p : ℕ) → Decides (marked new p) ((marked old p ≡ true) ⊎ AmongHeads (IsSparse after) (AreRowEndsOf rows after) nodes p))) _
+    IfOk-weaker c.list_heads.result (λ found. IfNone found ((p : ℕ) → Decides (marked new p) ((marked old p ≡ true) ⊎ AmongHeads (IsSparse after)
+    (AreRowEndsOf rows after) nodes p))) _
     (marks_found records after rows nodes same mark (subst (AreLinkRows records) (sym is) (c.in_ok-rows.ensures.rows tells))
     (ap length is ∙ c.in_ok-rows.ensures.len) (c.requires.low nodes_file refl) (c.requires.low relationships_file refl) old new) (c.list_heads.ensures.marks
     tells)

@@ -28,7 +28,11 @@ returns-in-Some-clause-decided g c = λ tells.
     let bad : (id < c.meta-nodes.result.high) × (¬ HasDegree degrees s.records id) = search (rules, found) in
     let low : id < length degrees.counts.items = let len = c.in_ok-degrees.ensures.len in omega (arith, bad.0) in
     breaks_by s.records s.shape 7 _ (damage 1 id 7) refl refl (WrongDegree id (omega (arith, bad.0)) (λ (k : DegreeKeeps s.records s.shape.threshold id).
-    bad.1 (record { exact = λ live. k.exact live ∙ sym (counts id low); few = λ is. let le = k.few is in let t = c.in_ok-degrees.ensures.threshold in omega arith })))
+    bad.1 (record {
+      exact = λ live. k.exact live ∙ sym (counts id low);
+      few = λ is. let le = k.few is in let t = c.in_ok-degrees.ensures.threshold in omega
+          arith;
+    })))
 
 pub returns-clause-decided : goal.returns-clause-decided
 returns-clause-decided g c = λ tells.

@@ -32,7 +32,11 @@ returns-clause-decided g c = λ tells.
     = subst (λ (r : Records). IfNone c.in_ok-id.field-0 ((k : ℕ) → k < high r groups_file → CountsHold r k)) c.in_ok-damage.ensures.read.records
     (c.in_ok-id.ensures.none tells) in
     let hold : (k : ℕ) → k < high s.records groups_file → CountsHold s.records k = search (rules, none) in
-    record { grouped = grouped; exact = are_exact s.records (linked_of s.records grouped (c.requires.chained tells)) (c.requires.low relationships_file refl) grouped hold }
+    record {
+      grouped = grouped;
+      exact = are_exact s.records (linked_of s.records grouped (c.requires.chained tells)) (c.requires.low relationships_file refl)
+          grouped hold;
+    }
 
 pub returns-in_err-damage-clause-cause : goal.returns-in_err-damage-clause-cause
 returns-in_err-damage-clause-cause g c =

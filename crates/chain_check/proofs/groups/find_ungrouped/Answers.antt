@@ -40,7 +40,8 @@ returns-in-Some-clause-broken g c = λ tells.
     let marks = c.list_heads.new.marks in
     let id = c.in-Some.id in
     let mark : c.meta-nodes.result.high ≡ high s.records nodes_file = ap (λ (m : Meta). m.high) c.meta-nodes.ensures in
-    let told : (p : ℕ) → Decides (marked marks p) ((marked c.args.marks.now p ≡ true) ⊎ AmongHeads (IsDense s.records) (IsGroupChain s.records) c.meta-nodes.result.high p) = search (rules, c.in_ok-id.ensures.marks tells) in
+    let told : (p : ℕ) → Decides (marked marks p) ((marked c.args.marks.now p ≡ true) ⊎ AmongHeads (IsDense s.records) (IsGroupChain s.records)
+    c.meta-nodes.result.high p) = search (rules, c.in_ok-id.ensures.marks tells) in
     let told2 : (p : ℕ) → Decides (marked marks p) (AmongHeads (IsDense s.records) (IsGroupChain s.records) (high s.records nodes_file) p)
     = subst (λ m. (p : ℕ) → Decides (marked marks p) (AmongHeads (IsDense s.records) (IsGroupChain s.records) m p)) mark
     (told_clear (IsDense s.records) (IsGroupChain s.records) c.meta-nodes.result.high c.args.marks.now marks c.requires.clear told) in
@@ -56,7 +57,8 @@ returns-in-None-2-clause-grouped g c = λ tells.
     let s = g.R.Reads.state c.args.space.now in
     let marks = c.list_heads.new.marks in
     let mark : c.meta-nodes.result.high ≡ high s.records nodes_file = ap (λ (m : Meta). m.high) c.meta-nodes.ensures in
-    let told : (p : ℕ) → Decides (marked marks p) ((marked c.args.marks.now p ≡ true) ⊎ AmongHeads (IsDense s.records) (IsGroupChain s.records) c.meta-nodes.result.high p) = search (rules, c.in_ok-id.ensures.marks tells) in
+    let told : (p : ℕ) → Decides (marked marks p) ((marked c.args.marks.now p ≡ true) ⊎ AmongHeads (IsDense s.records) (IsGroupChain s.records)
+    c.meta-nodes.result.high p) = search (rules, c.in_ok-id.ensures.marks tells) in
     let told2 : (p : ℕ) → Decides (marked marks p) (AmongHeads (IsDense s.records) (IsGroupChain s.records) (high s.records nodes_file) p)
     = subst (λ m. (p : ℕ) → Decides (marked marks p) (AmongHeads (IsDense s.records) (IsGroupChain s.records) m p)) mark
     (told_clear (IsDense s.records) (IsGroupChain s.records) c.meta-nodes.result.high c.args.marks.now marks c.requires.clear told) in

@@ -28,7 +28,8 @@ returns-then-not-are_distinct-clause-told g c = λ tells xs h.
     ∙ ap (map (group_label records)) c.deref.ensures.value in
     let bad : c.are_distinct.result ≡ false = search rules in
     let same = groups_one records c.args.node c.args.high c.args.first c.requires xs ids h.line it in
-    true≢false (sym (c.are_distinct.ensures.1 (subst (IsDistinct nat_eq) (sym types) (subst (λ ys. IsDistinct nat_eq (map (group_label records) ys)) same h.types))) ∙ bad)
+    true≢false (sym (c.are_distinct.ensures.1 (subst (IsDistinct nat_eq) (sym types) (subst (λ ys. IsDistinct nat_eq (map (group_label records) ys))
+    same h.types))) ∙ bad)
 
 pub returns-clause-told : goal.returns-clause-told
 returns-clause-told g c = λ tells.

@@ -35,41 +35,49 @@ loop-count-preserved g c =
     let at = c.loop-count.at in
     let some = c.if-at.false in
     let low : at < rel_mark s = let mark = mark_then s now n c.loop-count.invariant.read in omega (arith, c.in_ok-read_next.ensures.known.low some) in
-    let is : c.link-at.result ≡ next_in c.read_next.new.rec node = next_read c.read_next.new.rec node c.place_of.result c.link-at.result c.place_of.ensures.is c.link-at.ensures in
+    let is : c.link-at.result ≡ next_in c.read_next.new.rec node = next_read c.read_next.new.rec node c.place_of.result c.link-at.result c.place_of.ensures.is
+    c.link-at.ensures in
     record {
       counts = λ tells.
           let got = rec_then s now n at c.read_next.new.rec c.loop-count.invariant.read (c.in_ok-read_next.ensures.got tells) in
           let back = step_then s now n node at c.loop-count.before c.loop-count.invariant.read (c.in_ok-read_next.ensures.back tells) in
-          counts_more s c.args.chain.now.first node c.args.members c.loop-count.before at c.link-at.result n c.read_next.new.rec some low c.in_ok-read_next.ensures.key back got is (sym c.is_member.ensures ∙ c.if-not-is_member.false) (c.loop-count.invariant.counts tells);
+          counts_more s c.args.chain.now.first node c.args.members c.loop-count.before at c.link-at.result n c.read_next.new.rec some low
+          c.in_ok-read_next.ensures.key back got is (sym c.is_member.ensures ∙ c.if-not-is_member.false) (c.loop-count.invariant.counts tells);
       rest = λ tells xs chain.
           let got = rec_then s now n at c.read_next.new.rec c.loop-count.invariant.read (c.in_ok-read_next.ensures.got tells) in
           rest_more s node c.args.members c.loop-count.before at c.link-at.result c.read_next.new.rec some got is (c.loop-count.invariant.rest tells xs chain);
       read = reads_more s now (g.R.Reads.state c.read_next.new.space) n (n + 1) refl c.loop-count.invariant.read c.in_ok-read_next.ensures.state;
-      onward = g.met.R.Reads.further_onward c.args.space.now c.loop-count.space c.read_next.new.space c.loop-count.invariant.onward c.in_ok-read_next.ensures.onward;
+      onward = g.met.R.Reads.further_onward c.args.space.now c.loop-count.space c.read_next.new.space c.loop-count.invariant.onward
+          c.in_ok-read_next.ensures.onward;
       later = let cause = c.in_ok-read_next.ensures.cause in omega (arith, c.loop-count.invariant.later, cause.later);
     }
 
 pub read_next-requires-clause-reach : goal.read_next-requires-clause-reach
 read_next-requires-clause-reach g c =
-    reach_then (g.R.Reads.state c.args.space.now) (g.R.Reads.state c.loop-count.space) c.loop-count.count c.reach_of-reach.result c.loop-count.invariant.read c.reach_of-reach.ensures
+    reach_then (g.R.Reads.state c.args.space.now) (g.R.Reads.state c.loop-count.space) c.loop-count.count c.reach_of-reach.result c.loop-count.invariant.read
+    c.reach_of-reach.ensures
 
 pub returns-in_err-read_next-clause-at_most : goal.returns-in_err-read_next-clause-at_most
 returns-in_err-read_next-clause-at_most g c =
-    reads_within (g.R.Reads.state c.args.space.now) (g.R.Reads.state c.loop-count.space) (g.R.Reads.state c.read_next.new.space) c.loop-count.count c.args.budget
+    reads_within (g.R.Reads.state c.args.space.now) (g.R.Reads.state c.loop-count.space) (g.R.Reads.state c.read_next.new.space) c.loop-count.count
+    c.args.budget
     (omega (arith, c.loop-count-test.true)) c.loop-count.invariant.read c.in_err-read_next.ensures.at_most
 
 pub returns-in_err-read_next-clause-damaged : goal.returns-in_err-read_next-clause-damaged
 returns-in_err-read_next-clause-damaged g c = λ tells.
     let p = err_from_is_err_and c.from_residual.result c.from_residual.ensures.1 in
-    rw (p.1, p.2) (step_fault (g.R.Reads.state c.args.space.now) (g.R.Reads.state c.loop-count.space) c.loop-count.count c.args.chain.now.owner c.args.chain.now.first c.args.chain.now.node c.args.members c.loop-count.before c.loop-count.at
+    rw (p.1, p.2) (step_fault (g.R.Reads.state c.args.space.now) (g.R.Reads.state c.loop-count.space) c.loop-count.count c.args.chain.now.owner
+    c.args.chain.now.first c.args.chain.now.node c.args.members c.loop-count.before c.loop-count.at
     c.in_err-read_next.field-0.0 c.loop-count.invariant.read c.if-at.false (c.loop-count.invariant.rest tells) (c.in_err-read_next.ensures.damaged tells))
 
 pub returns-in_err-read_next-clause-breaks : goal.returns-in_err-read_next-clause-breaks
 returns-in_err-read_next-clause-breaks g c = λ tells head key first owns right.
     let s = g.R.Reads.state c.args.space.now in
     let p = err_from_is_err_and c.from_residual.result c.from_residual.ensures.1 in
-    rw (p.1, p.2) (length_fault_breaks s c.args.chain.now.owner c.args.chain.now.first c.args.chain.now.node head key first owns c.args.members c.in_err-read_next.field-0.0 right
-    (step_fault s (g.R.Reads.state c.loop-count.space) c.loop-count.count c.args.chain.now.owner c.args.chain.now.first c.args.chain.now.node c.args.members c.loop-count.before c.loop-count.at
+    rw (p.1, p.2) (length_fault_breaks s c.args.chain.now.owner c.args.chain.now.first c.args.chain.now.node head key first owns c.args.members
+    c.in_err-read_next.field-0.0 right
+    (step_fault s (g.R.Reads.state c.loop-count.space) c.loop-count.count c.args.chain.now.owner c.args.chain.now.first c.args.chain.now.node c.args.members
+    c.loop-count.before c.loop-count.at
     c.in_err-read_next.field-0.0 c.loop-count.invariant.read c.if-at.false (c.loop-count.invariant.rest tells) (c.in_err-read_next.ensures.damaged tells)))
 
 pub returns-in_err-read_next-clause-sound : goal.returns-in_err-read_next-clause-sound
@@ -77,12 +85,14 @@ returns-in_err-read_next-clause-sound g c = λ tells mark xs chain.
     let s = g.R.Reads.state c.args.space.now in
     let p = err_from_is_err_and c.from_residual.result c.from_residual.ensures.1 in
     rw (p.1, p.2) (undamaged s c.args.chain.now.owner c.args.chain.now.first c.args.chain.now.node c.args.members xs c.in_err-read_next.field-0.0 mark chain
-    (step_fault s (g.R.Reads.state c.loop-count.space) c.loop-count.count c.args.chain.now.owner c.args.chain.now.first c.args.chain.now.node c.args.members c.loop-count.before c.loop-count.at
+    (step_fault s (g.R.Reads.state c.loop-count.space) c.loop-count.count c.args.chain.now.owner c.args.chain.now.first c.args.chain.now.node c.args.members
+    c.loop-count.before c.loop-count.at
     c.in_err-read_next.field-0.0 c.loop-count.invariant.read c.if-at.false (c.loop-count.invariant.rest tells) (c.in_err-read_next.ensures.damaged tells)))
 
 pub returns-then-at-clause-counted : goal.returns-then-at-clause-counted
 returns-then-at-clause-counted g c = λ tells.
-    counts_all (g.R.Reads.state c.args.space.now) c.args.chain.now.first c.args.chain.now.node c.args.members c.args.budget c.loop-count.before c.loop-count.at c.loop-count.count (λ lt. c.if-at.true) (c.loop-count.invariant.counts tells)
+    counts_all (g.R.Reads.state c.args.space.now) c.args.chain.now.first c.args.chain.now.node c.args.members c.args.budget c.loop-count.before c.loop-count.at
+    c.loop-count.count (λ lt. c.if-at.true) (c.loop-count.invariant.counts tells)
 
 pub returns-then-not-is_member-clause-at_most : goal.returns-then-not-is_member-clause-at_most
 returns-then-not-is_member-clause-at_most g c =
@@ -98,7 +108,8 @@ returns-then-not-is_member-clause-damaged g c = λ tells.
     let low : at < rel_mark s = let mark = mark_then s now n c.loop-count.invariant.read in omega (arith, c.in_ok-read_next.ensures.known.low c.if-at.false) in
     let got = rec_then s now n at c.read_next.new.rec c.loop-count.invariant.read (c.in_ok-read_next.ensures.got tells) in
     subst (IsLengthDamage s c.args.chain.now.owner c.args.chain.now.first c.args.chain.now.node c.args.members) (sym c.chain_damage.ensures)
-    (NoChain (no_member s c.args.chain.now.first c.args.chain.now.node c.args.members c.loop-count.before at c.read_next.new.rec c.if-at.false low got (sym c.is_member.ensures ∙ c.if-not-is_member.true) (c.loop-count.invariant.rest tells)))
+    (NoChain (no_member s c.args.chain.now.first c.args.chain.now.node c.args.members c.loop-count.before at c.read_next.new.rec c.if-at.false low got
+    (sym c.is_member.ensures ∙ c.if-not-is_member.true) (c.loop-count.invariant.rest tells)))
 
 pub returns-then-not-is_member-clause-breaks : goal.returns-then-not-is_member-clause-breaks
 returns-then-not-is_member-clause-breaks g c = λ tells head key first owns right.
@@ -109,8 +120,10 @@ returns-then-not-is_member-clause-breaks g c = λ tells head key first owns righ
     let low : at < rel_mark s = let mark = mark_then s now n c.loop-count.invariant.read in omega (arith, c.in_ok-read_next.ensures.known.low c.if-at.false) in
     let got = rec_then s now n at c.read_next.new.rec c.loop-count.invariant.read (c.in_ok-read_next.ensures.got tells) in
     subst (λ (d : Damage). Breaks s.records s.shape d) (sym c.chain_damage.ensures)
-    (length_breaks s c.args.chain.now.owner c.args.chain.now.first c.args.chain.now.node head key first owns c.args.members (chain_damage c.args.chain.now.owner) right
-    (NoChain (no_member s c.args.chain.now.first c.args.chain.now.node c.args.members c.loop-count.before at c.read_next.new.rec c.if-at.false low got (sym c.is_member.ensures ∙ c.if-not-is_member.true) (c.loop-count.invariant.rest tells))))
+    (length_breaks s c.args.chain.now.owner c.args.chain.now.first c.args.chain.now.node head key first owns c.args.members
+    (chain_damage c.args.chain.now.owner) right
+    (NoChain (no_member s c.args.chain.now.first c.args.chain.now.node c.args.members c.loop-count.before at c.read_next.new.rec c.if-at.false low got
+    (sym c.is_member.ensures ∙ c.if-not-is_member.true) (c.loop-count.invariant.rest tells))))
 
 pub returns-then-not-is_member-clause-sound : goal.returns-then-not-is_member-clause-sound
 returns-then-not-is_member-clause-sound g c = λ tells mark xs chain.
@@ -120,17 +133,21 @@ returns-then-not-is_member-clause-sound g c = λ tells mark xs chain.
     let at = c.loop-count.at in
     let low : at < rel_mark s = let mark = mark_then s now n c.loop-count.invariant.read in omega (arith, c.in_ok-read_next.ensures.known.low c.if-at.false) in
     let got = rec_then s now n at c.read_next.new.rec c.loop-count.invariant.read (c.in_ok-read_next.ensures.got tells) in
-    no_member s c.args.chain.now.first c.args.chain.now.node c.args.members c.loop-count.before at c.read_next.new.rec c.if-at.false low got (sym c.is_member.ensures ∙ c.if-not-is_member.true) (c.loop-count.invariant.rest tells) xs chain
+    no_member s c.args.chain.now.first c.args.chain.now.node c.args.members c.loop-count.before at c.read_next.new.rec c.if-at.false low got
+    (sym c.is_member.ensures ∙ c.if-not-is_member.true) (c.loop-count.invariant.rest tells) xs chain
 
 pub returns-clause-counted : goal.returns-clause-counted
 returns-clause-counted g c = λ tells.
     let all : c.loop-count.count ≡ c.args.budget = omega (arith, c.loop-count.auto.count-end, c.loop-count-test.false) in
-    counts_all (g.R.Reads.state c.args.space.now) c.args.chain.now.first c.args.chain.now.node c.args.members c.args.budget c.loop-count.before c.loop-count.at c.args.budget (λ lt. absurd (omega arith))
-    (subst (CountsSoFar (g.R.Reads.state c.args.space.now) c.args.chain.now.first c.args.chain.now.node c.args.members c.loop-count.before c.loop-count.at) all (c.loop-count.invariant.counts tells))
+    counts_all (g.R.Reads.state c.args.space.now) c.args.chain.now.first c.args.chain.now.node c.args.members c.args.budget c.loop-count.before c.loop-count.at
+    c.args.budget (λ lt. absurd (omega arith))
+    (subst (CountsSoFar (g.R.Reads.state c.args.space.now) c.args.chain.now.first c.args.chain.now.node c.args.members c.loop-count.before c.loop-count.at) all
+    (c.loop-count.invariant.counts tells))
 
 pub returns-in_err-read_next-clause-cause : goal.returns-in_err-read_next-clause-cause
 returns-in_err-read_next-clause-cause g c =
-    cause_passed _ _ _ c.from_residual.result c.in_err-read_next.field-0.0 c.loop-count.invariant.later c.in_err-read_next.ensures.cause c.from_residual.ensures.1
+    cause_passed _ _ _ c.from_residual.result c.in_err-read_next.field-0.0 c.loop-count.invariant.later c.in_err-read_next.ensures.cause
+    c.from_residual.ensures.1
 
 pub returns-in_err-read_next-clause-counted : goal.returns-in_err-read_next-clause-counted
 returns-in_err-read_next-clause-counted g c _ = never_ok c.from_residual.result _ _ c.from_residual.ensures.1

@@ -19,17 +19,21 @@ pub returns-in_err-test_link-clause-damaged : goal.returns-in_err-test_link-clau
 returns-in_err-test_link-clause-damaged g c = λ tells.
     let s = g.S.Reads.state c.args.space.now in
     let p = err_from_is_err_and c.from_residual-in_err-test_link.result c.from_residual-in_err-test_link.ensures.1 in
-    let first : c.number-first.result ≡ first_of s.records (head_of c.args.head) = c.number-first.ensures ∙ ap (λ r. field 4 r c.args.head.field) (c.in_ok-rec.ensures.got tells) in
-    rw (p.1, p.2) (damage_read s (g.S.Reads.state c.get.new.self) c.number-first.result (first_of s.records (head_of c.args.head)) (first_damage c.args.head.key) c.in_err-test_link.field-0.0
+    let first : c.number-first.result ≡ first_of s.records (head_of c.args.head) = c.number-first.ensures ∙ ap (λ r. field 4 r c.args.head.field)
+    (c.in_ok-rec.ensures.got tells) in
+    rw (p.1, p.2) (damage_read s (g.S.Reads.state c.get.new.self) c.number-first.result (first_of s.records (head_of c.args.head))
+    (first_damage c.args.head.key) c.in_err-test_link.field-0.0
     c.in_ok-rec.ensures.state first c.in_err-test_link.ensures.damaged)
 
 pub returns-in_err-test_link-clause-breaks : goal.returns-in_err-test_link-clause-breaks
 returns-in_err-test_link-clause-breaks g c = λ tells n owns.
     let s = g.S.Reads.state c.args.space.now in
     let p = err_from_is_err_and c.from_residual-in_err-test_link.result c.from_residual-in_err-test_link.ensures.1 in
-    let first : c.number-first.result ≡ first_of s.records (head_of c.args.head) = c.number-first.ensures ∙ ap (λ r. field 4 r c.args.head.field) (c.in_ok-rec.ensures.got tells) in
+    let first : c.number-first.result ≡ first_of s.records (head_of c.args.head) = c.number-first.ensures ∙ ap (λ r. field 4 r c.args.head.field)
+    (c.in_ok-rec.ensures.got tells) in
     rw (p.1, p.2) (head_breaks s (head_of c.args.head) n c.in_err-test_link.field-0.0 owns
-    (damage_read s (g.S.Reads.state c.get.new.self) c.number-first.result (first_of s.records (head_of c.args.head)) (first_damage c.args.head.key) c.in_err-test_link.field-0.0
+    (damage_read s (g.S.Reads.state c.get.new.self) c.number-first.result (first_of s.records (head_of c.args.head)) (first_damage c.args.head.key)
+    c.in_err-test_link.field-0.0
     c.in_ok-rec.ensures.state first c.in_err-test_link.ensures.damaged))
 
 pub returns-clause-ok : goal.returns-clause-ok
@@ -42,28 +46,33 @@ returns-clause-chains g c = λ tells xs can.
     let old = g.S.Reads.state c.args.space.now in
     let is : g.S.Reads.state c.put.new.self ≡ pushed old (head_of c.args.head) c.args.node c.args.rel = returns-clause-ok g c tells in
     let small : c.args.rel < 2 ^ 25 = omega (arith, c.requires.rel.id) in
-    subst (λ (new : State). HasPushed old.records new.records (head_of c.args.head) c.args.node c.args.rel xs) (sym is) (has_pushed old (head_of c.args.head) c.args.node c.args.rel c.requires.head.place xs small can)
+    subst (λ (new : State). HasPushed old.records new.records (head_of c.args.head) c.args.node c.args.rel xs) (sym is) (has_pushed old (head_of c.args.head)
+    c.args.node c.args.rel c.requires.head.place xs small can)
 
 pub returns-in_err-test_link-clause-cause : goal.returns-in_err-test_link-clause-cause
 returns-in_err-test_link-clause-cause g c =
-    damage_cause _ _ c.from_residual-in_err-test_link.result c.in_err-test_link.field-0.0 c.in_ok-rec.ensures.cause.later c.from_residual-in_err-test_link.ensures.1
+    damage_cause _ _ c.from_residual-in_err-test_link.result c.in_err-test_link.field-0.0 c.in_ok-rec.ensures.cause.later
+    c.from_residual-in_err-test_link.ensures.1
 
 pub returns-in_err-back-clause-cause : goal.returns-in_err-back-clause-cause
 returns-in_err-back-clause-cause g c =
-    space_cause_passed _ _ _ c.from_residual-in_err-back.result c.in_err-back.field-0.0 c.in_ok-rec.ensures.cause.later c.in_err-back.ensures.cause c.from_residual-in_err-back.ensures.1
+    space_cause_passed _ _ _ c.from_residual-in_err-back.result c.in_err-back.field-0.0 c.in_ok-rec.ensures.cause.later c.in_err-back.ensures.cause
+    c.from_residual-in_err-back.ensures.1
 
 pub returns-in_err-set_next-clause-cause : goal.returns-in_err-set_next-clause-cause
 returns-in_err-set_next-clause-cause g c =
     let later0 = c.in_ok-rec.ensures.cause.later in
     let later1 = c.in_ok-back.ensures.cause.later in
-    space_cause_passed _ _ _ c.from_residual-in_err-set_next.result c.in_err-set_next.field-0.0 (omega (arith, later0, later1)) c.in_err-set_next.ensures.cause c.from_residual-in_err-set_next.ensures.1
+    space_cause_passed _ _ _ c.from_residual-in_err-set_next.result c.in_err-set_next.field-0.0 (omega (arith, later0, later1)) c.in_err-set_next.ensures.cause
+    c.from_residual-in_err-set_next.ensures.1
 
 pub returns-in_err-put-clause-cause : goal.returns-in_err-put-clause-cause
 returns-in_err-put-clause-cause g c =
     let later0 = c.in_ok-rec.ensures.cause.later in
     let later1 = c.in_ok-back.ensures.cause.later in
     let later2 = c.in_ok-set_next.ensures.cause.later in
-    space_cause_passed _ _ _ c.from_residual-in_err-put.result c.in_err-put.field-0.0 (omega (arith, later0, later1, later2)) c.in_err-put.ensures.cause c.from_residual-in_err-put.ensures.1
+    space_cause_passed _ _ _ c.from_residual-in_err-put.result c.in_err-put.field-0.0 (omega (arith, later0, later1, later2)) c.in_err-put.ensures.cause
+    c.from_residual-in_err-put.ensures.1
 
 pub returns-in_err-rec-clause-chains : goal.returns-in_err-rec-clause-chains
 returns-in_err-rec-clause-chains g c _ = never_ok c.from_residual.result _ _ c.from_residual.ensures.1
@@ -170,16 +179,20 @@ pub returns-in_err-back-clause-unwritten : goal.returns-in_err-back-clause-unwri
 returns-in_err-back-clause-unwritten g c = space_has _ tt tt c.from_residual-in_err-back.result c.in_err-back.field-0.0 c.from_residual-in_err-back.ensures.1
 
 pub returns-in_err-set_next-clause-damaged : goal.returns-in_err-set_next-clause-damaged
-returns-in_err-set_next-clause-damaged g c _ = space_has _ tt tt c.from_residual-in_err-set_next.result c.in_err-set_next.field-0.0 c.from_residual-in_err-set_next.ensures.1
+returns-in_err-set_next-clause-damaged g c _ = space_has _ tt tt c.from_residual-in_err-set_next.result c.in_err-set_next.field-0.0
+    c.from_residual-in_err-set_next.ensures.1
 
 pub returns-in_err-set_next-clause-breaks : goal.returns-in_err-set_next-clause-breaks
-returns-in_err-set_next-clause-breaks g c _ _ _ = space_has _ tt tt c.from_residual-in_err-set_next.result c.in_err-set_next.field-0.0 c.from_residual-in_err-set_next.ensures.1
+returns-in_err-set_next-clause-breaks g c _ _ _ = space_has _ tt tt c.from_residual-in_err-set_next.result c.in_err-set_next.field-0.0
+    c.from_residual-in_err-set_next.ensures.1
 
 pub returns-in_err-set_next-clause-sound : goal.returns-in_err-set_next-clause-sound
-returns-in_err-set_next-clause-sound g c _ _ = space_has _ tt tt c.from_residual-in_err-set_next.result c.in_err-set_next.field-0.0 c.from_residual-in_err-set_next.ensures.1
+returns-in_err-set_next-clause-sound g c _ _ = space_has _ tt tt c.from_residual-in_err-set_next.result c.in_err-set_next.field-0.0
+    c.from_residual-in_err-set_next.ensures.1
 
 pub returns-in_err-set_next-clause-unwritten : goal.returns-in_err-set_next-clause-unwritten
-returns-in_err-set_next-clause-unwritten g c = space_has _ tt tt c.from_residual-in_err-set_next.result c.in_err-set_next.field-0.0 c.from_residual-in_err-set_next.ensures.1
+returns-in_err-set_next-clause-unwritten g c = space_has _ tt tt c.from_residual-in_err-set_next.result c.in_err-set_next.field-0.0
+    c.from_residual-in_err-set_next.ensures.1
 
 pub returns-in_err-put-clause-damaged : goal.returns-in_err-put-clause-damaged
 returns-in_err-put-clause-damaged g c _ = space_has _ tt tt c.from_residual-in_err-put.result c.in_err-put.field-0.0 c.from_residual-in_err-put.ensures.1
@@ -194,10 +207,15 @@ pub returns-in_err-put-clause-unwritten : goal.returns-in_err-put-clause-unwritt
 returns-in_err-put-clause-unwritten g c = space_has _ tt tt c.from_residual-in_err-put.result c.in_err-put.field-0.0 c.from_residual-in_err-put.ensures.1
 
 pub returns-in_err-rec-clause-neighbours : goal.returns-in_err-rec-clause-neighbours
-returns-in_err-rec-clause-neighbours g c _ = writes_none (g.S.Reads.state c.args.space.now) (g.S.Reads.state c.get.new.self) _ (ap (λ (t : State). t.written) c.in_err-rec.ensures.state)
+returns-in_err-rec-clause-neighbours g c _ = writes_none (g.S.Reads.state c.args.space.now) (g.S.Reads.state c.get.new.self) _ (ap (λ (t : State). t.written)
+    c.in_err-rec.ensures.state)
 
 pub returns-in_err-rec-clause-writes : goal.returns-in_err-rec-clause-writes
-returns-in_err-rec-clause-writes g c = (0, writes_none (g.S.Reads.state c.args.space.now) (g.S.Reads.state c.get.new.self) _ (ap (λ (t : State). t.written) c.in_err-rec.ensures.state))
+returns-in_err-rec-clause-writes g c = (
+  0,
+  writes_none (g.S.Reads.state c.args.space.now) (g.S.Reads.state c.get.new.self) _ (ap (λ (t : State). t.written)
+      c.in_err-rec.ensures.state),
+)
 
 pub returns-in_err-rec-clause-cause : goal.returns-in_err-rec-clause-cause
 returns-in_err-rec-clause-cause g c =
@@ -209,10 +227,15 @@ returns-in_err-test_link-clause-unwritten g c =
     rw (p.1, p.2) c.in_ok-rec.ensures.state
 
 pub returns-in_err-test_link-clause-neighbours : goal.returns-in_err-test_link-clause-neighbours
-returns-in_err-test_link-clause-neighbours g c _ = writes_none (g.S.Reads.state c.args.space.now) (g.S.Reads.state c.get.new.self) _ (ap (λ (t : State). t.written) c.in_ok-rec.ensures.state)
+returns-in_err-test_link-clause-neighbours g c _ = writes_none (g.S.Reads.state c.args.space.now) (g.S.Reads.state c.get.new.self) _
+    (ap (λ (t : State). t.written) c.in_ok-rec.ensures.state)
 
 pub returns-in_err-test_link-clause-writes : goal.returns-in_err-test_link-clause-writes
-returns-in_err-test_link-clause-writes g c = (0, writes_none (g.S.Reads.state c.args.space.now) (g.S.Reads.state c.get.new.self) _ (ap (λ (t : State). t.written) c.in_ok-rec.ensures.state))
+returns-in_err-test_link-clause-writes g c = (
+  0,
+  writes_none (g.S.Reads.state c.args.space.now) (g.S.Reads.state c.get.new.self) _
+      (ap (λ (t : State). t.written) c.in_ok-rec.ensures.state),
+)
 
 pub returns-in_err-test_link-clause-onward : goal.returns-in_err-test_link-clause-onward
 returns-in_err-test_link-clause-onward g c = c.in_ok-rec.ensures.onward
@@ -221,37 +244,67 @@ pub returns-in_err-back-clause-onward : goal.returns-in_err-back-clause-onward
 returns-in_err-back-clause-onward g c = g.met.S.Reads.further_onward _ _ _ c.in_ok-rec.ensures.onward c.in_err-back.ensures.onward
 
 pub returns-in_err-set_next-clause-onward : goal.returns-in_err-set_next-clause-onward
-returns-in_err-set_next-clause-onward g c = g.met.S.Reads.further_onward _ _ _ (g.met.S.Reads.further_onward _ _ _ c.in_ok-rec.ensures.onward c.in_ok-back.ensures.onward) c.in_err-set_next.ensures.onward
+returns-in_err-set_next-clause-onward g c = g.met.S.Reads.further_onward _ _ _ (g.met.S.Reads.further_onward _ _ _ c.in_ok-rec.ensures.onward
+    c.in_ok-back.ensures.onward) c.in_err-set_next.ensures.onward
 
 pub returns-in_err-put-clause-onward : goal.returns-in_err-put-clause-onward
-returns-in_err-put-clause-onward g c = g.met.S.Reads.further_onward _ _ _ (g.met.S.Reads.further_onward _ _ _ (g.met.S.Reads.further_onward _ _ _ c.in_ok-rec.ensures.onward c.in_ok-back.ensures.onward) c.in_ok-set_next.ensures.onward) c.in_err-put.ensures.onward
+returns-in_err-put-clause-onward g c = g.met.S.Reads.further_onward _ _ _ (g.met.S.Reads.further_onward _ _ _ (g.met.S.Reads.further_onward _ _ _
+    c.in_ok-rec.ensures.onward c.in_ok-back.ensures.onward) c.in_ok-set_next.ensures.onward) c.in_err-put.ensures.onward
 
 pub returns-in_err-back-clause-writes : goal.returns-in_err-back-clause-writes
-returns-in_err-back-clause-writes g c =
-    (c.number-first.result, wrote_front (g.S.Reads.state c.args.space.now) (g.S.Reads.state c.get.new.self) (g.S.Reads.state c.back.new.space) (g.S.Reads.state c.back.new.space) (g.S.Reads.state c.back.new.space) c.number-first.result c.args.rel c.args.head.key (ap (λ (t : State). t.written) c.in_ok-rec.ensures.state) c.in_err-back.ensures.writes (wrote_none (g.S.Reads.state c.back.new.space) (g.S.Reads.state c.back.new.space) _ refl) (wrote_none (g.S.Reads.state c.back.new.space) (g.S.Reads.state c.back.new.space) _ refl))
+returns-in_err-back-clause-writes g c = (
+  c.number-first.result,
+  wrote_front (g.S.Reads.state c.args.space.now) (g.S.Reads.state c.get.new.self) (g.S.Reads.state c.back.new.space)
+      (g.S.Reads.state c.back.new.space) (g.S.Reads.state c.back.new.space) c.number-first.result c.args.rel c.args.head.key (ap (λ (t : State). t.written)
+      c.in_ok-rec.ensures.state) c.in_err-back.ensures.writes (wrote_none (g.S.Reads.state c.back.new.space) (g.S.Reads.state c.back.new.space) _ refl)
+      (wrote_none (g.S.Reads.state c.back.new.space) (g.S.Reads.state c.back.new.space) _ refl),
+)
 
 pub returns-in_err-back-clause-neighbours : goal.returns-in_err-back-clause-neighbours
 returns-in_err-back-clause-neighbours g c tells =
-    let first : c.number-first.result ≡ first_of (g.S.Reads.state c.args.space.now).records (head_of c.args.head) = c.number-first.ensures ∙ ap (λ r. field 4 r c.args.head.field) (c.in_ok-rec.ensures.got tells) in
+    let first : c.number-first.result ≡ first_of (g.S.Reads.state c.args.space.now).records (head_of c.args.head) = c.number-first.ensures ∙ ap
+    (λ r. field 4 r c.args.head.field) (c.in_ok-rec.ensures.got tells) in
     subst (λ f. WritesOnly (g.S.Reads.state c.args.space.now) (g.S.Reads.state c.back.new.space) (rel_key f ∷ rel_key c.args.rel ∷ c.args.head.key ∷ [])) first
-    (wrote_front (g.S.Reads.state c.args.space.now) (g.S.Reads.state c.get.new.self) (g.S.Reads.state c.back.new.space) (g.S.Reads.state c.back.new.space) (g.S.Reads.state c.back.new.space) c.number-first.result c.args.rel c.args.head.key (ap (λ (t : State). t.written) c.in_ok-rec.ensures.state) c.in_err-back.ensures.writes (wrote_none (g.S.Reads.state c.back.new.space) (g.S.Reads.state c.back.new.space) _ refl) (wrote_none (g.S.Reads.state c.back.new.space) (g.S.Reads.state c.back.new.space) _ refl))
+    (wrote_front (g.S.Reads.state c.args.space.now) (g.S.Reads.state c.get.new.self) (g.S.Reads.state c.back.new.space) (g.S.Reads.state c.back.new.space)
+    (g.S.Reads.state c.back.new.space) c.number-first.result c.args.rel c.args.head.key (ap (λ (t : State). t.written) c.in_ok-rec.ensures.state)
+    c.in_err-back.ensures.writes (wrote_none (g.S.Reads.state c.back.new.space) (g.S.Reads.state c.back.new.space) _ refl)
+    (wrote_none (g.S.Reads.state c.back.new.space) (g.S.Reads.state c.back.new.space) _ refl))
 
 pub returns-in_err-set_next-clause-writes : goal.returns-in_err-set_next-clause-writes
-returns-in_err-set_next-clause-writes g c =
-    (c.number-first.result, wrote_front (g.S.Reads.state c.args.space.now) (g.S.Reads.state c.get.new.self) (g.S.Reads.state c.back.new.space) (g.S.Reads.state c.set_next.new.space) (g.S.Reads.state c.set_next.new.space) c.number-first.result c.args.rel c.args.head.key (ap (λ (t : State). t.written) c.in_ok-rec.ensures.state) c.in_ok-back.ensures.writes c.in_err-set_next.ensures.writes (wrote_none (g.S.Reads.state c.set_next.new.space) (g.S.Reads.state c.set_next.new.space) _ refl))
+returns-in_err-set_next-clause-writes g c = (
+  c.number-first.result,
+  wrote_front (g.S.Reads.state c.args.space.now) (g.S.Reads.state c.get.new.self) (g.S.Reads.state c.back.new.space)
+      (g.S.Reads.state c.set_next.new.space) (g.S.Reads.state c.set_next.new.space) c.number-first.result c.args.rel c.args.head.key
+      (ap (λ (t : State). t.written) c.in_ok-rec.ensures.state) c.in_ok-back.ensures.writes c.in_err-set_next.ensures.writes
+      (wrote_none (g.S.Reads.state c.set_next.new.space) (g.S.Reads.state c.set_next.new.space) _ refl),
+)
 
 pub returns-in_err-set_next-clause-neighbours : goal.returns-in_err-set_next-clause-neighbours
 returns-in_err-set_next-clause-neighbours g c tells =
-    let first : c.number-first.result ≡ first_of (g.S.Reads.state c.args.space.now).records (head_of c.args.head) = c.number-first.ensures ∙ ap (λ r. field 4 r c.args.head.field) (c.in_ok-rec.ensures.got tells) in
-    subst (λ f. WritesOnly (g.S.Reads.state c.args.space.now) (g.S.Reads.state c.set_next.new.space) (rel_key f ∷ rel_key c.args.rel ∷ c.args.head.key ∷ [])) first
-    (wrote_front (g.S.Reads.state c.args.space.now) (g.S.Reads.state c.get.new.self) (g.S.Reads.state c.back.new.space) (g.S.Reads.state c.set_next.new.space) (g.S.Reads.state c.set_next.new.space) c.number-first.result c.args.rel c.args.head.key (ap (λ (t : State). t.written) c.in_ok-rec.ensures.state) c.in_ok-back.ensures.writes c.in_err-set_next.ensures.writes (wrote_none (g.S.Reads.state c.set_next.new.space) (g.S.Reads.state c.set_next.new.space) _ refl))
+    let first : c.number-first.result ≡ first_of (g.S.Reads.state c.args.space.now).records (head_of c.args.head) = c.number-first.ensures ∙ ap
+    (λ r. field 4 r c.args.head.field) (c.in_ok-rec.ensures.got tells) in
+    subst (λ f. WritesOnly (g.S.Reads.state c.args.space.now) (g.S.Reads.state c.set_next.new.space) (rel_key f ∷ rel_key c.args.rel ∷ c.args.head.key ∷ []))
+    first
+    (wrote_front (g.S.Reads.state c.args.space.now) (g.S.Reads.state c.get.new.self) (g.S.Reads.state c.back.new.space) (g.S.Reads.state c.set_next.new.space)
+    (g.S.Reads.state c.set_next.new.space) c.number-first.result c.args.rel c.args.head.key (ap (λ (t : State). t.written) c.in_ok-rec.ensures.state)
+    c.in_ok-back.ensures.writes c.in_err-set_next.ensures.writes (wrote_none (g.S.Reads.state c.set_next.new.space) (g.S.Reads.state c.set_next.new.space)
+    _ refl))
 
 pub returns-in_err-put-clause-writes : goal.returns-in_err-put-clause-writes
-returns-in_err-put-clause-writes g c =
-    (c.number-first.result, wrote_front (g.S.Reads.state c.args.space.now) (g.S.Reads.state c.get.new.self) (g.S.Reads.state c.back.new.space) (g.S.Reads.state c.set_next.new.space) (g.S.Reads.state c.put.new.self) c.number-first.result c.args.rel c.args.head.key (ap (λ (t : State). t.written) c.in_ok-rec.ensures.state) c.in_ok-back.ensures.writes c.in_ok-set_next.ensures.writes (wrote_none (g.S.Reads.state c.set_next.new.space) (g.S.Reads.state c.put.new.self) _ c.in_err-put.ensures.err))
+returns-in_err-put-clause-writes g c = (
+  c.number-first.result,
+  wrote_front (g.S.Reads.state c.args.space.now) (g.S.Reads.state c.get.new.self) (g.S.Reads.state c.back.new.space)
+      (g.S.Reads.state c.set_next.new.space) (g.S.Reads.state c.put.new.self) c.number-first.result c.args.rel c.args.head.key (ap (λ (t : State). t.written)
+      c.in_ok-rec.ensures.state) c.in_ok-back.ensures.writes c.in_ok-set_next.ensures.writes (wrote_none (g.S.Reads.state c.set_next.new.space)
+      (g.S.Reads.state c.put.new.self) _ c.in_err-put.ensures.err),
+)
 
 pub returns-in_err-put-clause-neighbours : goal.returns-in_err-put-clause-neighbours
 returns-in_err-put-clause-neighbours g c tells =
-    let first : c.number-first.result ≡ first_of (g.S.Reads.state c.args.space.now).records (head_of c.args.head) = c.number-first.ensures ∙ ap (λ r. field 4 r c.args.head.field) (c.in_ok-rec.ensures.got tells) in
+    let first : c.number-first.result ≡ first_of (g.S.Reads.state c.args.space.now).records (head_of c.args.head) = c.number-first.ensures ∙ ap
+    (λ r. field 4 r c.args.head.field) (c.in_ok-rec.ensures.got tells) in
     subst (λ f. WritesOnly (g.S.Reads.state c.args.space.now) (g.S.Reads.state c.put.new.self) (rel_key f ∷ rel_key c.args.rel ∷ c.args.head.key ∷ [])) first
-    (wrote_front (g.S.Reads.state c.args.space.now) (g.S.Reads.state c.get.new.self) (g.S.Reads.state c.back.new.space) (g.S.Reads.state c.set_next.new.space) (g.S.Reads.state c.put.new.self) c.number-first.result c.args.rel c.args.head.key (ap (λ (t : State). t.written) c.in_ok-rec.ensures.state) c.in_ok-back.ensures.writes c.in_ok-set_next.ensures.writes (wrote_none (g.S.Reads.state c.set_next.new.space) (g.S.Reads.state c.put.new.self) _ c.in_err-put.ensures.err))
+    (wrote_front (g.S.Reads.state c.args.space.now) (g.S.Reads.state c.get.new.self) (g.S.Reads.state c.back.new.space) (g.S.Reads.state c.set_next.new.space)
+    (g.S.Reads.state c.put.new.self) c.number-first.result c.args.rel c.args.head.key (ap (λ (t : State). t.written) c.in_ok-rec.ensures.state)
+    c.in_ok-back.ensures.writes c.in_ok-set_next.ensures.writes (wrote_none (g.S.Reads.state c.set_next.new.space) (g.S.Reads.state c.put.new.self)
+    _ c.in_err-put.ensures.err))

@@ -15,7 +15,8 @@ returns-in_err-test_within-clause-at_most g c = reads_none (g.R.Reads.state c.ar
 pub returns-in_err-test_within-clause-damaged : goal.returns-in_err-test_within-clause-damaged
 returns-in_err-test_within-clause-damaged g c = λ tells.
     let p = err_from_is_err_and c.from_residual.result c.from_residual.ensures.1 in
-    rw (p.1, p.2) (link_step (g.R.Reads.state c.args.space.now) c.args.chain.now.owner c.args.chain.now.node c.args.before c.args.at c.chain_damage.result c.in_err-test_within.field-0.0
+    rw (p.1, p.2) (link_step (g.R.Reads.state c.args.space.now) c.args.chain.now.owner c.args.chain.now.node c.args.before c.args.at c.chain_damage.result
+    c.in_err-test_within.field-0.0
     c.chain_damage.ensures c.in_err-test_within.ensures.damaged)
 
 pub returns-in_err-get_into-clause-at_most : goal.returns-in_err-get_into-clause-at_most
@@ -28,7 +29,8 @@ pub returns-then-link-before-clause-damaged : goal.returns-then-link-before-clau
 returns-then-link-before-clause-damaged g c = λ tells.
     let s = g.R.Reads.state c.args.space.now in
     let link : c.link.result ≡ prev_of s.records c.args.chain.now.node c.args.at =
-    c.link.ensures ∙ ap (λ at. field 4 c.get_into.new.rec at) c.place_of.ensures.is ∙ ap (λ r. prev_in r c.args.chain.now.node) (c.in_ok-get_into.ensures.got tells) in
+    c.link.ensures ∙ ap (λ at. field 4 c.get_into.new.rec at) c.place_of.ensures.is ∙ ap (λ r. prev_in r c.args.chain.now.node)
+    (c.in_ok-get_into.ensures.got tells) in
     subst (IsStepDamage s c.args.chain.now.owner c.args.chain.now.node c.args.before c.args.at) (sym c.chain_damage-then-link-before.ensures)
     (NoStep (λ lt e. c.if-link-before.true (link ∙ e)))
 

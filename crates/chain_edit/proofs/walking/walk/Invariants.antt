@@ -10,7 +10,8 @@ invariant-loop g l =
     let s = g.R.Reads.state l.fn.space in
     record {
       met : g.R.Reads.tells → HaveRows s l.chain.first l.chain.node l.before l.at l.rows.items;
-      left : g.R.Reads.tells → (xs : List ℕ) → IsSoundWalk s l.chain.first l.chain.node l.fn.budget xs → IsLeft s l.chain.node l.before (l.budget - l.counter) l.at;
+      left : g.R.Reads.tells → (xs : List ℕ) → IsSoundWalk s l.chain.first l.chain.node l.fn.budget xs → IsLeft s l.chain.node l.before (l.budget - l.counter)
+          l.at;
       count : length l.rows.items ≡ l.counter;
       read : g.R.Reads.state l.space ≡ after_gets (length l.rows.items) s;
       onward : g.R.Reads.onward l.fn.space l.space;

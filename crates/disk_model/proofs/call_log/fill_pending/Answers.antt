@@ -30,7 +30,8 @@ loop-i-preserved c =
           kept_pending-before call later n (i - 1) file place
           ∙ ap (λ k. kept_pending (drop (n - k) later) file place || (here && leb n (i - 1))) whole in
           c.fill_call.ensures.bytes file place
-          ∙ ap (λ s. cond (((kept_covers call file place && not s) && leb n (i - 1)) && ltb place (length (file_of c.loop-i.files file))) byte (contents c.loop-i.files file place)) (c.loop-i.invariant.synced file)
+          ∙ ap (λ s. cond (((kept_covers call file place && not s) && leb n (i - 1)) && ltb place (length (file_of c.loop-i.files file))) byte
+          (contents c.loop-i.files file place)) (c.loop-i.invariant.synced file)
           ∙ ap (λ m. cond ((here && leb n (i - 1)) && ltb place m) byte (contents c.loop-i.files file place))
           (same_room c.loop-i.files old file c.loop-i.invariant.rooms)
           ∙ ap (λ x. cond ((here && leb n (i - 1)) && ltb place (length old_file)) byte x) (c.loop-i.invariant.bytes file place)

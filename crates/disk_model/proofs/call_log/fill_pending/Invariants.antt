@@ -9,7 +9,8 @@ invariant-loop-i l =
       within : l.i ≤ length l.calls;
       rooms : rooms_of l.files ≡ rooms_of l.fn.files;
       synced : (file : ℕ) → get_or l.synced file false ≡ kept_synced (drop l.i l.calls) file;
-      bytes : (file place : ℕ) → contents l.files file place ≡ cond (kept_pending (drop (contents l.pokes file place - l.i) (drop l.i l.calls)) file place && ltb place (length (file_of l.fn.files file))) l.byte (contents l.fn.files file place);
+      bytes : (file place : ℕ) → contents l.files file place ≡ cond (kept_pending (drop (contents l.pokes file place - l.i) (drop l.i l.calls)) file place &&
+          ltb place (length (file_of l.fn.files file))) l.byte (contents l.fn.files file place);
     }
 
 abbrev pub decreases-loop-i : goal.decreases-loop-i

@@ -39,12 +39,14 @@ loop-i-preserved c =
           ∙ ap (λ k. state_after seed (count_in_files (is_marked_in marks) marks k)) (sym (add-one i));
       rooms = map-set_same length files i new c.index-files-i.result c.draw_marked.ensures.room ∙ old.rooms;
       done = below_more _ _
-          (λ file below place. let differs : file ≢ i = omega arith in ap (λ f. get_or f place 0) (get_or-set_other files i file new [] differs) ∙ old.done file below place)
+          (λ file below place. let differs : file ≢ i = omega arith in ap (λ f. get_or f place 0) (get_or-set_other files i file new [] differs) ∙ old.done file
+          below place)
           (λ place.
           let draw = count_below (is_marked_in marks i) place in
           ap (λ f. get_or f place 0) (get_or-set_same files i new [] known)
           ∙ c.draw_marked.ensures.bytes place
-          ∙ ap (λ m. cond (is_marked m place) (drawn c.loop-i.generator (count_below (is_marked m) place) % 256) (get_or (get_or files i c.index-files-i.result) place 0)) mark_is
+          ∙ ap (λ m. cond (is_marked m place) (drawn c.loop-i.generator (count_below (is_marked m) place) % 256) (get_or (get_or files i c.index-files-i.result)
+          place 0)) mark_is
           ∙ ap (λ n. cond (is_marked_in marks i place) (n % 256) (get_or (get_or files i c.index-files-i.result) place 0))
           (ap (λ state. drawn state draw) old.state ∙ drawn-state_after seed before draw)
           ∙ ap (λ f. cond (is_marked_in marks i place) (drawn seed (count_before (is_marked_in marks) marks i place) % 256) (get_or f place 0)) file_is);

@@ -23,7 +23,8 @@ loop-i-preserved c =
           record {
             state = state_hit marked seed i c.loop-i.generator c.if-marks-i-gt0.generator hit old.state (w.generator-is ∙ w.draw.ensures.state);
             done = below_more _ _
-                (λ k below. let differs : k ≢ i = omega arith in ap (λ bs. get_or bs k 0) w.bytes-is ∙ get_or-set_other bytes i k (w.draw.result % 256) 0 differs ∙ old.done k below)
+                (λ k below. let differs : k ≢ i = omega arith in ap (λ bs. get_or bs k 0) w.bytes-is ∙ get_or-set_other bytes i k (w.draw.result % 256)
+                0 differs ∙ old.done k below)
                 (ap (λ bs. get_or bs i 0) w.bytes-is ∙ get_or-set_same bytes i (w.draw.result % 256) 0 known ∙ drew ∙ sym (cond-true (marked i) _ _ hit));
             rest = λ k above. let differs : k ≢ i = omega arith in ap (λ bs. get_or bs k 0) w.bytes-is
                 ∙ get_or-set_other bytes i k (w.draw.result % 256) 0 differs ∙ old.rest k (omega arith);

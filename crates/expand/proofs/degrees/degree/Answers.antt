@@ -21,7 +21,8 @@ module _ (s : State) (direction : Direction) (node : ℕ) (r : Result ℕ Expand
   listed : (label : Option ℕ) → Counted label → IfOk r (λ count. IsStore s → count ≡ length (rows_at direction (option_list label) node (rows_of s.records)))
   listed label = if_degree r (λ count h store. h store ∙ count_rows_at direction (option_list label) node (rows_of s.records))
 
-  edged : (label : Option ℕ) → Counted label → IfOk r (λ count. IsStore s → AreNameNumbers s.records (option_list label) → count ≡ length (edges_at (graph_in s) direction (map (name_of s.records) (option_list label)) node))
+  edged : (label : Option ℕ) → Counted label → IfOk r (λ count. IsStore s → AreNameNumbers s.records (option_list label) → count ≡ length (edges_at (graph_in s)
+      direction (map (name_of s.records) (option_list label)) node))
   edged label = if_degree r (λ count h store names.
       let labels = option_list label in
       let texts = map (name_of s.records) labels in

@@ -36,7 +36,8 @@ returns-in_err-rows-clause-damaged g c = λ tells is.
     c.args.direction c.args.labels.now
     c.deref-3.result.now rows (c.in_ok-groups.ensures.rows tells) are is in
     let p = err_from_is_err_and c.from_residual-in_err-rows.result c.from_residual-in_err-rows.ensures.1 in
-    rw (p.1, p.2) (blamed_then (g.R.Reads.state c.args.space.now) (g.R.Reads.state c.groups.new.space) (length rows) c.in_ok-groups.ensures.reads c.in_err-rows.field-0.0 (c.in_err-rows.ensures.damaged tells of))
+    rw (p.1, p.2) (blamed_then (g.R.Reads.state c.args.space.now) (g.R.Reads.state c.groups.new.space) (length rows) c.in_ok-groups.ensures.reads
+    c.in_err-rows.field-0.0 (c.in_err-rows.ensures.damaged tells of))
 
 pub returns-clause-few_reads : goal.returns-clause-few_reads
 returns-clause-few_reads g c = λ tells members xs can.
@@ -95,17 +96,20 @@ returns-in_err-groups-clause-counted_reads g c = λ tells members walkable count
 pub returns-in_err-links-clause-counted_reads : goal.returns-in_err-links-clause-counted_reads
 returns-in_err-links-clause-counted_reads g c = λ tells members walkable counted.
     let are = rows_are (g.R.Reads.state c.args.space.now) c.args.row.now c.in_ok-groups.groups.items members (c.in_ok-groups.ensures.rows tells) walkable in
-    absurd (true≢false (sym (sym (c.lacks_counts.ensures ∙ ap (lacks_counts c.args.labels.now) c.deref.ensures.value) ∙ c.if-not-lacks_counts.false) ∙ ap (lacks_counts c.args.labels.now) are ∙ counted))
+    absurd (true≢false (sym (sym (c.lacks_counts.ensures ∙ ap (lacks_counts c.args.labels.now) c.deref.ensures.value) ∙ c.if-not-lacks_counts.false) ∙ ap
+    (lacks_counts c.args.labels.now) are ∙ counted))
 
 pub returns-in_err-rows-clause-counted_reads : goal.returns-in_err-rows-clause-counted_reads
 returns-in_err-rows-clause-counted_reads g c = λ tells members walkable counted.
     let are = rows_are (g.R.Reads.state c.args.space.now) c.args.row.now c.in_ok-groups.groups.items members (c.in_ok-groups.ensures.rows tells) walkable in
-    absurd (true≢false (sym (sym (c.lacks_counts.ensures ∙ ap (lacks_counts c.args.labels.now) c.deref.ensures.value) ∙ c.if-not-lacks_counts.false) ∙ ap (lacks_counts c.args.labels.now) are ∙ counted))
+    absurd (true≢false (sym (sym (c.lacks_counts.ensures ∙ ap (lacks_counts c.args.labels.now) c.deref.ensures.value) ∙ c.if-not-lacks_counts.false) ∙ ap
+    (lacks_counts c.args.labels.now) are ∙ counted))
 
 pub returns-clause-counted_reads : goal.returns-clause-counted_reads
 returns-clause-counted_reads g c = λ tells members walkable counted.
     let are = rows_are (g.R.Reads.state c.args.space.now) c.args.row.now c.in_ok-groups.groups.items members (c.in_ok-groups.ensures.rows tells) walkable in
-    absurd (true≢false (sym (sym (c.lacks_counts.ensures ∙ ap (lacks_counts c.args.labels.now) c.deref.ensures.value) ∙ c.if-not-lacks_counts.false) ∙ ap (lacks_counts c.args.labels.now) are ∙ counted))
+    absurd (true≢false (sym (sym (c.lacks_counts.ensures ∙ ap (lacks_counts c.args.labels.now) c.deref.ensures.value) ∙ c.if-not-lacks_counts.false) ∙ ap
+    (lacks_counts c.args.labels.now) are ∙ counted))
 
 pub returns-in_err-groups-clause-count : goal.returns-in_err-groups-clause-count
 returns-in_err-groups-clause-count g c _ = never_ok c.from_residual.result _ _ c.from_residual.ensures.1

@@ -34,7 +34,8 @@ returns-in_err-rows-clause-damaged g c = λ tells is.
     c.args.direction c.args.labels.now
     c.deref-2.result.now rows (c.in_ok-groups.ensures.rows tells) are is in
     let p = err_from_is_err_and c.from_residual-in_err-rows.result c.from_residual-in_err-rows.ensures.1 in
-    rw (p.1, p.2) (blamed_then (g.R.Reads.state c.args.space.now) (g.R.Reads.state c.groups.new.space) (length rows) c.in_ok-groups.ensures.reads c.in_err-rows.field-0.0 (c.in_err-rows.ensures.damaged tells of))
+    rw (p.1, p.2) (blamed_then (g.R.Reads.state c.args.space.now) (g.R.Reads.state c.groups.new.space) (length rows) c.in_ok-groups.ensures.reads
+    c.in_err-rows.field-0.0 (c.in_err-rows.ensures.damaged tells of))
 
 pub returns-clause-few_reads : goal.returns-clause-few_reads
 returns-clause-few_reads g c = λ tells members xs can.

@@ -79,9 +79,11 @@ loop-link-preserved g c =
     let low : at < length links = c.loop-link-test.true in
     let here = links_here links at low in
     record {
-      met = λ tells. rw more (chain_met s now (length rows) n link.first c.saturating_sub-budget.result firsts (drop (at + 1) firsts) rows chain c.loop-link.invariant.read
+      met = λ tells. rw more (chain_met s now (length rows) n link.first c.saturating_sub-budget.result firsts (drop (at + 1) firsts)
+          rows chain c.loop-link.invariant.read
           (c.in-Ok.ensures.rows tells) (subst (λ left. HaveMet s n firsts left rows) here (c.loop-link.invariant.met tells)));
-      stood = λ tells. rw more (more_stood s now (length rows) n at c.saturating_sub-budget.result links no_link c.loop-link.invariant.read low chain (c.in-Ok.ensures.rows tells) rows
+      stood = λ tells. rw more (more_stood s now (length rows) n at c.saturating_sub-budget.result links no_link c.loop-link.invariant.read low chain
+          (c.in-Ok.ensures.rows tells) rows
           (all_is link n chain c.deref.result.now c.all_belong.result true c.deref.ensures.value c.all_belong.ensures c.if-not-all_belong.false)
           (c.loop-link.invariant.stood tells));
       left = λ tells xs sound. rest_left s now (length rows) n link.first c.saturating_sub-budget.result (rel_mark s - length both) (drop (at + 1) firsts) chain
@@ -220,7 +222,8 @@ returns-in-Err-clause-damaged g c = λ tells of.
     omega (arith, left, len, marked) in
     let low : at < length links = c.loop-link-test.true in
     subst (Blames s) (sym c.with_node.ensures)
-    (walk_breaks s now (length rows) n at c.saturating_sub-budget.result links no_link c.loop-link.invariant.read low of rows budget (c.loop-link.invariant.stood tells) c.in-Err.fault (c.in-Err.ensures.damaged tells))
+    (walk_breaks s now (length rows) n at c.saturating_sub-budget.result links no_link c.loop-link.invariant.read low of rows budget
+    (c.loop-link.invariant.stood tells) c.in-Err.fault (c.in-Err.ensures.damaged tells))
 
 pub returns-then-not-all_belong-clause-damaged : goal.returns-then-not-all_belong-clause-damaged
 returns-then-not-all_belong-clause-damaged g c = λ tells of.
@@ -234,7 +237,8 @@ returns-then-not-all_belong-clause-damaged g c = λ tells of.
     let chain = c.in-Ok.chain.items in
     let stray = all_is (get_or links at no_link) n chain c.deref.result.now c.all_belong.result false c.deref.ensures.value c.all_belong.ensures
     c.if-not-all_belong.true in
-    subst (Breaks s.records s.shape) (sym c.chains_damage.ensures) (stray_breaks s now (length rows) n at c.saturating_sub-budget.result links no_link c.loop-link.invariant.read low chain (c.in-Ok.ensures.rows tells) of stray)
+    subst (Breaks s.records s.shape) (sym c.chains_damage.ensures) (stray_breaks s now (length rows) n at c.saturating_sub-budget.result links no_link
+    c.loop-link.invariant.read low chain (c.in-Ok.ensures.rows tells) of stray)
 
 -- ---- the end
 

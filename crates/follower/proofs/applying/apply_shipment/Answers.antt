@@ -9,7 +9,8 @@ returns-in-Err-clause-applies g c =
     let begun = c.begin.new.self in
     let mid = c.put_and_keep.new.store in
     applies_not g.D.Disk c.args.bytes.now old c.rollback.new.self c.requires.live
-    (beneath_after g.D.Disk old.base begun.base c.rollback.new.self.base c.begin.ensures.same (beneath_then g.D.Disk begun.base mid.base c.rollback.new.self.base c.put_and_keep.ensures.beneath c.rollback.ensures.same))
+    (beneath_after g.D.Disk old.base begun.base c.rollback.new.self.base c.begin.ensures.same (beneath_then g.D.Disk begun.base mid.base
+    c.rollback.new.self.base c.put_and_keep.ensures.beneath c.rollback.ensures.same))
 
 pub returns-in-Ok-commit-clause-applies : goal.returns-in-Ok-commit-clause-applies
 returns-in-Ok-commit-clause-applies g c =

@@ -79,8 +79,10 @@ returns-then-not-may_begin-2-clause-stops c =
         λ begins.
             let none : false ≡ true =
             c.if-not-may_begin-2.ensures.1
-            (key_begins_in c.args.slot.now c.args.bytes.now c.args.place (suc c.loop-known.known) (c.loop-known.low + c.loop-known.power * get_or c.args.bytes.now (c.args.place + 1 + c.loop-known.known) 0) (c.loop-known.power * 256)
-            (low_more c.args.bytes.now c.args.place c.loop-known.known (suc c.loop-known.known) c.loop-known.low c.loop-known.power refl reads.low_is reads.power_is) next.power_is begins) in
+            (key_begins_in c.args.slot.now c.args.bytes.now c.args.place (suc c.loop-known.known) (c.loop-known.low + c.loop-known.power * get_or
+            c.args.bytes.now (c.args.place + 1 + c.loop-known.known) 0) (c.loop-known.power * 256)
+            (low_more c.args.bytes.now c.args.place c.loop-known.known (suc c.loop-known.known) c.loop-known.low c.loop-known.power refl reads.low_is
+            reads.power_is) next.power_is begins) in
             absurd (cc),
       );
     }

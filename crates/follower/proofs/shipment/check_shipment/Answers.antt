@@ -15,7 +15,8 @@ returns-in-Err-check_write-clause-bad c =
     let slot : Slot = record { shape = c.args.shape; last = c.loop-index.last; more = c.in-Ok.count - c.loop-index.index - 1 } in
     write_bad c.args.shape c.args.bytes.now c.loop-index.last c.loop-index.index (c.in-Ok.count - c.loop-index.index - 1) c.requires (omega (arith, count, few))
     (omega (arith, count, c.loop-index-test.true)) c.loop-index.invariant
-    c.in-Err-check_write.at (subst (λ (place : ℕ). StopsInRecord slot c.args.bytes.now place c.in-Err-check_write.at) c.place_of.ensures c.in-Err-check_write.ensures.stops)
+    c.in-Err-check_write.at (subst (λ (place : ℕ). StopsInRecord slot c.args.bytes.now place c.in-Err-check_write.at) c.place_of.ensures
+    c.in-Err-check_write.ensures.stops)
 
 pub loop-index-preserved : goal.loop-index-preserved
 loop-index-preserved c =
@@ -31,4 +32,5 @@ returns-then-bytes-end-clause-bad c =
     let count = c.in-Ok.ensures.count in
     let few = c.in-Ok.ensures.few in
     subst (IsNoShipment c.args.shape c.args.bytes.now) (omega (arith, c.place_of-end.ensures))
-    (end_bad c.args.shape c.args.bytes.now c.loop-index.last c.loop-index.index c.requires (omega (arith, count, few)) (omega (arith, count)) (omega (arith, c.place_of-end.ensures)) c.loop-index.invariant)
+    (end_bad c.args.shape c.args.bytes.now c.loop-index.last c.loop-index.index c.requires (omega (arith, count, few)) (omega (arith, count))
+    (omega (arith, c.place_of-end.ensures)) c.loop-index.invariant)

@@ -31,6 +31,7 @@ pub returns-clause-ok : goal.returns-clause-ok
 returns-clause-ok g c =
     let over = c.loop-index-test.false in
     let end = c.loop-index.auto.index-end in
-    on_ok c.put-2.result _ _ (λ is. put_all-taken c.args.shape (g.S.Reads.state c.args.space.now).records (g.S.Reads.state c.loop-index.space).records (g.S.Reads.state c.put-2.new.self).records c.args.bytes.now c.loop-index.index c.number_record.result
+    on_ok c.put-2.result _ _ (λ is. put_all-taken c.args.shape (g.S.Reads.state c.args.space.now).records (g.S.Reads.state c.loop-index.space).records
+    (g.S.Reads.state c.put-2.new.self).records c.args.bytes.now c.loop-index.index c.number_record.result
     c.requires.shipment (omega (arith, c.count_of-index-end.ensures, over, end)) c.loop-index.invariant.records
     (c.number_record.ensures ∙ ap number_record c.number_of.ensures) (ap (λ (s : State). s.records) is)) c.put-2.ensures.ok

@@ -24,7 +24,8 @@ returns-in_err-givens-clause-err c =
     let p = err_from_is_err_and c.from_residual.result c.from_residual.ensures.1 in
     let bytes = c.args.bytes.now in
     let stop = c.in_err-givens.field-0.0 in
-    rw (p.1, p.2) (stop_in_head c.args.head (Asks c.args.head) bytes stop (subst (λ (list : List Argument). LeavesOne (spaced list) bytes stop) c.arguments_of.ensures.are c.in_err-givens.ensures.err))
+    rw (p.1, p.2) (stop_in_head c.args.head (Asks c.args.head) bytes stop (subst (λ (list : List Argument). LeavesOne (spaced list) bytes stop)
+    c.arguments_of.ensures.are c.in_err-givens.ensures.err))
 
 pub returns-in_err-last-clause-err : goal.returns-in_err-last-clause-err
 returns-in_err-last-clause-err c =
@@ -37,7 +38,8 @@ returns-in_err-last-clause-err c =
     let reads = subst (λ (list : List Argument). ReadsAll (spaced list) (contents_in list givens) bytes rest) c.arguments_of.ensures.are
     c.in_ok-givens.ensures.ok in
     let at = subst (λ (kind : LastPart). IsStop (SomeLast kind) (BadInLast kind) (Lacks kind) rest stop) c.last_part.ensures c.in_err-last.ensures.err in
-    rw (p.1, p.2) (stop_after_head head (Asks head) (contents_in (arguments_of head) givens) bytes rest stop reads (stop_lacks (IsLast head) (BadLast head) (Lacks (last_part head)) (Asks head) rest stop (last_asks head) at))
+    rw (p.1, p.2) (stop_after_head head (Asks head) (contents_in (arguments_of head) givens) bytes rest stop reads (stop_lacks (IsLast head) (BadLast head)
+    (Lacks (last_part head)) (Asks head) rest stop (last_asks head) at))
 
 pub returns-clause-ok : goal.returns-clause-ok
 unfolding built

@@ -16,7 +16,8 @@ pub returns-in_err-head-clause-err : goal.returns-in_err-head-clause-err
 returns-in_err-head-clause-err c =
     let p = err_from_is_err_and c.from_residual.result c.from_residual.ensures.1 in
     let bytes = c.args.bytes.now in
-    rw (p.1, p.2) (tail_at_word (LacksMemory bytes) bytes c.in_err-head.field-0.0 (not_empty bytes c.is_empty.result c.is_empty.ensures c.if-is_empty.false) c.in_err-head.ensures.err)
+    rw (p.1, p.2) (tail_at_word (LacksMemory bytes) bytes c.in_err-head.field-0.0 (not_empty bytes c.is_empty.result c.is_empty.ensures c.if-is_empty.false)
+    c.in_err-head.ensures.err)
 
 pub parse_command-requires : goal.parse_command-requires
 parse_command-requires c = is_so _ c.is_plain.result c.is_plain.ensures c.if-is_plain.true
@@ -28,7 +29,8 @@ returns-then-is_plain-clause-err c =
     let head = c.in_ok-head.head in
     let some = not_empty bytes c.is_empty.result c.is_empty.ensures c.if-is_empty.false in
     IfErr-weaker c.parse_command.result _ _
-    (λ stop at. tail_after_word (LacksMemory bytes) (Asks head) bytes rest head stop some (λ asks. lacks_asked head asks bytes rest some c.in_ok-head.ensures.ok) c.in_ok-head.ensures.ok at)
+    (λ stop at. tail_after_word (LacksMemory bytes) (Asks head) bytes rest head stop some (λ asks. lacks_asked head asks bytes rest some
+    c.in_ok-head.ensures.ok) c.in_ok-head.ensures.ok at)
     c.parse_command.ensures.err
 
 pub returns-then-is_plain-clause-ok : goal.returns-then-is_plain-clause-ok
@@ -40,7 +42,8 @@ returns-then-is_plain-clause-ok c =
 pub returns-then-is_plain-clause-bounds : goal.returns-then-is_plain-clause-bounds
 returns-then-is_plain-clause-bounds c =
     ok_of_both c.parse_command.result _ _ _
-    (λ command spells keeps. plain_keeps c.in_ok-head.head (is_so _ c.is_plain.result c.is_plain.ensures c.if-is_plain.true) command c.in_ok-head.rest.now c.args.bytes.now spells keeps)
+    (λ command spells keeps. plain_keeps c.in_ok-head.head (is_so _ c.is_plain.result c.is_plain.ensures c.if-is_plain.true) command c.in_ok-head.rest.now
+    c.args.bytes.now spells keeps)
     c.parse_command.ensures.ok c.parse_command.ensures.bounds
 
 pub returns-clause-err : goal.returns-clause-err
@@ -51,7 +54,8 @@ returns-clause-err c =
     let query = query_head c.in_ok-head.head (is_not _ c.is_plain.result c.is_plain.ensures c.if-is_plain.false) in
     let takes = subst (λ (h : Head). TakesWord head_words bytes h rest) query c.in_ok-head.ensures.ok in
     IfErr-weaker c.read_query.result _ _
-    (λ stop at. tail_after_word (LacksMemory bytes) (Unit {0}) bytes rest heads.Query stop some (λ lack. lacks_asked heads.Query tt bytes rest some takes) takes (stops_in_some rest stop at))
+    (λ stop at. tail_after_word (LacksMemory bytes) (Unit {0}) bytes rest heads.Query stop some (λ lack. lacks_asked heads.Query tt bytes rest some takes) takes
+    (stops_in_some rest stop at))
     c.read_query.ensures.err
 
 pub returns-clause-ok : goal.returns-clause-ok

@@ -12,17 +12,22 @@ returns-in_err-at_value-clause-err c =
 pub returns-in_err-written-clause-err : goal.returns-in_err-written-clause-err
 returns-in_err-written-clause-err c =
     let p = err_from_is_err_and c.from_residual-in_err-written.result c.from_residual-in_err-written.ensures.1 in
-    rw (p.1, p.2) (λ into key. stop_in_compared c.args.bytes.now c.in_ok-at_value.at_value.now c.in_err-written.field-0.0 c.in_ok-at_value.ensures.ok c.in_err-written.ensures.err into key c.args.relation)
+    rw (p.1, p.2) (λ into key. stop_in_compared c.args.bytes.now c.in_ok-at_value.at_value.now c.in_err-written.field-0.0 c.in_ok-at_value.ensures.ok
+    c.in_err-written.ensures.err into key c.args.relation)
 
 pub returns-in_err-at_end-clause-err : goal.returns-in_err-at_end-clause-err
 returns-in_err-at_end-clause-err c =
     let p = err_from_is_err_and c.from_residual-in_err-at_end.result c.from_residual-in_err-at_end.ensures.1 in
-    rw (p.1, p.2) (λ into key. stop_at_inner c.args.bytes.now c.in_ok-at_value.at_value.now c.in_ok-written.after.now c.skip_blanks-at_close.result.now (value_of c.in_ok-written.written) c.in_err-at_end.field-0.0 c.in_ok-at_value.ensures.ok c.in_ok-written.ensures.ok c.skip_blanks-at_close.ensures c.in_err-at_end.ensures.err into key c.args.relation)
+    rw (p.1, p.2) (λ into key. stop_at_inner c.args.bytes.now c.in_ok-at_value.at_value.now c.in_ok-written.after.now c.skip_blanks-at_close.result.now
+    (value_of c.in_ok-written.written) c.in_err-at_end.field-0.0 c.in_ok-at_value.ensures.ok c.in_ok-written.ensures.ok c.skip_blanks-at_close.ensures
+    c.in_err-at_end.ensures.err into key c.args.relation)
 
 pub returns-in_err-rest-clause-err : goal.returns-in_err-rest-clause-err
 returns-in_err-rest-clause-err c =
     let p = err_from_is_err_and c.from_residual-in_err-rest.result c.from_residual-in_err-rest.ensures.1 in
-    rw (p.1, p.2) (λ into key. stop_at_outer c.args.bytes.now c.in_ok-at_value.at_value.now c.in_ok-written.after.now c.skip_blanks-at_close.result.now c.in_ok-at_end.at_end.now (value_of c.in_ok-written.written) c.in_err-rest.field-0.0 c.in_ok-at_value.ensures.ok c.in_ok-written.ensures.ok c.skip_blanks-at_close.ensures c.in_ok-at_end.ensures.ok c.in_err-rest.ensures.err into key c.args.relation)
+    rw (p.1, p.2) (λ into key. stop_at_outer c.args.bytes.now c.in_ok-at_value.at_value.now c.in_ok-written.after.now c.skip_blanks-at_close.result.now
+    c.in_ok-at_end.at_end.now (value_of c.in_ok-written.written) c.in_err-rest.field-0.0 c.in_ok-at_value.ensures.ok c.in_ok-written.ensures.ok
+    c.skip_blanks-at_close.ensures c.in_ok-at_end.ensures.ok c.in_err-rest.ensures.err into key c.args.relation)
 
 pub returns-clause-ok : goal.returns-clause-ok
 returns-clause-ok c = λ into key. compared_read c.args.bytes.now c.in_ok-at_value.at_value.now c.in_ok-written.after.now c.skip_blanks-at_close.result.now

@@ -15,7 +15,8 @@ returns-in_err-at_relation-clause-err c =
 pub returns-in_err-relation-clause-err : goal.returns-in_err-relation-clause-err
 returns-in_err-relation-clause-err c =
     let p = err_from_is_err_and c.from_residual-in_err-relation.result c.from_residual-in_err-relation.ensures.1 in
-    rw (p.1, p.2) (stop_at_relation c.args.bytes.now c.in-Some.at_dot.now c.in_ok-at_relation.at_relation.now c.in_err-relation.field-0.0 c.in-Some.ensures.some c.in_ok-at_relation.ensures.ok c.in_err-relation.ensures.err)
+    rw (p.1, p.2) (stop_at_relation c.args.bytes.now c.in-Some.at_dot.now c.in_ok-at_relation.at_relation.now c.in_err-relation.field-0.0 c.in-Some.ensures.some
+    c.in_ok-at_relation.ensures.ok c.in_err-relation.ensures.err)
 
 pub returns-in-Some-clause-ok : goal.returns-in-Some-clause-ok
 returns-in-Some-clause-ok c =

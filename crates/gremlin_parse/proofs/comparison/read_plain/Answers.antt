@@ -10,7 +10,8 @@ use Rattle.gremlin_parse.proofs.comparison.read_plain.Goals as goal
 pub returns-in_err-rest-in-Ok-clause-err : goal.returns-in_err-rest-in-Ok-clause-err
 returns-in_err-rest-in-Ok-clause-err c =
     let p = err_from_is_err_and c.from_residual.result c.from_residual.ensures.1 in
-    rw (p.1, p.2) (stop_after_plain c.args.bytes.now c.in-Ok.after.now c.skip_blanks-at_close.result.now (value_of c.in-Ok.written) c.in_err-rest-in-Ok.field-0.0 c.in-Ok.ensures.ok c.skip_blanks-at_close.ensures c.in_err-rest-in-Ok.ensures.err)
+    rw (p.1, p.2) (stop_after_plain c.args.bytes.now c.in-Ok.after.now c.skip_blanks-at_close.result.now (value_of c.in-Ok.written)
+    c.in_err-rest-in-Ok.field-0.0 c.in-Ok.ensures.ok c.skip_blanks-at_close.ensures c.in_err-rest-in-Ok.ensures.err)
 
 pub returns-in_ok-rest-in-Ok-clause-ok : goal.returns-in_ok-rest-in-Ok-clause-ok
 returns-in_ok-rest-in-Ok-clause-ok c = plain_read c.args.bytes.now c.in-Ok.after.now c.skip_blanks-at_close.result.now c.in_ok-rest-in-Ok.rest.now

@@ -9,4 +9,5 @@ pub returns-clause-err : goal.returns-clause-err
 returns-clause-err c = IfErr-weaker c.read_keyword.result _ _ (λ stop at. word_leaves direction_words c.args.bytes.now stop at) c.read_keyword.ensures.err
 
 pub returns-clause-ok : goal.returns-clause-ok
-returns-clause-ok c = IfOk-weaker c.read_keyword.result _ _ (λ r reads. word_read direction_name direction_words (refl, (refl, (refl, tt))) c.args.bytes.now r.1.now r.0 reads) c.read_keyword.ensures.ok
+returns-clause-ok c = IfOk-weaker c.read_keyword.result _ _ (λ r reads. word_read direction_name direction_words (refl, (refl, (refl, tt))) c.args.bytes.now
+    r.1.now r.0 reads) c.read_keyword.ensures.ok

@@ -20,12 +20,14 @@ returns-in_err-name-clause-err c =
 pub returns-in_err-at_dot-clause-err : goal.returns-in_err-at_dot-clause-err
 returns-in_err-at_dot-clause-err c =
     let p = err_from_is_err_and c.from_residual-in_err-at_dot.result c.from_residual-in_err-at_dot.ensures.1 in
-    rw (p.1, p.2) (λ query same. stop_after_type c.in_ok-name.name.now c.args.bytes.now c.in_ok-name.at_close.now c.in_err-at_dot.field-0.0 c.in_ok-name.ensures.ok c.in_err-at_dot.ensures.err query)
+    rw (p.1, p.2) (λ query same. stop_after_type c.in_ok-name.name.now c.args.bytes.now c.in_ok-name.at_close.now c.in_err-at_dot.field-0.0
+    c.in_ok-name.ensures.ok c.in_err-at_dot.ensures.err query)
 
 pub returns-in_err-to-clause-err : goal.returns-in_err-to-clause-err
 returns-in_err-to-clause-err c =
     let p = err_from_is_err_and c.from_residual-in_err-to.result c.from_residual-in_err-to.ensures.1 in
-    rw (p.1, p.2) (λ query same. stop_in_to c.in_ok-name.name.now c.args.bytes.now c.in_ok-name.at_close.now c.in_ok-at_dot.at_dot.now c.in_err-to.field-0.0 c.in_ok-name.ensures.ok c.in_ok-at_dot.ensures.ok c.in_err-to.ensures.err query)
+    rw (p.1, p.2) (λ query same. stop_in_to c.in_ok-name.name.now c.args.bytes.now c.in_ok-name.at_close.now c.in_ok-at_dot.at_dot.now c.in_err-to.field-0.0
+    c.in_ok-name.ensures.ok c.in_ok-at_dot.ensures.ok c.in_err-to.ensures.err query)
 
 pub returns-in_err-label-clause-err : goal.returns-in_err-label-clause-err
 returns-in_err-label-clause-err c =
@@ -35,7 +37,10 @@ returns-in_err-label-clause-err c =
 pub returns-in_err-pairs-clause-err : goal.returns-in_err-pairs-clause-err
 returns-in_err-pairs-clause-err c =
     let p = err_from_is_err_and c.from_residual-in_err-pairs.result c.from_residual-in_err-pairs.ensures.1 in
-    rw (p.1, p.2) (λ query same. stop_in_edge_properties query (c.args.before + 1) c.in_ok-name.name.now c.args.bytes.now c.in_ok-name.at_close.now c.in_ok-at_dot.at_dot.now c.in_ok-to.rest.now c.in_ok-to.to c.in_err-pairs.field-0.0 c.in_ok-name.ensures.ok c.in_ok-at_dot.ensures.ok c.in_ok-to.ensures.ok (subst (λ (first : List Pair). PropertiesStop (c.args.before + 1) first c.in_ok-to.rest.now c.in_err-pairs.field-0.0) c.new.ensures.items c.in_err-pairs.ensures.err) (none_yet (steps_of query) c.args.before same))
+    rw (p.1, p.2) (λ query same. stop_in_edge_properties query (c.args.before + 1) c.in_ok-name.name.now c.args.bytes.now c.in_ok-name.at_close.now
+    c.in_ok-at_dot.at_dot.now c.in_ok-to.rest.now c.in_ok-to.to c.in_err-pairs.field-0.0 c.in_ok-name.ensures.ok c.in_ok-at_dot.ensures.ok
+    c.in_ok-to.ensures.ok (subst (λ (first : List Pair). PropertiesStop (c.args.before + 1) first c.in_ok-to.rest.now c.in_err-pairs.field-0.0)
+    c.new.ensures.items c.in_err-pairs.ensures.err) (none_yet (steps_of query) c.args.before same))
 
 pub returns-clause-ok : goal.returns-clause-ok
 returns-clause-ok c = λ query same.
@@ -43,7 +48,9 @@ returns-clause-ok c = λ query same.
     let to = c.in_ok-to.to in
     let kept = subst (λ (first : List Pair). PropertiesKept (c.args.before + 1) first pairs c.in_ok-to.rest.now) c.new.ensures.items c.in_ok-pairs.ensures.ok in
     subst (λ (label : List ℕ). KeptFrom turn is_loose (commands.Mutate (Some query) (mutations.AddE label to pairs)) (Quote (EdgeType query)) c.args.bytes.now)
-    (sym c.in_ok-label.ensures.ok) (edges_kept query (c.args.before + 1) c.in_ok-name.name.now c.args.bytes.now c.in_ok-name.at_close.now c.in_ok-at_dot.at_dot.now c.in_ok-to.rest.now to pairs c.in_ok-name.ensures.ok c.in_ok-at_dot.ensures.ok c.in_ok-to.ensures.ok kept (none_yet (steps_of query) c.args.before same))
+    (sym c.in_ok-label.ensures.ok) (edges_kept query (c.args.before + 1) c.in_ok-name.name.now c.args.bytes.now c.in_ok-name.at_close.now
+    c.in_ok-at_dot.at_dot.now c.in_ok-to.rest.now to pairs c.in_ok-name.ensures.ok c.in_ok-at_dot.ensures.ok c.in_ok-to.ensures.ok kept
+    (none_yet (steps_of query) c.args.before same))
 
 pub returns-in_err-name-clause-ok : goal.returns-in_err-name-clause-ok
 returns-in_err-name-clause-ok c = never_ok c.from_residual.result _ _ c.from_residual.ensures.1

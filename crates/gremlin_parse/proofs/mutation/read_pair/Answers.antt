@@ -12,17 +12,21 @@ returns-in_err-key-clause-err c =
 pub returns-in_err-at_value-clause-err : goal.returns-in_err-at_value-clause-err
 returns-in_err-at_value-clause-err c =
     let p = err_from_is_err_and c.from_residual-in_err-at_value.result c.from_residual-in_err-at_value.ensures.1 in
-    rw (p.1, p.2) (stop_after_pair_key c.in_ok-key.key.now c.args.bytes.now c.in_ok-key.at_comma.now c.in_err-at_value.field-0.0 c.in_ok-key.ensures.ok c.in_err-at_value.ensures.err)
+    rw (p.1, p.2) (stop_after_pair_key c.in_ok-key.key.now c.args.bytes.now c.in_ok-key.at_comma.now c.in_err-at_value.field-0.0 c.in_ok-key.ensures.ok
+    c.in_err-at_value.ensures.err)
 
 pub returns-in_err-value-clause-err : goal.returns-in_err-value-clause-err
 returns-in_err-value-clause-err c =
     let p = err_from_is_err_and c.from_residual-in_err-value.result c.from_residual-in_err-value.ensures.1 in
-    rw (p.1, p.2) (stop_in_pair_value c.in_ok-key.key.now c.args.bytes.now c.in_ok-key.at_comma.now c.in_ok-at_value.at_value.now c.in_err-value.field-0.0 c.in_ok-key.ensures.ok c.in_ok-at_value.ensures.ok c.in_err-value.ensures.err)
+    rw (p.1, p.2) (stop_in_pair_value c.in_ok-key.key.now c.args.bytes.now c.in_ok-key.at_comma.now c.in_ok-at_value.at_value.now c.in_err-value.field-0.0
+    c.in_ok-key.ensures.ok c.in_ok-at_value.ensures.ok c.in_err-value.ensures.err)
 
 pub returns-in_err-rest-clause-err : goal.returns-in_err-rest-clause-err
 returns-in_err-rest-clause-err c =
     let p = err_from_is_err_and c.from_residual-in_err-rest.result c.from_residual-in_err-rest.ensures.1 in
-    rw (p.1, p.2) (stop_after_pair_value c.in_ok-key.key.now c.args.bytes.now c.in_ok-key.at_comma.now c.in_ok-at_value.at_value.now c.in_ok-value.after_value.now c.skip_blanks-at_close.result.now (value_of c.in_ok-value.value) c.in_err-rest.field-0.0 c.in_ok-key.ensures.ok c.in_ok-at_value.ensures.ok c.in_ok-value.ensures.ok c.skip_blanks-at_close.ensures c.in_err-rest.ensures.err)
+    rw (p.1, p.2) (stop_after_pair_value c.in_ok-key.key.now c.args.bytes.now c.in_ok-key.at_comma.now c.in_ok-at_value.at_value.now
+    c.in_ok-value.after_value.now c.skip_blanks-at_close.result.now (value_of c.in_ok-value.value) c.in_err-rest.field-0.0 c.in_ok-key.ensures.ok
+    c.in_ok-at_value.ensures.ok c.in_ok-value.ensures.ok c.skip_blanks-at_close.ensures c.in_err-rest.ensures.err)
 
 pub returns-clause-ok : goal.returns-clause-ok
 returns-clause-ok c = pair_read c.in_ok-key.key.now c.args.bytes.now c.in_ok-key.at_comma.now c.in_ok-at_value.at_value.now c.in_ok-value.after_value.now

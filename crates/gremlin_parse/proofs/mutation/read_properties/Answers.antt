@@ -16,17 +16,20 @@ loop-rest-init c = no_properties c.args.before c.args.first.items c.args.bytes.n
 pub returns-in_err-at_key-clause-err : goal.returns-in_err-at_key-clause-err
 returns-in_err-at_key-clause-err c =
     let p = err_from_is_err_and c.from_residual.result c.from_residual.ensures.1 in
-    rw (p.1, p.2) (stop_in_names_of_properties c.args.before c.args.first.items c.args.bytes.now c.loop-rest.pairs.items c.loop-rest.count c.loop-rest.rest.now c.in_err-at_key.field-0.0 c.loop-rest.invariant c.in_err-at_key.ensures.err)
+    rw (p.1, p.2) (stop_in_names_of_properties c.args.before c.args.first.items c.args.bytes.now c.loop-rest.pairs.items c.loop-rest.count c.loop-rest.rest.now
+    c.in_err-at_key.field-0.0 c.loop-rest.invariant c.in_err-at_key.ensures.err)
 
 pub returns-in_err-key-clause-err : goal.returns-in_err-key-clause-err
 returns-in_err-key-clause-err c =
     let p = err_from_is_err_and c.from_residual-in_err-key.result c.from_residual-in_err-key.ensures.1 in
-    rw (p.1, p.2) (stop_in_property c.args.before c.args.first.items c.args.bytes.now c.loop-rest.pairs.items c.loop-rest.count c.loop-rest.rest.now c.in_ok-at_key.at_key.now c.in_err-key.field-0.0 c.loop-rest.invariant c.in_ok-at_key.ensures.ok c.in_err-key.ensures.err)
+    rw (p.1, p.2) (stop_in_property c.args.before c.args.first.items c.args.bytes.now c.loop-rest.pairs.items c.loop-rest.count c.loop-rest.rest.now
+    c.in_ok-at_key.at_key.now c.in_err-key.field-0.0 c.loop-rest.invariant c.in_ok-at_key.ensures.ok c.in_err-key.ensures.err)
 
 pub returns-in_err-push_pair-clause-err : goal.returns-in_err-push_pair-clause-err
 returns-in_err-push_pair-clause-err c =
     let p = err_from_is_err_and c.from_residual-in_err-push_pair.result c.from_residual-in_err-push_pair.ensures.1 in
-    rw (p.1, p.2) (λ subject same. stop_of_memory (Changed subject c.args.first.items) c.args.bytes.now c.in_err-push_pair.field-0.0 c.in_err-push_pair.ensures.err)
+    rw (p.1, p.2) (λ subject same. stop_of_memory (Changed subject c.args.first.items) c.args.bytes.now c.in_err-push_pair.field-0.0
+    c.in_err-push_pair.ensures.err)
 
 pub loop-rest-preserved : goal.loop-rest-preserved
 loop-rest-preserved c =
@@ -39,7 +42,8 @@ loop-rest-preserved c =
 pub returns-clause-ok : goal.returns-clause-ok
 returns-clause-ok c =
     subst (λ (list : List Pair). PropertiesKept c.args.before c.args.first.items list c.args.bytes.now) (sym c.new.ensures)
-    (properties_kept c.args.before c.args.first.items c.args.bytes.now c.loop-rest.pairs.items c.loop-rest.count c.loop-rest.rest.now c.loop-rest.invariant (is_nothing c.loop-rest.rest.now c.is_empty.result c.is_empty.ensures c.loop-rest-test.false))
+    (properties_kept c.args.before c.args.first.items c.args.bytes.now c.loop-rest.pairs.items c.loop-rest.count c.loop-rest.rest.now c.loop-rest.invariant
+    (is_nothing c.loop-rest.rest.now c.is_empty.result c.is_empty.ensures c.loop-rest-test.false))
 
 pub returns-in_err-at_key-clause-ok : goal.returns-in_err-at_key-clause-ok
 returns-in_err-at_key-clause-ok c = never_ok c.from_residual.result _ _ c.from_residual.ensures.1

@@ -14,18 +14,21 @@ returns-in_err-at_name-clause-err c =
 pub returns-in_err-named-clause-err : goal.returns-in_err-named-clause-err
 returns-in_err-named-clause-err c =
     let p = err_from_is_err_and c.from_residual-in_err-named.result c.from_residual-in_err-named.ensures.1 in
-    rw (p.1, p.2) (stop_at_property_name c.args.before c.args.bytes.now c.in_ok-at_name.at_name.now c.in_err-named.field-0.0 c.in_ok-at_name.ensures.ok c.in_err-named.ensures.err)
+    rw (p.1, p.2) (stop_at_property_name c.args.before c.args.bytes.now c.in_ok-at_name.at_name.now c.in_err-named.field-0.0 c.in_ok-at_name.ensures.ok
+    c.in_err-named.ensures.err)
 
 pub returns-clause-err : goal.returns-clause-err
 returns-clause-err c =
     IfErr-weaker c.read_token-2.result _ _
-    (λ stop at. stop_at_property_opening c.args.before c.args.bytes.now c.in_ok-at_name.at_name.now c.in_ok-named.named.1.now c.skip_blanks-at_open.result.now c.in_ok-named.named.0 stop c.in_ok-at_name.ensures.ok c.in_ok-named.ensures.no_fault c.in_ok-named.ensures.ok c.skip_blanks-at_open.ensures at)
+    (λ stop at. stop_at_property_opening c.args.before c.args.bytes.now c.in_ok-at_name.at_name.now c.in_ok-named.named.1.now c.skip_blanks-at_open.result.now
+    c.in_ok-named.named.0 stop c.in_ok-at_name.ensures.ok c.in_ok-named.ensures.no_fault c.in_ok-named.ensures.ok c.skip_blanks-at_open.ensures at)
     c.read_token-2.ensures.err
 
 pub returns-clause-ok : goal.returns-clause-ok
 returns-clause-ok c =
     IfOk-weaker c.read_token-2.result _ _
-    (λ rest reads. property_name_read c.args.before c.args.bytes.now c.in_ok-at_name.at_name.now c.in_ok-named.named.1.now c.skip_blanks-at_open.result.now rest.now c.in_ok-named.named.0 c.in_ok-at_name.ensures.ok c.in_ok-named.ensures.no_fault c.in_ok-named.ensures.ok c.skip_blanks-at_open.ensures reads)
+    (λ rest reads. property_name_read c.args.before c.args.bytes.now c.in_ok-at_name.at_name.now c.in_ok-named.named.1.now c.skip_blanks-at_open.result.now
+    rest.now c.in_ok-named.named.0 c.in_ok-at_name.ensures.ok c.in_ok-named.ensures.no_fault c.in_ok-named.ensures.ok c.skip_blanks-at_open.ensures reads)
     c.read_token-2.ensures.ok
 
 pub returns-clause-early : goal.returns-clause-early
@@ -37,7 +40,8 @@ returns-clause-early c =
 pub returns-clause-less : goal.returns-clause-less
 returns-clause-less c =
     IfOk-weaker c.read_token-2.result _ _
-    (λ rest reads. opening_shorter property_words c.args.bytes.now c.in_ok-at_name.at_name.now c.in_ok-named.named.1.now c.skip_blanks-at_open.result.now rest.now c.in_ok-named.named.0 c.in_ok-at_name.ensures.ok c.in_ok-named.ensures.ok c.skip_blanks-at_open.ensures reads)
+    (λ rest reads. opening_shorter property_words c.args.bytes.now c.in_ok-at_name.at_name.now c.in_ok-named.named.1.now c.skip_blanks-at_open.result.now
+    rest.now c.in_ok-named.named.0 c.in_ok-at_name.ensures.ok c.in_ok-named.ensures.ok c.skip_blanks-at_open.ensures reads)
     c.read_token-2.ensures.ok
 
 pub returns-in_err-at_name-clause-ok : goal.returns-in_err-at_name-clause-ok

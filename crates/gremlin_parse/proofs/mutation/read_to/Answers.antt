@@ -11,28 +11,33 @@ returns-in_err-at_word-clause-err c =
 pub returns-in_err-at_open-clause-err : goal.returns-in_err-at_open-clause-err
 returns-in_err-at_open-clause-err c =
     let p = err_from_is_err_and c.from_residual-in_err-at_open.result c.from_residual-in_err-at_open.ensures.1 in
-    rw (p.1, p.2) (stop_in_to_word c.args.bytes.now c.in_ok-at_word.at_word.now c.in_err-at_open.field-0.0 c.in_ok-at_word.ensures.ok c.in_err-at_open.ensures.err)
+    rw (p.1, p.2) (stop_in_to_word c.args.bytes.now c.in_ok-at_word.at_word.now c.in_err-at_open.field-0.0 c.in_ok-at_word.ensures.ok
+    c.in_err-at_open.ensures.err)
 
 pub returns-in_err-at_vertex-clause-err : goal.returns-in_err-at_vertex-clause-err
 returns-in_err-at_vertex-clause-err c =
     let p = err_from_is_err_and c.from_residual-in_err-at_vertex.result c.from_residual-in_err-at_vertex.ensures.1 in
-    rw (p.1, p.2) (stop_after_to_word c.args.bytes.now c.in_ok-at_word.at_word.now c.in_ok-at_open.at_open.now c.in_err-at_vertex.field-0.0 c.in_ok-at_word.ensures.ok c.in_ok-at_open.ensures.ok c.in_err-at_vertex.ensures.err)
+    rw (p.1, p.2) (stop_after_to_word c.args.bytes.now c.in_ok-at_word.at_word.now c.in_ok-at_open.at_open.now c.in_err-at_vertex.field-0.0
+    c.in_ok-at_word.ensures.ok c.in_ok-at_open.ensures.ok c.in_err-at_vertex.ensures.err)
 
 pub returns-in_err-at_id-clause-err : goal.returns-in_err-at_id-clause-err
 returns-in_err-at_id-clause-err c =
     let p = err_from_is_err_and c.from_residual-in_err-at_id.result c.from_residual-in_err-at_id.ensures.1 in
-    rw (p.1, p.2) (stop_in_vertex c.args.bytes.now c.in_ok-at_word.at_word.now c.in_ok-at_open.at_open.now c.in_ok-at_vertex.at_vertex.now c.in_err-at_id.field-0.0 c.in_ok-at_word.ensures.ok c.in_ok-at_open.ensures.ok c.in_ok-at_vertex.ensures.ok c.in_err-at_id.ensures.err)
+    rw (p.1, p.2) (stop_in_vertex c.args.bytes.now c.in_ok-at_word.at_word.now c.in_ok-at_open.at_open.now c.in_ok-at_vertex.at_vertex.now
+    c.in_err-at_id.field-0.0 c.in_ok-at_word.ensures.ok c.in_ok-at_open.ensures.ok c.in_ok-at_vertex.ensures.ok c.in_err-at_id.ensures.err)
 
 pub returns-clause-err : goal.returns-clause-err
 returns-clause-err c =
     IfErr-weaker c.read_vertex_id.result _ _
-    (λ stop at. stop_in_vertex_id c.args.bytes.now c.in_ok-at_word.at_word.now c.in_ok-at_open.at_open.now c.in_ok-at_vertex.at_vertex.now c.in_ok-at_id.at_id.now stop c.in_ok-at_word.ensures.ok c.in_ok-at_open.ensures.ok c.in_ok-at_vertex.ensures.ok c.in_ok-at_id.ensures.ok at)
+    (λ stop at. stop_in_vertex_id c.args.bytes.now c.in_ok-at_word.at_word.now c.in_ok-at_open.at_open.now c.in_ok-at_vertex.at_vertex.now
+    c.in_ok-at_id.at_id.now stop c.in_ok-at_word.ensures.ok c.in_ok-at_open.ensures.ok c.in_ok-at_vertex.ensures.ok c.in_ok-at_id.ensures.ok at)
     c.read_vertex_id.ensures.err
 
 pub returns-clause-ok : goal.returns-clause-ok
 returns-clause-ok c =
     IfOk-weaker c.read_vertex_id.result _ _
-    (λ r reads. to_read c.args.bytes.now c.in_ok-at_word.at_word.now c.in_ok-at_open.at_open.now c.in_ok-at_vertex.at_vertex.now c.in_ok-at_id.at_id.now r.1.now r.0 c.in_ok-at_word.ensures.ok c.in_ok-at_open.ensures.ok c.in_ok-at_vertex.ensures.ok c.in_ok-at_id.ensures.ok reads)
+    (λ r reads. to_read c.args.bytes.now c.in_ok-at_word.at_word.now c.in_ok-at_open.at_open.now c.in_ok-at_vertex.at_vertex.now c.in_ok-at_id.at_id.now r.1.now
+    r.0 c.in_ok-at_word.ensures.ok c.in_ok-at_open.ensures.ok c.in_ok-at_vertex.ensures.ok c.in_ok-at_id.ensures.ok reads)
     c.read_vertex_id.ensures.ok
 
 pub returns-in_err-at_word-clause-ok : goal.returns-in_err-at_word-clause-ok

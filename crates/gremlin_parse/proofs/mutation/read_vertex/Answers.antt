@@ -15,23 +15,27 @@ returns-then-not-anonymous-clause-ok c = plain_vertex c.args.bytes.now c.in_ok-a
 pub returns-in_err-at_dot-clause-err : goal.returns-in_err-at_dot-clause-err
 returns-in_err-at_dot-clause-err c =
     let p = err_from_is_err_and c.from_residual-in_err-at_dot.result c.from_residual-in_err-at_dot.ensures.1 in
-    rw (p.1, p.2) (stop_at_second_of_to c.args.bytes.now c.in_ok-anonymous.after.now c.in_ok-anonymous.anonymous c.in_err-at_dot.field-0.0 c.if-not-anonymous.false c.in_ok-anonymous.ensures.ok c.in_err-at_dot.ensures.err)
+    rw (p.1, p.2) (stop_at_second_of_to c.args.bytes.now c.in_ok-anonymous.after.now c.in_ok-anonymous.anonymous c.in_err-at_dot.field-0.0
+    c.if-not-anonymous.false c.in_ok-anonymous.ensures.ok c.in_err-at_dot.ensures.err)
 
 pub returns-in_err-at_vertex-clause-err : goal.returns-in_err-at_vertex-clause-err
 returns-in_err-at_vertex-clause-err c =
     let p = err_from_is_err_and c.from_residual-in_err-at_vertex.result c.from_residual-in_err-at_vertex.ensures.1 in
-    rw (p.1, p.2) (stop_at_dot_of_to c.args.bytes.now c.in_ok-anonymous.after.now c.in_ok-at_dot.at_dot.now c.in_ok-anonymous.anonymous c.in_err-at_vertex.field-0.0 c.if-not-anonymous.false c.in_ok-anonymous.ensures.ok c.in_ok-at_dot.ensures.ok c.in_err-at_vertex.ensures.err)
+    rw (p.1, p.2) (stop_at_dot_of_to c.args.bytes.now c.in_ok-anonymous.after.now c.in_ok-at_dot.at_dot.now c.in_ok-anonymous.anonymous
+    c.in_err-at_vertex.field-0.0 c.if-not-anonymous.false c.in_ok-anonymous.ensures.ok c.in_ok-at_dot.ensures.ok c.in_err-at_vertex.ensures.err)
 
 pub returns-clause-err : goal.returns-clause-err
 returns-clause-err c =
     IfErr-weaker c.read_token-3.result _ _
-    (λ stop at. stop_at_vertex_of_to c.args.bytes.now c.in_ok-anonymous.after.now c.in_ok-at_dot.at_dot.now c.in_ok-at_vertex.at_vertex.now c.in_ok-anonymous.anonymous stop c.if-not-anonymous.false c.in_ok-anonymous.ensures.ok c.in_ok-at_dot.ensures.ok c.in_ok-at_vertex.ensures.ok at)
+    (λ stop at. stop_at_vertex_of_to c.args.bytes.now c.in_ok-anonymous.after.now c.in_ok-at_dot.at_dot.now c.in_ok-at_vertex.at_vertex.now
+    c.in_ok-anonymous.anonymous stop c.if-not-anonymous.false c.in_ok-anonymous.ensures.ok c.in_ok-at_dot.ensures.ok c.in_ok-at_vertex.ensures.ok at)
     c.read_token-3.ensures.err
 
 pub returns-clause-ok : goal.returns-clause-ok
 returns-clause-ok c =
     IfOk-weaker c.read_token-3.result _ _
-    (λ rest reads. anonymous_vertex c.args.bytes.now c.in_ok-anonymous.after.now c.in_ok-at_dot.at_dot.now c.in_ok-at_vertex.at_vertex.now rest.now c.in_ok-anonymous.anonymous c.if-not-anonymous.false c.in_ok-anonymous.ensures.ok c.in_ok-at_dot.ensures.ok c.in_ok-at_vertex.ensures.ok reads)
+    (λ rest reads. anonymous_vertex c.args.bytes.now c.in_ok-anonymous.after.now c.in_ok-at_dot.at_dot.now c.in_ok-at_vertex.at_vertex.now rest.now
+    c.in_ok-anonymous.anonymous c.if-not-anonymous.false c.in_ok-anonymous.ensures.ok c.in_ok-at_dot.ensures.ok c.in_ok-at_vertex.ensures.ok reads)
     c.read_token-3.ensures.ok
 
 pub returns-in_err-anonymous-clause-ok : goal.returns-in_err-anonymous-clause-ok

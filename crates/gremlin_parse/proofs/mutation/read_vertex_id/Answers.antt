@@ -16,12 +16,14 @@ returns-in_err-to-clause-err c =
 pub returns-in_err-at_end-clause-err : goal.returns-in_err-at_end-clause-err
 returns-in_err-at_end-clause-err c =
     let p = err_from_is_err_and c.from_residual-in_err-at_end.result c.from_residual-in_err-at_end.ensures.1 in
-    rw (p.1, p.2) (stop_at_id_close c.args.bytes.now c.in_ok-at_id.at_id.now c.in_ok-to.at_close.now c.in_ok-to.to c.in_err-at_end.field-0.0 c.in_ok-at_id.ensures.ok c.in_ok-to.ensures.ok c.in_err-at_end.ensures.err)
+    rw (p.1, p.2) (stop_at_id_close c.args.bytes.now c.in_ok-at_id.at_id.now c.in_ok-to.at_close.now c.in_ok-to.to c.in_err-at_end.field-0.0
+    c.in_ok-at_id.ensures.ok c.in_ok-to.ensures.ok c.in_err-at_end.ensures.err)
 
 pub returns-in_err-rest-clause-err : goal.returns-in_err-rest-clause-err
 returns-in_err-rest-clause-err c =
     let p = err_from_is_err_and c.from_residual-in_err-rest.result c.from_residual-in_err-rest.ensures.1 in
-    rw (p.1, p.2) (stop_at_to_close c.args.bytes.now c.in_ok-at_id.at_id.now c.in_ok-to.at_close.now c.in_ok-at_end.at_end.now c.in_ok-to.to c.in_err-rest.field-0.0 c.in_ok-at_id.ensures.ok c.in_ok-to.ensures.ok c.in_ok-at_end.ensures.ok c.in_err-rest.ensures.err)
+    rw (p.1, p.2) (stop_at_to_close c.args.bytes.now c.in_ok-at_id.at_id.now c.in_ok-to.at_close.now c.in_ok-at_end.at_end.now c.in_ok-to.to
+    c.in_err-rest.field-0.0 c.in_ok-at_id.ensures.ok c.in_ok-to.ensures.ok c.in_ok-at_end.ensures.ok c.in_err-rest.ensures.err)
 
 pub returns-clause-ok : goal.returns-clause-ok
 returns-clause-ok c = vertex_id_read c.args.bytes.now c.in_ok-at_id.at_id.now c.in_ok-to.at_close.now c.in_ok-at_end.at_end.now c.in_ok-rest.rest.now

@@ -10,7 +10,8 @@ returns-in-Some-clause-ok c = empty_by_read c.args.bytes.now c.in-Some.rest.now 
 pub returns-in_err-descending-clause-err : goal.returns-in_err-descending-clause-err
 returns-in_err-descending-clause-err c =
     let p = err_from_is_err_and c.from_residual-in_err-descending.result c.from_residual-in_err-descending.ensures.1 in
-    rw (p.1, p.2) (stop_in_direction c.args.bytes.now c.in_err-descending.field-0.0 (sym c.starts_quote.ensures ∙ c.if-starts_quote.false) c.in_default.ensures.none c.in_err-descending.ensures.err)
+    rw (p.1, p.2) (stop_in_direction c.args.bytes.now c.in_err-descending.field-0.0 (sym c.starts_quote.ensures ∙ c.if-starts_quote.false)
+    c.in_default.ensures.none c.in_err-descending.ensures.err)
 
 pub returns-clause-ok : goal.returns-clause-ok
 returns-clause-ok c = keyless_read c.args.bytes.now c.in_ok-descending.rest.now c.in_ok-descending.descending

@@ -11,7 +11,12 @@ returns-in_err-descending-clause-err c =
     rw (p.1, p.2) (word_leaves sort_words c.args.bytes.now c.in_err-descending.field-0.0 c.in_err-descending.ensures.err)
 
 pub returns-clause-ok : goal.returns-clause-ok
-returns-clause-ok c = (c.in_ok-descending.after.now, word_read sort_name sort_words (refl, (refl, tt)) c.args.bytes.now c.in_ok-descending.after.now c.in_ok-descending.descending c.in_ok-descending.ensures.ok, c.skip_blanks.ensures)
+returns-clause-ok c = (
+  c.in_ok-descending.after.now,
+  word_read sort_name sort_words (refl, (refl, tt)) c.args.bytes.now c.in_ok-descending.after.now
+      c.in_ok-descending.descending c.in_ok-descending.ensures.ok,
+  c.skip_blanks.ensures,
+)
 
 pub returns-in_err-descending-clause-ok : goal.returns-in_err-descending-clause-ok
 returns-in_err-descending-clause-ok c = never_ok c.from_residual.result _ _ c.from_residual.ensures.1

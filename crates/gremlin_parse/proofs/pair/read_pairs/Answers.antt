@@ -14,7 +14,9 @@ returns-in_err-key-clause-err c =
     let p = err_from_is_err_and c.from_residual.result c.from_residual.ensures.1 in
     let rest = c.loop-rest.rest.now in
     let blanks = c.skip_blanks.result.now in
-    rw (p.1, p.2) (pairs_stop c.args.bytes.now rest c.loop-rest.pairs.items c.in_err-key.field-0.0 c.loop-rest.invariant (not_at_end rest blanks c.skip_blanks.ensures.takes (not_empty blanks c.is_empty.result c.is_empty.ensures c.loop-rest-test.true)) c.in_err-key.ensures.err)
+    rw (p.1, p.2) (pairs_stop c.args.bytes.now rest c.loop-rest.pairs.items c.in_err-key.field-0.0 c.loop-rest.invariant
+    (not_at_end rest blanks c.skip_blanks.ensures.takes (not_empty blanks c.is_empty.result c.is_empty.ensures c.loop-rest-test.true))
+    c.in_err-key.ensures.err)
 
 pub loop-rest-preserved : goal.loop-rest-preserved
 loop-rest-preserved c =

@@ -7,8 +7,14 @@ returns-then-len-gt-NAME_BYTES-clause-err c =
     let bytes = c.args.bytes.now in
     let n = c.word_len-len.result in
     let fits = c.word_len-len.ensures.bound in
-    let len : length (take n bytes) ≡ n = length-take-le n bytes fits in
-    (take n bytes, omega arith, drop n bytes, takes_name bytes (take n bytes) (drop n bytes) n c.in-len1-up.len_at_least (sym c.is_name_start.ensures ∙ c.if-is_name_start.true) c.word_len-len.ensures.count refl refl, refl)
+    let len : length (take n bytes) ≡ n = length-take-le n bytes fits in (
+      take n bytes,
+      omega arith,
+      drop n bytes,
+      takes_name bytes (take n bytes) (drop n bytes) n c.in-len1-up.len_at_least (sym c.is_name_start.ensures
+          ∙ c.if-is_name_start.true) c.word_len-len.ensures.count refl refl,
+      refl,
+    )
 
 pub returns-clause-ok : goal.returns-clause-ok
 returns-clause-ok c =

@@ -14,13 +14,15 @@ returns-in_err-ids-clause-err c =
 pub returns-clause-err : goal.returns-clause-err
 returns-clause-err c =
     IfErr-weaker c.read_steps.result _ _
-    (λ stop at. (c.in_ok-ids.ensures.ok c.args.edges).stops stop (subst (λ (source : Source). StopsFrom (Steps (query_from source)) c.in_ok-ids.at_steps.now stop) c.elements_of.ensures at))
+    (λ stop at. (c.in_ok-ids.ensures.ok c.args.edges).stops stop (subst (λ (source : Source). StopsFrom (Steps (query_from source)) c.in_ok-ids.at_steps.now
+    stop) c.elements_of.ensures at))
     c.read_steps.ensures.err
 
 pub returns-clause-ok : goal.returns-clause-ok
 returns-clause-ok c =
     IfOk-weaker c.read_steps.result _ _
-    (λ command kept. (c.in_ok-ids.ensures.ok c.args.edges).kept command (subst (λ (source : Source). KeptFrom turn is_loose command (Steps (query_from source)) c.in_ok-ids.at_steps.now) c.elements_of.ensures kept))
+    (λ command kept. (c.in_ok-ids.ensures.ok c.args.edges).kept command (subst (λ (source : Source). KeptFrom turn is_loose command (Steps (query_from source))
+    c.in_ok-ids.at_steps.now) c.elements_of.ensures kept))
     c.read_steps.ensures.ok
 
 pub returns-in_err-ids-clause-ok : goal.returns-in_err-ids-clause-ok

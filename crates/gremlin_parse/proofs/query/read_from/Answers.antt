@@ -10,21 +10,24 @@ pub returns-in_err-mutation-in-NewVertex-clause-ok : goal.returns-in_err-mutatio
 returns-in_err-mutation-in-NewVertex-clause-ok c = never_ok c.from_residual.result _ _ c.from_residual.ensures.1
 
 pub returns-in-Vertices-clause-ok : goal.returns-in-Vertices-clause-ok
-returns-in-Vertices-clause-ok c = subst (λ (kind : SourceKind). IfOk c.read_elements.result (λ command. KeptFrom turn is_loose command (opened_source kind) c.args.bytes.now)) (sym c.in-Vertices.is) c.read_elements.ensures.ok
+returns-in-Vertices-clause-ok c = subst (λ (kind : SourceKind). IfOk c.read_elements.result (λ command. KeptFrom turn is_loose command (opened_source kind)
+    c.args.bytes.now)) (sym c.in-Vertices.is) c.read_elements.ensures.ok
 
 pub returns-in-Vertices-clause-err : goal.returns-in-Vertices-clause-err
 returns-in-Vertices-clause-err c = subst (λ (kind : SourceKind). IfErr c.read_elements.result (StopsFrom (opened_source kind) c.args.bytes.now))
     (sym c.in-Vertices.is) c.read_elements.ensures.err
 
 pub returns-in-Edges-clause-ok : goal.returns-in-Edges-clause-ok
-returns-in-Edges-clause-ok c = subst (λ (kind : SourceKind). IfOk c.read_elements-in-Edges.result (λ command. KeptFrom turn is_loose command (opened_source kind) c.args.bytes.now)) (sym c.in-Edges.is) c.read_elements-in-Edges.ensures.ok
+returns-in-Edges-clause-ok c = subst (λ (kind : SourceKind). IfOk c.read_elements-in-Edges.result (λ command. KeptFrom turn is_loose command
+    (opened_source kind) c.args.bytes.now)) (sym c.in-Edges.is) c.read_elements-in-Edges.ensures.ok
 
 pub returns-in-Edges-clause-err : goal.returns-in-Edges-clause-err
 returns-in-Edges-clause-err c = subst (λ (kind : SourceKind). IfErr c.read_elements-in-Edges.result (StopsFrom (opened_source kind) c.args.bytes.now))
     (sym c.in-Edges.is) c.read_elements-in-Edges.ensures.err
 
 pub returns-in-Found-clause-ok : goal.returns-in-Found-clause-ok
-returns-in-Found-clause-ok c = subst (λ (kind : SourceKind). IfOk c.read_found_nodes.result (λ command. KeptFrom turn is_loose command (opened_source kind) c.args.bytes.now)) (sym c.in-Found.is) c.read_found_nodes.ensures.ok
+returns-in-Found-clause-ok c = subst (λ (kind : SourceKind). IfOk c.read_found_nodes.result (λ command. KeptFrom turn is_loose command (opened_source kind)
+    c.args.bytes.now)) (sym c.in-Found.is) c.read_found_nodes.ensures.ok
 
 pub returns-in-Found-clause-err : goal.returns-in-Found-clause-err
 returns-in-Found-clause-err c = subst (λ (kind : SourceKind). IfErr c.read_found_nodes.result (StopsFrom (opened_source kind) c.args.bytes.now))

@@ -32,7 +32,9 @@ pub returns-in_err-mutation-clause-err : goal.returns-in_err-mutation-clause-err
 returns-in_err-mutation-clause-err c =
     let p = err_from_is_err_and c.from_residual-in_err-mutation.result c.from_residual-in_err-mutation.ensures.1 in
     let same = stage_is c.args.source c.loop-rest.draft c.loop-rest.invariant.is ∙ sym c.stage-stage.ensures in
-    rw (p.1, p.2) (stop_in_change (Steps (query_from c.args.source)) (drafted c.args.source c.loop-rest.draft) c.stage-stage.result c.loop-rest.draft.is_ordered c.in_ok-word.word c.in-Change.change c.args.bytes.now c.loop-rest.rest.now c.in_ok-word.at_arguments.now c.in_err-mutation.field-0.0 c.loop-rest.invariant.leads same c.in_ok-word.ensures.ok c.in-Change.is c.in_err-mutation.ensures.err)
+    rw (p.1, p.2) (stop_in_change (Steps (query_from c.args.source)) (drafted c.args.source c.loop-rest.draft) c.stage-stage.result c.loop-rest.draft.is_ordered
+    c.in_ok-word.word c.in-Change.change c.args.bytes.now c.loop-rest.rest.now c.in_ok-word.at_arguments.now c.in_err-mutation.field-0.0
+    c.loop-rest.invariant.leads same c.in_ok-word.ensures.ok c.in-Change.is c.in_err-mutation.ensures.err)
 
 pub returns-in-Change-clause-ok : goal.returns-in-Change-clause-ok
 returns-in-Change-clause-ok c =

@@ -15,7 +15,8 @@ returns-in_err-rest-clause-err c =
     let stop = c.in_err-rest.field-0.0 in
     let takes = takes_name bytes name at_quote c.word_len-len.result c.in-len1-up.len_at_least (sym c.is_name_start.ensures ∙ c.if-is_name_start.true)
     c.word_len-len.ensures.count c.split_at.ensures.front c.split_at.ensures.back in
-    rw (p.1, p.2) (leaves_closed c.args.double name bytes at_quote stop takes (subst (λ (sign : List ℕ). Leaves (Sign sign) at_quote stop) c.quote.ensures c.in_err-rest.ensures.err))
+    rw (p.1, p.2) (leaves_closed c.args.double name bytes at_quote stop takes (subst (λ (sign : List ℕ). Leaves (Sign sign) at_quote stop) c.quote.ensures
+    c.in_err-rest.ensures.err))
 
 pub returns-then-len-gt-NAME_BYTES-clause-err : goal.returns-then-len-gt-NAME_BYTES-clause-err
 returns-then-len-gt-NAME_BYTES-clause-err c =

@@ -11,7 +11,8 @@ returns-in_err-double-clause-err c =
 pub returns-in_err-name-clause-err : goal.returns-in_err-name-clause-err
 returns-in_err-name-clause-err c =
     let p = err_from_is_err_and c.from_residual-in_err-name.result c.from_residual-in_err-name.ensures.1 in
-    rw (p.1, p.2) (stop_in_name c.args.bytes.now c.in_ok-double.at_name.now c.in_ok-double.double c.in_err-name.field-0.0 c.in_ok-double.ensures.ok c.in_err-name.ensures.err)
+    rw (p.1, p.2) (stop_in_name c.args.bytes.now c.in_ok-double.at_name.now c.in_ok-double.double c.in_err-name.field-0.0 c.in_ok-double.ensures.ok
+    c.in_err-name.ensures.err)
 
 pub returns-clause-ok : goal.returns-clause-ok
 returns-clause-ok c = quoted_name_read c.args.bytes.now c.in_ok-double.at_name.now c.in_ok-name.rest.now c.skip_blanks.result.now c.in_ok-name.name.now

@@ -13,7 +13,8 @@ fault_of-requires c = stop_within (NeedsMemory c.args.line.now) c.args.line.now 
 
 pub returns-in-Err-clause-fault : goal.returns-in-Err-clause-fault
 returns-in-Err-clause-fault c = λ some.
-    rw c.fault_of.ensures (fault_is_leftmost (NeedsMemory c.args.line.now) c.args.line.now c.in-Err.stop c.in-Err.ensures.err (λ same. some (c.fault_of.ensures ∙ same)))
+    rw c.fault_of.ensures (fault_is_leftmost (NeedsMemory c.args.line.now) c.args.line.now c.in-Err.stop c.in-Err.ensures.err
+    (λ same. some (c.fault_of.ensures ∙ same)))
 
 pub returns-in-Err-clause-none : goal.returns-in-Err-clause-none
 returns-in-Err-clause-none c = λ some.

@@ -17,7 +17,8 @@ pub returns-in_err-command-clause-err : goal.returns-in_err-command-clause-err
 returns-in_err-command-clause-err c =
     let p = err_from_is_err_and c.from_residual-in_err-command.result c.from_residual-in_err-command.ensures.1 in
     let line = c.args.line.now in
-    rw (p.1, p.2) (stop_of_line line c.in_ok-session.session c.in_ok-session.rest.now c.skip_blanks.result.now c.in_err-command.field-0.0 c.in_ok-session.ensures.ok c.skip_blanks.ensures.takes c.in_err-command.ensures.err)
+    rw (p.1, p.2) (stop_of_line line c.in_ok-session.session c.in_ok-session.rest.now c.skip_blanks.result.now c.in_err-command.field-0.0
+    c.in_ok-session.ensures.ok c.skip_blanks.ensures.takes c.in_err-command.ensures.err)
 
 pub returns-clause-spelled : goal.returns-clause-spelled
 returns-clause-spelled c =
@@ -42,7 +43,8 @@ returns-clause-no_fault c =
 
 pub returns-clause-session : goal.returns-clause-session
 returns-clause-session c =
-    c.unwrap_or.ensures ∙ ap (λ (s : Option ℕ). unwrap_or s 0) (named_is c.args.line.now c.in_ok-session.session c.in_ok-session.rest.now c.in_ok-session.ensures.ok)
+    c.unwrap_or.ensures ∙ ap (λ (s : Option ℕ). unwrap_or s 0) (named_is c.args.line.now c.in_ok-session.session c.in_ok-session.rest.now
+    c.in_ok-session.ensures.ok)
 
 pub returns-in_err-session-clause-spelled : goal.returns-in_err-session-clause-spelled
 returns-in_err-session-clause-spelled c = never_ok c.from_residual.result _ _ c.from_residual.ensures.1

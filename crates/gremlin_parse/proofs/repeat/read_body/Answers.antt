@@ -23,7 +23,8 @@ loop-more-init c = record {
 pub returns-in_err-step-clause-err : goal.returns-in_err-step-clause-err
 returns-in_err-step-clause-err c =
     let p = err_from_is_err_and c.from_residual-in_err-step.result c.from_residual-in_err-step.ensures.1 in
-    rw (p.1, p.2) (stop_in_body_step c.args.before c.loop-more.count c.args.bytes.now c.loop-more.rest.now c.loop-more.more c.loop-more.steps.items c.in_err-step.field-0.0 c.loop-more-test.true c.loop-more.invariant.so_far c.in_err-step.ensures.err)
+    rw (p.1, p.2) (stop_in_body_step c.args.before c.loop-more.count c.args.bytes.now c.loop-more.rest.now c.loop-more.more c.loop-more.steps.items
+    c.in_err-step.field-0.0 c.loop-more-test.true c.loop-more.invariant.so_far c.in_err-step.ensures.err)
 
 pub returns-in_err-push_body_step-clause-err : goal.returns-in_err-push_body_step-clause-err
 returns-in_err-push_body_step-clause-err c =
@@ -33,7 +34,9 @@ returns-in_err-push_body_step-clause-err c =
 pub returns-in_err-again-clause-err : goal.returns-in_err-again-clause-err
 returns-in_err-again-clause-err c =
     let p = err_from_is_err_and c.from_residual-in_err-again.result c.from_residual-in_err-again.ensures.1 in
-    rw (p.1, p.2) (stop_after_body_step c.args.before c.loop-more.count c.args.bytes.now c.loop-more.rest.now c.in_ok-step.after_step.now c.loop-more.more c.loop-more.steps.items c.in_ok-step.step c.in_err-again.field-0.0 c.loop-more-test.true c.loop-more.invariant.so_far c.in_ok-step.ensures.ok c.in_err-again.ensures.err)
+    rw (p.1, p.2) (stop_after_body_step c.args.before c.loop-more.count c.args.bytes.now c.loop-more.rest.now c.in_ok-step.after_step.now c.loop-more.more
+    c.loop-more.steps.items c.in_ok-step.step c.in_err-again.field-0.0 c.loop-more-test.true c.loop-more.invariant.so_far c.in_ok-step.ensures.ok
+    c.in_err-again.ensures.err)
 
 pub loop-more-preserved : goal.loop-more-preserved
 loop-more-preserved c =
@@ -42,7 +45,10 @@ loop-more-preserved c =
     let shorter = c.in_ok-step.ensures.within in
     let less = c.in_ok-again.ensures.less in
     record {
-      so_far = subst (λ (list : List BodyStep). BodySoFar c.args.before c.args.bytes.now c.in_ok-again.again list (c.loop-more.count + 1) c.in_ok-again.after.now) (sym c.in_ok-push_body_step.ensures.ok) (body_steps_more c.args.before c.loop-more.count (c.loop-more.count + 1) c.args.bytes.now c.loop-more.rest.now c.in_ok-step.after_step.now c.in_ok-again.after.now c.loop-more.more c.in_ok-again.again c.loop-more.steps.items c.in_ok-step.step c.loop-more-test.true c.loop-more.invariant.so_far c.in_ok-step.ensures.ok c.in_ok-again.ensures.ok refl);
+      so_far = subst (λ (list : List BodyStep). BodySoFar c.args.before c.args.bytes.now c.in_ok-again.again list (c.loop-more.count + 1)
+          c.in_ok-again.after.now) (sym c.in_ok-push_body_step.ensures.ok) (body_steps_more c.args.before c.loop-more.count (c.loop-more.count + 1)
+          c.args.bytes.now c.loop-more.rest.now c.in_ok-step.after_step.now c.in_ok-again.after.now c.loop-more.more c.in_ok-again.again c.loop-more.steps.items
+          c.in_ok-step.step c.loop-more-test.true c.loop-more.invariant.so_far c.in_ok-step.ensures.ok c.in_ok-again.ensures.ok refl);
       few = omega (arith, early);
       within = omega (arith, before, shorter, less);
     }
@@ -50,7 +56,8 @@ loop-more-preserved c =
 pub returns-clause-ok : goal.returns-clause-ok
 returns-clause-ok c = λ query same.
     subst (λ (body : List BodyStep). LeadsTo (BodyFirst query) c.args.bytes.now (AfterBody query body) c.loop-more.rest.now) (sym c.new.ensures)
-    (body_done c.args.before c.loop-more.count c.args.bytes.now c.loop-more.rest.now c.loop-more.more c.loop-more.steps.items c.loop-more-test.false c.loop-more.invariant.so_far query same)
+    (body_done c.args.before c.loop-more.count c.args.bytes.now c.loop-more.rest.now c.loop-more.more c.loop-more.steps.items c.loop-more-test.false
+    c.loop-more.invariant.so_far query same)
 
 pub returns-clause-few : goal.returns-clause-few
 returns-clause-few c =

@@ -15,7 +15,8 @@ returns-in_err-word-clause-err c =
 pub returns-in_err-at_arguments-clause-err : goal.returns-in_err-at_arguments-clause-err
 returns-in_err-at_arguments-clause-err c =
     let p = err_from_is_err_and c.from_residual-in_err-at_arguments.result c.from_residual-in_err-at_arguments.ensures.1 in
-    rw (p.1, p.2) (stop_at_body_opening c.args.before c.args.bytes.now c.in_ok-word.after_name.now c.skip_blanks-at_open.result.now c.in_ok-word.word c.in_err-at_arguments.field-0.0 c.in_ok-word.ensures.no_fault c.in_ok-word.ensures.ok c.skip_blanks-at_open.ensures c.in_err-at_arguments.ensures.err)
+    rw (p.1, p.2) (stop_at_body_opening c.args.before c.args.bytes.now c.in_ok-word.after_name.now c.skip_blanks-at_open.result.now c.in_ok-word.word
+    c.in_err-at_arguments.field-0.0 c.in_ok-word.ensures.no_fault c.in_ok-word.ensures.ok c.skip_blanks-at_open.ensures c.in_err-at_arguments.ensures.err)
 
 pub returns-in_err-word-clause-ok : goal.returns-in_err-word-clause-ok
 returns-in_err-word-clause-ok c = never_ok c.from_residual.result _ _ c.from_residual.ensures.1
@@ -40,7 +41,9 @@ returns-clause-ok c =
     let opens = body_opening_read c.args.before c.args.bytes.now c.in_ok-word.after_name.now c.skip_blanks-at_open.result.now
     c.in_ok-at_arguments.at_arguments.now c.in_ok-word.word c.in_ok-word.ensures.no_fault c.in_ok-word.ensures.ok c.skip_blanks-at_open.ensures
     c.in_ok-at_arguments.ensures.ok in
-    IfOk-weaker c.read_body_arguments.result _ _ (λ r reads query body same. on (BodyName query body) c.args.bytes.now (opened_body (OfBody query body) c.in_ok-word.word) c.in_ok-at_arguments.at_arguments.now (InBody query (body ++ r.0 ∷ [])) r.1.now (opens query body same) (reads (OfBody query body))) c.read_body_arguments.ensures.ok
+    IfOk-weaker c.read_body_arguments.result _ _ (λ r reads query body same. on (BodyName query body) c.args.bytes.now (opened_body (OfBody query body)
+    c.in_ok-word.word) c.in_ok-at_arguments.at_arguments.now (InBody query (body ++ r.0 ∷ [])) r.1.now (opens query body same) (reads (OfBody query body)))
+    c.read_body_arguments.ensures.ok
 
 pub returns-clause-early : goal.returns-clause-early
 returns-clause-early c = IfOk-weaker c.read_body_arguments.result _ _ (λ r reads. before_33rd c.args.before c.in_ok-word.ensures.no_fault)

@@ -11,22 +11,27 @@ returns-in_err-at_word-clause-err c =
 pub returns-in_err-at_open-clause-err : goal.returns-in_err-at_open-clause-err
 returns-in_err-at_open-clause-err c =
     let p = err_from_is_err_and c.from_residual-in_err-at_open.result c.from_residual-in_err-at_open.ensures.1 in
-    rw (p.1, p.2) (stop_in_times_word c.args.bytes.now c.in_ok-at_word.at_word.now c.in_err-at_open.field-0.0 c.in_ok-at_word.ensures.ok c.in_err-at_open.ensures.err)
+    rw (p.1, p.2) (stop_in_times_word c.args.bytes.now c.in_ok-at_word.at_word.now c.in_err-at_open.field-0.0 c.in_ok-at_word.ensures.ok
+    c.in_err-at_open.ensures.err)
 
 pub returns-in_err-at_number-clause-err : goal.returns-in_err-at_number-clause-err
 returns-in_err-at_number-clause-err c =
     let p = err_from_is_err_and c.from_residual-in_err-at_number.result c.from_residual-in_err-at_number.ensures.1 in
-    rw (p.1, p.2) (stop_after_times_word c.args.bytes.now c.in_ok-at_word.at_word.now c.in_ok-at_open.at_open.now c.in_err-at_number.field-0.0 c.in_ok-at_word.ensures.ok c.in_ok-at_open.ensures.ok c.in_err-at_number.ensures.err)
+    rw (p.1, p.2) (stop_after_times_word c.args.bytes.now c.in_ok-at_word.at_word.now c.in_ok-at_open.at_open.now c.in_err-at_number.field-0.0
+    c.in_ok-at_word.ensures.ok c.in_ok-at_open.ensures.ok c.in_err-at_number.ensures.err)
 
 pub returns-in_err-times-clause-err : goal.returns-in_err-times-clause-err
 returns-in_err-times-clause-err c =
     let p = err_from_is_err_and c.from_residual-in_err-times.result c.from_residual-in_err-times.ensures.1 in
-    rw (p.1, p.2) (stop_in_times c.args.bytes.now c.in_ok-at_word.at_word.now c.in_ok-at_open.at_open.now c.in_ok-at_number.at_number.now c.in_err-times.field-0.0 c.in_ok-at_word.ensures.ok c.in_ok-at_open.ensures.ok c.in_ok-at_number.ensures.ok c.in_err-times.ensures.err)
+    rw (p.1, p.2) (stop_in_times c.args.bytes.now c.in_ok-at_word.at_word.now c.in_ok-at_open.at_open.now c.in_ok-at_number.at_number.now
+    c.in_err-times.field-0.0 c.in_ok-at_word.ensures.ok c.in_ok-at_open.ensures.ok c.in_ok-at_number.ensures.ok c.in_err-times.ensures.err)
 
 pub returns-in_err-rest-clause-err : goal.returns-in_err-rest-clause-err
 returns-in_err-rest-clause-err c =
     let p = err_from_is_err_and c.from_residual-in_err-rest.result c.from_residual-in_err-rest.ensures.1 in
-    rw (p.1, p.2) (stop_after_times c.args.bytes.now c.in_ok-at_word.at_word.now c.in_ok-at_open.at_open.now c.in_ok-at_number.at_number.now c.in_ok-times.after.now c.skip_blanks-at_close.result.now c.in_ok-times.times c.in_err-rest.field-0.0 c.in_ok-at_word.ensures.ok c.in_ok-at_open.ensures.ok c.in_ok-at_number.ensures.ok c.in_ok-times.ensures.ok c.skip_blanks-at_close.ensures c.in_err-rest.ensures.err)
+    rw (p.1, p.2) (stop_after_times c.args.bytes.now c.in_ok-at_word.at_word.now c.in_ok-at_open.at_open.now c.in_ok-at_number.at_number.now
+    c.in_ok-times.after.now c.skip_blanks-at_close.result.now c.in_ok-times.times c.in_err-rest.field-0.0 c.in_ok-at_word.ensures.ok
+    c.in_ok-at_open.ensures.ok c.in_ok-at_number.ensures.ok c.in_ok-times.ensures.ok c.skip_blanks-at_close.ensures c.in_err-rest.ensures.err)
 
 pub returns-clause-ok : goal.returns-clause-ok
 returns-clause-ok c = times_read c.args.bytes.now c.in_ok-at_word.at_word.now c.in_ok-at_open.at_open.now c.in_ok-at_number.at_number.now

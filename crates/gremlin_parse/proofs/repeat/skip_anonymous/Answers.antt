@@ -17,13 +17,15 @@ returns-in_err-at_dot-clause-err c =
 pub returns-clause-err : goal.returns-clause-err
 returns-clause-err c =
     IfErr-weaker c.read_token-2.result _ _
-    (λ stop at. stop_after_anonymous c.args.bytes.now c.in_ok-at_dot.at_dot.now stop c.in-len1-up.len_at_least c.if-first-ne95.false c.in_ok-at_dot.ensures.ok at)
+    (λ stop at. stop_after_anonymous c.args.bytes.now c.in_ok-at_dot.at_dot.now stop c.in-len1-up.len_at_least c.if-first-ne95.false c.in_ok-at_dot.ensures.ok
+    at)
     c.read_token-2.ensures.err
 
 pub returns-clause-ok : goal.returns-clause-ok
 returns-clause-ok c =
     IfOk-weaker c.read_token-2.result _ _
-    (λ rest reads. anonymous_read c.args.bytes.now c.in_ok-at_dot.at_dot.now rest.now c.in-len1-up.len_at_least c.if-first-ne95.false c.in_ok-at_dot.ensures.ok reads)
+    (λ rest reads. anonymous_read c.args.bytes.now c.in_ok-at_dot.at_dot.now rest.now c.in-len1-up.len_at_least c.if-first-ne95.false c.in_ok-at_dot.ensures.ok
+    reads)
     c.read_token-2.ensures.ok
 
 pub returns-in_err-at_dot-clause-ok : goal.returns-in_err-at_dot-clause-ok

@@ -20,12 +20,14 @@ returns-in_err-label-clause-err c =
 pub returns-in_err-at_key-clause-err : goal.returns-in_err-at_key-clause-err
 returns-in_err-at_key-clause-err c =
     let p = err_from_is_err_and c.from_residual-in_err-at_key.result c.from_residual-in_err-at_key.ensures.1 in
-    rw (p.1, p.2) (stop_after_label c.in_ok-label.label.now c.args.bytes.now c.in_ok-label.at_comma.now c.in_err-at_key.field-0.0 c.in_ok-label.ensures.ok c.in_err-at_key.ensures.err)
+    rw (p.1, p.2) (stop_after_label c.in_ok-label.label.now c.args.bytes.now c.in_ok-label.at_comma.now c.in_err-at_key.field-0.0 c.in_ok-label.ensures.ok
+    c.in_err-at_key.ensures.err)
 
 pub returns-in_err-key-clause-err : goal.returns-in_err-key-clause-err
 returns-in_err-key-clause-err c =
     let p = err_from_is_err_and c.from_residual-in_err-key.result c.from_residual-in_err-key.ensures.1 in
-    rw (p.1, p.2) (stop_in_pair c.in_ok-label.label.now c.args.bytes.now c.in_ok-label.at_comma.now c.in_ok-at_key.at_key.now c.in_err-key.field-0.0 c.in_ok-label.ensures.ok c.in_ok-at_key.ensures.ok c.in_err-key.ensures.err)
+    rw (p.1, p.2) (stop_in_pair c.in_ok-label.label.now c.args.bytes.now c.in_ok-label.at_comma.now c.in_ok-at_key.at_key.now c.in_err-key.field-0.0
+    c.in_ok-label.ensures.ok c.in_ok-at_key.ensures.ok c.in_err-key.ensures.err)
 
 pub returns-clause-ok : goal.returns-clause-ok
 returns-clause-ok c =

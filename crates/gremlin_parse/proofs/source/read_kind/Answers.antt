@@ -18,4 +18,5 @@ pub returns-in-Ok-read_token-clause-ok : goal.returns-in-Ok-read_token-clause-ok
 returns-in-Ok-read_token-clause-ok c = vertex_leads c.args.bytes.now c.in-Ok-read_token.rest.now c.in-Ok-read_token.ensures.ok
 
 pub returns-in-Err-read_token-clause-err : goal.returns-in-Err-read_token-clause-err
-returns-in-Err-read_token-clause-err c = rw c.later.ensures (stop_at_source c.args.bytes.now c.in-Err.no_find c.in-Err-read_token.no_vertex c.in_default.ensures.none c.in_default-read_first.ensures.none c.in-Err.ensures.err c.in-Err-read_token.ensures.err)
+returns-in-Err-read_token-clause-err c = rw c.later.ensures (stop_at_source c.args.bytes.now c.in-Err.no_find c.in-Err-read_token.no_vertex
+    c.in_default.ensures.none c.in_default-read_first.ensures.none c.in-Err.ensures.err c.in-Err-read_token.ensures.err)

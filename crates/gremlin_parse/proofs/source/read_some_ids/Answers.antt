@@ -13,28 +13,33 @@ returns-in_err-first-clause-err c =
 pub returns-in_err-more-clause-err : goal.returns-in_err-more-clause-err
 returns-in_err-more-clause-err c =
     let p = err_from_is_err_and c.from_residual-in_err-more.result c.from_residual-in_err-more.ensures.1 in
-    rw (p.1, p.2) (stop_after_first_id c.args.bytes.now c.in_ok-first.after_first.now c.in_ok-first.first c.in_err-more.field-0.0 c.in_ok-first.ensures.ok c.in_err-more.ensures.err)
+    rw (p.1, p.2) (stop_after_first_id c.args.bytes.now c.in_ok-first.after_first.now c.in_ok-first.first c.in_err-more.field-0.0 c.in_ok-first.ensures.ok
+    c.in_err-more.ensures.err)
 
 pub loop-more-init : goal.loop-more-init
 loop-more-init c =
     let list = c.in_ok-push_id.ensures.ok ∙ ap (λ (ids : List ℕ). ids ++ c.in_ok-first.first ∷ []) c.new-ids.ensures.items in
     subst (λ (ids : List ℕ). IdsSoFar c.args.bytes.now c.in_ok-more.more ids c.in_ok-more.rest.now) (sym list)
-    (first_ids c.args.bytes.now c.in_ok-first.after_first.now c.in_ok-more.rest.now c.in_ok-first.first c.in_ok-more.more c.in_ok-first.ensures.ok c.in_ok-more.ensures.ok)
+    (first_ids c.args.bytes.now c.in_ok-first.after_first.now c.in_ok-more.rest.now c.in_ok-first.first c.in_ok-more.more c.in_ok-first.ensures.ok
+    c.in_ok-more.ensures.ok)
 
 pub returns-in_err-id-clause-err : goal.returns-in_err-id-clause-err
 returns-in_err-id-clause-err c =
     let p = err_from_is_err_and c.from_residual-in_err-id.result c.from_residual-in_err-id.ensures.1 in
-    rw (p.1, p.2) (stop_in_ids c.args.bytes.now c.loop-more.rest.now c.loop-more.ids.items c.loop-more.more c.in_err-id.field-0.0 c.loop-more-test.true c.loop-more.invariant c.in_err-id.ensures.err)
+    rw (p.1, p.2) (stop_in_ids c.args.bytes.now c.loop-more.rest.now c.loop-more.ids.items c.loop-more.more c.in_err-id.field-0.0 c.loop-more-test.true
+    c.loop-more.invariant c.in_err-id.ensures.err)
 
 pub returns-in_err-again-clause-err : goal.returns-in_err-again-clause-err
 returns-in_err-again-clause-err c =
     let p = err_from_is_err_and c.from_residual-in_err-again.result c.from_residual-in_err-again.ensures.1 in
-    rw (p.1, p.2) (stop_after_id c.args.bytes.now c.loop-more.rest.now c.in_ok-id.after_id.now c.loop-more.ids.items c.in_ok-id.id c.loop-more.more c.in_err-again.field-0.0 c.loop-more-test.true c.loop-more.invariant c.in_ok-id.ensures.ok c.in_err-again.ensures.err)
+    rw (p.1, p.2) (stop_after_id c.args.bytes.now c.loop-more.rest.now c.in_ok-id.after_id.now c.loop-more.ids.items c.in_ok-id.id c.loop-more.more
+    c.in_err-again.field-0.0 c.loop-more-test.true c.loop-more.invariant c.in_ok-id.ensures.ok c.in_err-again.ensures.err)
 
 pub loop-more-preserved : goal.loop-more-preserved
 loop-more-preserved c =
     subst (λ (ids : List ℕ). IdsSoFar c.args.bytes.now c.in_ok-again.again ids c.in_ok-again.after.now) (sym c.in_ok-push_id-2.ensures.ok)
-    (ids_more c.args.bytes.now c.loop-more.rest.now c.in_ok-id.after_id.now c.in_ok-again.after.now c.loop-more.ids.items c.in_ok-id.id c.loop-more.more c.in_ok-again.again c.loop-more-test.true c.loop-more.invariant c.in_ok-id.ensures.ok c.in_ok-again.ensures.ok)
+    (ids_more c.args.bytes.now c.loop-more.rest.now c.in_ok-id.after_id.now c.in_ok-again.after.now c.loop-more.ids.items c.in_ok-id.id c.loop-more.more
+    c.in_ok-again.again c.loop-more-test.true c.loop-more.invariant c.in_ok-id.ensures.ok c.in_ok-again.ensures.ok)
 
 pub returns-clause-ok : goal.returns-clause-ok
 returns-clause-ok c = λ edges.

@@ -18,7 +18,8 @@ returns-in_err-kind-clause-err c =
 pub returns-in_err-rest-clause-err : goal.returns-in_err-rest-clause-err
 returns-in_err-rest-clause-err c =
     let p = err_from_is_err_and c.from_residual-in_err-rest.result c.from_residual-in_err-rest.ensures.1 in
-    rw (p.1, p.2) (stop_in_opening c.args.bytes.now c.in_ok-at_kind.at_kind.now c.in_ok-kind.at_open.now c.in_ok-kind.kind c.in_err-rest.field-0.0 c.in_ok-at_kind.ensures.ok c.in_ok-kind.ensures.ok c.in_err-rest.ensures.err)
+    rw (p.1, p.2) (stop_in_opening c.args.bytes.now c.in_ok-at_kind.at_kind.now c.in_ok-kind.at_open.now c.in_ok-kind.kind c.in_err-rest.field-0.0
+    c.in_ok-at_kind.ensures.ok c.in_ok-kind.ensures.ok c.in_err-rest.ensures.err)
 
 pub returns-clause-ok : goal.returns-clause-ok
 returns-clause-ok c = source_read c.args.bytes.now c.in_ok-at_kind.at_kind.now c.in_ok-kind.at_open.now c.in_ok-rest.rest.now c.in_ok-kind.kind

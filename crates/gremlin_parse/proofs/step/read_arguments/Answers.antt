@@ -15,22 +15,26 @@ use Rattle.gremlin_parse.proofs.step.read_arguments.Goals as goal
 pub returns-in_err-rest-in-Bare-clause-err : goal.returns-in_err-rest-in-Bare-clause-err
 returns-in_err-rest-in-Bare-clause-err c =
     let p = err_from_is_err_and c.from_residual.result c.from_residual.ensures.1 in
-    rw (p.1, p.2) (λ query same. subst (λ (w : StepWord). StopsFrom (opened query w) c.args.bytes.now c.in_err-rest-in-Bare.field-0.0) (sym c.in-Bare.is) (stop_in_bare query c.in-Bare.bare c.args.bytes.now c.in_err-rest-in-Bare.field-0.0 c.in_err-rest-in-Bare.ensures.err))
+    rw (p.1, p.2) (λ query same. subst (λ (w : StepWord). StopsFrom (opened query w) c.args.bytes.now c.in_err-rest-in-Bare.field-0.0) (sym c.in-Bare.is)
+    (stop_in_bare query c.in-Bare.bare c.args.bytes.now c.in_err-rest-in-Bare.field-0.0 c.in_err-rest-in-Bare.ensures.err))
 
 pub returns-in_err-names-in-Names-clause-err : goal.returns-in_err-names-in-Names-clause-err
 returns-in_err-names-in-Names-clause-err c =
     let p = err_from_is_err_and c.from_residual-in_err-names-in-Names.result c.from_residual-in_err-names-in-Names.ensures.1 in
-    rw (p.1, p.2) (λ query same. subst (λ (w : StepWord). StopsFrom (opened query w) c.args.bytes.now c.in_err-names-in-Names.field-0.0) (sym c.in-Names.is) (c.in_err-names-in-Names.ensures.err (OfStep query c.in-Names.step) refl))
+    rw (p.1, p.2) (λ query same. subst (λ (w : StepWord). StopsFrom (opened query w) c.args.bytes.now c.in_err-names-in-Names.field-0.0) (sym c.in-Names.is)
+    (c.in_err-names-in-Names.ensures.err (OfStep query c.in-Names.step) refl))
 
 pub returns-in_err-step-in-Body-clause-err : goal.returns-in_err-step-in-Body-clause-err
 returns-in_err-step-in-Body-clause-err c =
     let p = err_from_is_err_and c.from_residual-in_err-step-in-Body.result c.from_residual-in_err-step-in-Body.ensures.1 in
-    rw (p.1, p.2) (λ query same. subst (λ (w : StepWord). StopsFrom (opened query w) c.args.bytes.now c.in_err-step-in-Body.field-0.0) (sym c.in-Body.is) (c.in_err-step-in-Body.ensures.err (OfQuery query)))
+    rw (p.1, p.2) (λ query same. subst (λ (w : StepWord). StopsFrom (opened query w) c.args.bytes.now c.in_err-step-in-Body.field-0.0) (sym c.in-Body.is)
+    (c.in_err-step-in-Body.ensures.err (OfQuery query)))
 
 pub returns-in_err-most-in-Limit-clause-err : goal.returns-in_err-most-in-Limit-clause-err
 returns-in_err-most-in-Limit-clause-err c =
     let p = err_from_is_err_and c.from_residual-in_err-most-in-Limit.result c.from_residual-in_err-most-in-Limit.ensures.1 in
-    rw (p.1, p.2) (λ query same. subst (λ (w : StepWord). StopsFrom (opened query w) c.args.bytes.now c.in_err-most-in-Limit.field-0.0) (sym c.in-Limit.is) (c.in_err-most-in-Limit.ensures.err query))
+    rw (p.1, p.2) (λ query same. subst (λ (w : StepWord). StopsFrom (opened query w) c.args.bytes.now c.in_err-most-in-Limit.field-0.0) (sym c.in-Limit.is)
+    (c.in_err-most-in-Limit.ensures.err query))
 
 pub returns-in_ok-rest-in-Bare-clause-ok : goal.returns-in_ok-rest-in-Bare-clause-ok
 returns-in_ok-rest-in-Bare-clause-ok c = λ query same.
@@ -68,7 +72,8 @@ returns-in_ok-step-in-Body-clause-few c = one_more c.args.stage.steps c.args.wor
 pub returns-in_err-rest-in-Order-clause-err : goal.returns-in_err-rest-in-Order-clause-err
 returns-in_err-rest-in-Order-clause-err c =
     let p = err_from_is_err_and c.from_residual-in_err-rest-in-Order.result c.from_residual-in_err-rest-in-Order.ensures.1 in
-    rw (p.1, p.2) (λ query same. subst (λ (w : StepWord). StopsFrom (opened query w) c.args.bytes.now c.in_err-rest-in-Order.field-0.0) (sym c.in-Order.is) (stop_in_order query c.args.bytes.now c.in_err-rest-in-Order.field-0.0 c.in_err-rest-in-Order.ensures.err))
+    rw (p.1, p.2) (λ query same. subst (λ (w : StepWord). StopsFrom (opened query w) c.args.bytes.now c.in_err-rest-in-Order.field-0.0) (sym c.in-Order.is)
+    (stop_in_order query c.args.bytes.now c.in_err-rest-in-Order.field-0.0 c.in_err-rest-in-Order.ensures.err))
 
 pub returns-in_ok-rest-in-Order-clause-ok : goal.returns-in_ok-rest-in-Order-clause-ok
 returns-in_ok-rest-in-Order-clause-ok c = λ query same.
@@ -80,7 +85,8 @@ returns-in_ok-rest-in-Order-clause-ok c = λ query same.
 pub returns-in_err-key-in-By-clause-err : goal.returns-in_err-key-in-By-clause-err
 returns-in_err-key-in-By-clause-err c =
     let p = err_from_is_err_and c.from_residual-in_err-key-in-By.result c.from_residual-in_err-key-in-By.ensures.1 in
-    rw (p.1, p.2) (λ query same. subst (λ (w : StepWord). StopsFrom (opened query w) c.args.bytes.now c.in_err-key-in-By.field-0.0) (sym c.in-By.is) (c.in_err-key-in-By.ensures.err query))
+    rw (p.1, p.2) (λ query same. subst (λ (w : StepWord). StopsFrom (opened query w) c.args.bytes.now c.in_err-key-in-By.field-0.0) (sym c.in-By.is)
+    (c.in_err-key-in-By.ensures.err query))
 
 pub returns-in_ok-rest-in-Order-clause-few : goal.returns-in_ok-rest-in-Order-clause-few
 returns-in_ok-rest-in-Order-clause-few c = one_more c.args.stage.steps c.args.word c.plain_order.result (ap (λ (s : Step). step_count s) c.plain_order.ensures)
@@ -160,7 +166,8 @@ returns-in_err-key-in-By-clause-within c = never_ok c.from_residual-in_err-key-i
 
 pub returns-in-Repeat-clause-ok : goal.returns-in-Repeat-clause-ok
 returns-in-Repeat-clause-ok c =
-    IfOk-weaker c.read_repeat.result _ _ (λ r reads query same. subst (λ (w : StepWord). LeadsTo (opened query w) c.args.bytes.now (after_word w query r.0) r.1.now) (sym c.in-Repeat.is) (reads query (ap (λ (s : Stage). s.steps) same))) c.read_repeat.ensures.ok
+    IfOk-weaker c.read_repeat.result _ _ (λ r reads query same. subst (λ (w : StepWord). LeadsTo (opened query w) c.args.bytes.now (after_word w query r.0)
+    r.1.now) (sym c.in-Repeat.is) (reads query (ap (λ (s : Stage). s.steps) same))) c.read_repeat.ensures.ok
 
 pub returns-in-Repeat-clause-order : goal.returns-in-Repeat-clause-order
 returns-in-Repeat-clause-order c = IfOk-weaker c.read_repeat.result _ _ (λ r reads. subst (λ (w : StepWord). IsOrderStep w r.0) (sym c.in-Repeat.is) tt)
@@ -175,4 +182,5 @@ returns-in-Repeat-clause-within c = c.read_repeat.ensures.within
 
 pub returns-in-Repeat-clause-err : goal.returns-in-Repeat-clause-err
 returns-in-Repeat-clause-err c =
-    IfErr-weaker c.read_repeat.result _ _ (λ stop stops query same. subst (λ (w : StepWord). StopsFrom (opened query w) c.args.bytes.now stop) (sym c.in-Repeat.is) (stops query (ap (λ (s : Stage). s.steps) same))) c.read_repeat.ensures.err
+    IfErr-weaker c.read_repeat.result _ _ (λ stop stops query same. subst (λ (w : StepWord). StopsFrom (opened query w) c.args.bytes.now stop)
+    (sym c.in-Repeat.is) (stops query (ap (λ (s : Stage). s.steps) same))) c.read_repeat.ensures.err

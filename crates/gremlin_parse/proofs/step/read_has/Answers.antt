@@ -21,17 +21,20 @@ returns-in_err-key-clause-err c =
 pub returns-in_err-more-clause-err : goal.returns-in_err-more-clause-err
 returns-in_err-more-clause-err c =
     let p = err_from_is_err_and c.from_residual-in_err-more.result c.from_residual-in_err-more.ensures.1 in
-    rw (p.1, p.2) (stop_after_key c.in_ok-name.name.now c.args.bytes.now c.in_ok-name.after_name.now c.in_err-more.field-0.0 c.in_ok-name.ensures.ok c.in_err-more.ensures.err)
+    rw (p.1, p.2) (stop_after_key c.in_ok-name.name.now c.args.bytes.now c.in_ok-name.after_name.now c.in_err-more.field-0.0 c.in_ok-name.ensures.ok
+    c.in_err-more.ensures.err)
 
 pub returns-then-not-more-clause-ok : goal.returns-then-not-more-clause-ok
 returns-then-not-more-clause-ok c = λ into.
     subst (λ (key : List ℕ). LeadsTo (Quote (Key into)) c.args.bytes.now (after_filter into (filters.Has key)) c.in_ok-more.at_value.now)
-    (sym c.in_ok-key.ensures.ok) (has_read c.in_ok-name.name.now c.args.bytes.now c.in_ok-name.after_name.now c.in_ok-more.at_value.now c.in_ok-more.more c.if-not-more.true c.in_ok-name.ensures.ok c.in_ok-more.ensures.ok into)
+    (sym c.in_ok-key.ensures.ok) (has_read c.in_ok-name.name.now c.args.bytes.now c.in_ok-name.after_name.now c.in_ok-more.at_value.now c.in_ok-more.more
+    c.if-not-more.true c.in_ok-name.ensures.ok c.in_ok-more.ensures.ok into)
 
 pub returns-in_err-relation-clause-err : goal.returns-in_err-relation-clause-err
 returns-in_err-relation-clause-err c =
     let p = err_from_is_err_and c.from_residual-in_err-relation.result c.from_residual-in_err-relation.ensures.1 in
-    rw (p.1, p.2) (stop_in_comparison c.in_ok-name.name.now c.args.bytes.now c.in_ok-name.after_name.now c.in_ok-more.at_value.now c.in_ok-more.more c.in_err-relation.field-0.0 c.if-not-more.false c.in_ok-name.ensures.ok c.in_ok-more.ensures.ok c.in_err-relation.ensures.err)
+    rw (p.1, p.2) (stop_in_comparison c.in_ok-name.name.now c.args.bytes.now c.in_ok-name.after_name.now c.in_ok-more.at_value.now c.in_ok-more.more
+    c.in_err-relation.field-0.0 c.if-not-more.false c.in_ok-name.ensures.ok c.in_ok-more.ensures.ok c.in_err-relation.ensures.err)
 
 pub returns-in_err-value-clause-err : goal.returns-in_err-value-clause-err
 returns-in_err-value-clause-err c =

@@ -11,7 +11,8 @@ returns-in_err-most-clause-err c =
 pub returns-in_err-rest-clause-err : goal.returns-in_err-rest-clause-err
 returns-in_err-rest-clause-err c =
     let p = err_from_is_err_and c.from_residual-in_err-rest.result c.from_residual-in_err-rest.ensures.1 in
-    rw (p.1, p.2) (stop_after_most c.args.bytes.now c.in_ok-most.after_most.now c.skip_blanks-at_close.result.now c.in_ok-most.most c.in_err-rest.field-0.0 c.in_ok-most.ensures.ok c.skip_blanks-at_close.ensures c.in_err-rest.ensures.err)
+    rw (p.1, p.2) (stop_after_most c.args.bytes.now c.in_ok-most.after_most.now c.skip_blanks-at_close.result.now c.in_ok-most.most c.in_err-rest.field-0.0
+    c.in_ok-most.ensures.ok c.skip_blanks-at_close.ensures c.in_err-rest.ensures.err)
 
 pub returns-clause-ok : goal.returns-clause-ok
 returns-clause-ok c = most_read c.args.bytes.now c.in_ok-most.after_most.now c.skip_blanks-at_close.result.now c.in_ok-rest.rest.now c.in_ok-most.most

@@ -25,11 +25,13 @@ returns-then-is_needed-clause-ok c =
 pub returns-in-None-clause-err : goal.returns-in-None-clause-err
 returns-in-None-clause-err c =
     IfErr-weaker c.read_some_names-in-None.result _ _
-    (λ stop at purpose needs. at purpose (opened_names purpose) (quotes_unclosed purpose c.args.bytes.now (needs ∙ c.if-is_needed.false) c.in-None.ensures.none))
+    (λ stop at purpose needs. at purpose (opened_names purpose) (quotes_unclosed purpose c.args.bytes.now (needs ∙ c.if-is_needed.false)
+    c.in-None.ensures.none))
     c.read_some_names-in-None.ensures.err
 
 pub returns-in-None-clause-ok : goal.returns-in-None-clause-ok
 returns-in-None-clause-ok c =
     IfOk-weaker c.read_some_names-in-None.result _ _
-    (λ r leads purpose needs. leads purpose (opened_names purpose) (quotes_unclosed purpose c.args.bytes.now (needs ∙ c.if-is_needed.false) c.in-None.ensures.none))
+    (λ r leads purpose needs. leads purpose (opened_names purpose) (quotes_unclosed purpose c.args.bytes.now (needs ∙ c.if-is_needed.false)
+    c.in-None.ensures.none))
     c.read_some_names-in-None.ensures.ok

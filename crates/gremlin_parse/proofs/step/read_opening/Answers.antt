@@ -13,12 +13,15 @@ returns-in_err-at_name-clause-err c =
 pub returns-in_err-word-clause-err : goal.returns-in_err-word-clause-err
 returns-in_err-word-clause-err c =
     let p = err_from_is_err_and c.from_residual-in_err-word.result c.from_residual-in_err-word.ensures.1 in
-    rw (p.1, p.2) (stop_at_step_name c.args.stage c.args.is_ordered c.args.bytes.now c.in_ok-at_name.at_name.now c.in_err-word.field-0.0 c.in_ok-at_name.ensures.ok c.in_err-word.ensures.err)
+    rw (p.1, p.2) (stop_at_step_name c.args.stage c.args.is_ordered c.args.bytes.now c.in_ok-at_name.at_name.now c.in_err-word.field-0.0
+    c.in_ok-at_name.ensures.ok c.in_err-word.ensures.err)
 
 pub returns-in_err-rest-clause-err : goal.returns-in_err-rest-clause-err
 returns-in_err-rest-clause-err c =
     let p = err_from_is_err_and c.from_residual-in_err-rest.result c.from_residual-in_err-rest.ensures.1 in
-    rw (p.1, p.2) (stop_at_opening c.args.stage c.args.is_ordered c.args.bytes.now c.in_ok-at_name.at_name.now c.in_ok-word.after_name.now c.skip_blanks-at_open.result.now c.in_ok-word.word c.in_err-rest.field-0.0 c.in_ok-at_name.ensures.ok c.in_ok-word.ensures.no_fault c.in_ok-word.ensures.ok c.skip_blanks-at_open.ensures c.in_err-rest.ensures.err)
+    rw (p.1, p.2) (stop_at_opening c.args.stage c.args.is_ordered c.args.bytes.now c.in_ok-at_name.at_name.now c.in_ok-word.after_name.now
+    c.skip_blanks-at_open.result.now c.in_ok-word.word c.in_err-rest.field-0.0 c.in_ok-at_name.ensures.ok c.in_ok-word.ensures.no_fault
+    c.in_ok-word.ensures.ok c.skip_blanks-at_open.ensures c.in_err-rest.ensures.err)
 
 pub returns-clause-ok : goal.returns-clause-ok
 returns-clause-ok c = opening_read c.args.stage c.args.is_ordered c.args.bytes.now c.in_ok-at_name.at_name.now c.in_ok-word.after_name.now

@@ -19,19 +19,25 @@ returns-in_err-push_name-clause-err c =
 pub returns-in_err-more-clause-err : goal.returns-in_err-more-clause-err
 returns-in_err-more-clause-err c =
     let p = err_from_is_err_and c.from_residual-in_err-more.result c.from_residual-in_err-more.ensures.1 in
-    rw (p.1, p.2) (stop_after_first_name c.args.bytes.now c.in_ok-first.after_first.now c.in_ok-first.first.now c.in_err-more.field-0.0 c.in_ok-first.ensures.ok c.in_err-more.ensures.err)
+    rw (p.1, p.2) (stop_after_first_name c.args.bytes.now c.in_ok-first.after_first.now c.in_ok-first.first.now c.in_err-more.field-0.0 c.in_ok-first.ensures.ok
+    c.in_err-more.ensures.err)
 
 pub loop-more-init : goal.loop-more-init
 loop-more-init c =
     let list = c.in_ok-push_name.ensures.ok ∙ ap (λ (names : List (List ℕ)). names ++ c.in_ok-first.first.now ∷ []) c.new-names.ensures.items in
     let shorter = c.in_ok-first.ensures.within in
-    let less = c.in_ok-more.ensures.less in
-    (subst (λ (names : List (List ℕ)). NamesSoFar c.args.bytes.now c.in_ok-more.more names c.in_ok-more.rest.now) (sym list) (first_names c.args.bytes.now c.in_ok-first.after_first.now c.in_ok-more.rest.now c.in_ok-first.first.now c.in_ok-more.more c.in_ok-first.ensures.ok c.in_ok-more.ensures.ok), omega (arith, shorter, less))
+    let less = c.in_ok-more.ensures.less in (
+      subst (λ (names : List (List ℕ)). NamesSoFar c.args.bytes.now c.in_ok-more.more names c.in_ok-more.rest.now) (sym list)
+          (first_names c.args.bytes.now c.in_ok-first.after_first.now c.in_ok-more.rest.now c.in_ok-first.first.now c.in_ok-more.more c.in_ok-first.ensures.ok
+          c.in_ok-more.ensures.ok),
+      omega (arith, shorter, less),
+    )
 
 pub returns-in_err-name-clause-err : goal.returns-in_err-name-clause-err
 returns-in_err-name-clause-err c =
     let p = err_from_is_err_and c.from_residual-in_err-name.result c.from_residual-in_err-name.ensures.1 in
-    rw (p.1, p.2) (stop_in_names c.args.bytes.now c.loop-more.rest.now c.loop-more.names.items c.loop-more.more c.in_err-name.field-0.0 c.loop-more-test.true c.loop-more.invariant.0 c.in_err-name.ensures.err)
+    rw (p.1, p.2) (stop_in_names c.args.bytes.now c.loop-more.rest.now c.loop-more.names.items c.loop-more.more c.in_err-name.field-0.0 c.loop-more-test.true
+    c.loop-more.invariant.0 c.in_err-name.ensures.err)
 
 pub returns-in_err-push_name-2-clause-err : goal.returns-in_err-push_name-2-clause-err
 returns-in_err-push_name-2-clause-err c =
@@ -41,19 +47,26 @@ returns-in_err-push_name-2-clause-err c =
 pub returns-in_err-again-clause-err : goal.returns-in_err-again-clause-err
 returns-in_err-again-clause-err c =
     let p = err_from_is_err_and c.from_residual-in_err-again.result c.from_residual-in_err-again.ensures.1 in
-    rw (p.1, p.2) (stop_after_name c.args.bytes.now c.loop-more.rest.now c.in_ok-name.after_name.now c.in_ok-name.name.now c.loop-more.names.items c.loop-more.more c.in_err-again.field-0.0 c.loop-more-test.true c.loop-more.invariant.0 c.in_ok-name.ensures.ok c.in_err-again.ensures.err)
+    rw (p.1, p.2) (stop_after_name c.args.bytes.now c.loop-more.rest.now c.in_ok-name.after_name.now c.in_ok-name.name.now c.loop-more.names.items
+    c.loop-more.more c.in_err-again.field-0.0 c.loop-more-test.true c.loop-more.invariant.0 c.in_ok-name.ensures.ok c.in_err-again.ensures.err)
 
 pub loop-more-preserved : goal.loop-more-preserved
 loop-more-preserved c =
     let before = c.loop-more.invariant.1 in
     let shorter = c.in_ok-name.ensures.within in
-    let less = c.in_ok-again.ensures.less in
-    (subst (λ (names : List (List ℕ)). NamesSoFar c.args.bytes.now c.in_ok-again.again names c.in_ok-again.after.now) (sym c.in_ok-push_name-2.ensures.ok) (names_more c.args.bytes.now c.loop-more.rest.now c.in_ok-name.after_name.now c.in_ok-again.after.now c.in_ok-name.name.now c.loop-more.names.items c.loop-more.more c.in_ok-again.again c.loop-more-test.true c.loop-more.invariant.0 c.in_ok-name.ensures.ok c.in_ok-again.ensures.ok), omega (arith, before, shorter, less))
+    let less = c.in_ok-again.ensures.less in (
+      subst (λ (names : List (List ℕ)). NamesSoFar c.args.bytes.now c.in_ok-again.again names c.in_ok-again.after.now) (sym c.in_ok-push_name-2.ensures.ok)
+          (names_more c.args.bytes.now c.loop-more.rest.now c.in_ok-name.after_name.now c.in_ok-again.after.now c.in_ok-name.name.now c.loop-more.names.items
+          c.loop-more.more c.in_ok-again.again c.loop-more-test.true c.loop-more.invariant.0 c.in_ok-name.ensures.ok c.in_ok-again.ensures.ok),
+      omega
+          (arith, before, shorter, less),
+    )
 
 pub returns-clause-ok : goal.returns-clause-ok
 returns-clause-ok c = λ purpose place quotes.
     subst (λ (names : List (List ℕ)). LeadsTo place c.args.bytes.now (after_names purpose names) c.loop-more.rest.now) (sym c.new.ensures)
-    (names_done c.args.bytes.now c.loop-more.rest.now c.loop-more.names.items c.loop-more.more c.loop-more-test.false c.loop-more.invariant.0 purpose place quotes)
+    (names_done c.args.bytes.now c.loop-more.rest.now c.loop-more.names.items c.loop-more.more c.loop-more-test.false c.loop-more.invariant.0 purpose place
+    quotes)
 
 pub returns-clause-within : goal.returns-clause-within
 returns-clause-within c = c.loop-more.invariant.1

@@ -15,7 +15,8 @@ returns-clause-ok c = subst (λ (table : List (Entry StepWord)). IfOk c.read_key
     c.words_after.ensures c.read_keyword.ensures.ok
 
 pub returns-clause-no_fault : goal.returns-clause-no_fault
-returns-clause-no_fault c = IfOk-weaker c.read_keyword.result _ _ (λ r takes. read_faultless c.args.stage c.args.is_ordered c.args.bytes.now r.1.now r.0 c.in_default.ensures.none takes) (returns-clause-ok c)
+returns-clause-no_fault c = IfOk-weaker c.read_keyword.result _ _ (λ r takes. read_faultless c.args.stage c.args.is_ordered c.args.bytes.now r.1.now r.0
+    c.in_default.ensures.none takes) (returns-clause-ok c)
 
 pub returns-clause-err : goal.returns-clause-err
 returns-clause-err c =

@@ -28,12 +28,14 @@ returns-clause-ok c = truth_read c.args.bytes.now c.in_ok-truth.rest.now c.in_ok
 pub returns-in_err-number-clause-err : goal.returns-in_err-number-clause-err
 returns-in_err-number-clause-err c =
     let p = err_from_is_err_and c.from_residual.result c.from_residual.ensures.1 in
-    rw (p.1, p.2) (integer_leaves c.args.bytes.now c.in_err-number.field-0.0 c.in-len1-up.len_at_least (sym c.is_integer_start.ensures ∙ c.if-is_integer_start.true) c.in_err-number.ensures.err)
+    rw (p.1, p.2) (integer_leaves c.args.bytes.now c.in_err-number.field-0.0 c.in-len1-up.len_at_least (sym c.is_integer_start.ensures
+    ∙ c.if-is_integer_start.true) c.in_err-number.ensures.err)
 
 pub returns-in_err-truth-clause-err : goal.returns-in_err-truth-clause-err
 returns-in_err-truth-clause-err c =
     let p = err_from_is_err_and c.from_residual-in_err-truth.result c.from_residual-in_err-truth.ensures.1 in
-    rw (p.1, p.2) (truth_leaves c.args.bytes.now c.in_err-truth.field-0.0 c.in-len1-up.len_at_least (sym c.is_quote.ensures ∙ c.if-is_quote.false) (sym c.is_integer_start.ensures ∙ c.if-is_integer_start.false) c.in_err-truth.ensures.err)
+    rw (p.1, p.2) (truth_leaves c.args.bytes.now c.in_err-truth.field-0.0 c.in-len1-up.len_at_least (sym c.is_quote.ensures ∙ c.if-is_quote.false)
+    (sym c.is_integer_start.ensures ∙ c.if-is_integer_start.false) c.in_err-truth.ensures.err)
 
 pub returns-in_err-number-clause-ok : goal.returns-in_err-number-clause-ok
 returns-in_err-number-clause-ok c = never_ok c.from_residual.result _ _ c.from_residual.ensures.1

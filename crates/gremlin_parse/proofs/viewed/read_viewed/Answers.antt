@@ -20,7 +20,8 @@ returns-in_err-at_word-clause-err c =
 pub returns-in_err-word-clause-err : goal.returns-in_err-word-clause-err
 returns-in_err-word-clause-err c =
     let p = err_from_is_err_and c.from_residual-in_err-word.result c.from_residual-in_err-word.ensures.1 in
-    rw (p.1, p.2) (stop_at_view_word ⊥ c.args.bytes.now c.in_ok-at_word.at_word.now c.in_err-word.field-0.0 c.in_ok-at_word.ensures.ok c.in_err-word.ensures.err)
+    rw (p.1, p.2) (stop_at_view_word ⊥ c.args.bytes.now c.in_ok-at_word.at_word.now c.in_err-word.field-0.0 c.in_ok-at_word.ensures.ok
+    c.in_err-word.ensures.err)
 
 -- the arguments of the word that was read
 abbrev Given : List Argument → Givens → List ℕ → List ℕ → Type 0
@@ -32,14 +33,17 @@ returns-in_err-givens-clause-err c =
     let stop = c.in_err-givens.field-0.0 in
     let leaves = subst (λ (list : List Argument). LeavesOne (spaced list) c.in_ok-word.after.now stop) c.view_arguments.ensures.are
     c.in_err-givens.ensures.err in
-    rw (p.1, p.2) (stop_in_number ⊥ c.args.bytes.now c.in_ok-at_word.at_word.now c.in_ok-word.after.now c.in_ok-word.word stop c.in_ok-at_word.ensures.ok c.in_ok-word.ensures.ok leaves)
+    rw (p.1, p.2) (stop_in_number ⊥ c.args.bytes.now c.in_ok-at_word.at_word.now c.in_ok-word.after.now c.in_ok-word.word stop c.in_ok-at_word.ensures.ok
+    c.in_ok-word.ensures.ok leaves)
 
 pub returns-in_err-read_end-clause-err : goal.returns-in_err-read_end-clause-err
 returns-in_err-read_end-clause-err c =
     let p = err_from_is_err_and c.from_residual-in_err-read_end.result c.from_residual-in_err-read_end.ensures.1 in
     let reads = subst (λ (list : List Argument). Given list c.in_ok-givens.givens c.in_ok-word.after.now c.in_ok-givens.rest.now) c.view_arguments.ensures.are
     c.in_ok-givens.ensures.ok in
-    rw (p.1, p.2) (stop_at_view_end ⊥ c.args.bytes.now c.in_ok-at_word.at_word.now c.in_ok-word.after.now c.in_ok-givens.rest.now c.skip_blanks.result.now c.in_ok-word.word c.in_ok-givens.givens c.in_err-read_end.field-0.0 c.in_ok-at_word.ensures.ok c.in_ok-word.ensures.ok reads c.skip_blanks.ensures c.in_err-read_end.ensures.err)
+    rw (p.1, p.2) (stop_at_view_end ⊥ c.args.bytes.now c.in_ok-at_word.at_word.now c.in_ok-word.after.now c.in_ok-givens.rest.now c.skip_blanks.result.now
+    c.in_ok-word.word c.in_ok-givens.givens c.in_err-read_end.field-0.0 c.in_ok-at_word.ensures.ok c.in_ok-word.ensures.ok reads c.skip_blanks.ensures
+    c.in_err-read_end.ensures.err)
 
 pub returns-clause-ok : goal.returns-clause-ok
 returns-clause-ok c =
@@ -47,7 +51,8 @@ returns-clause-ok c =
     c.in_ok-givens.ensures.ok in
     let is = c.viewed_of.ensures ∙ ap (viewed_of c.in_ok-word.word) c.number.ensures in
     subst (λ (viewed : Viewed). IsMadeOf (viewed_to_end viewed) c.args.bytes.now) (sym is)
-    (view_read c.args.bytes.now c.in_ok-at_word.at_word.now c.in_ok-word.after.now c.in_ok-givens.rest.now c.skip_blanks.result.now c.in_ok-word.word c.in_ok-givens.givens c.in_ok-at_word.ensures.ok c.in_ok-word.ensures.ok reads c.skip_blanks.ensures c.in_ok-read_end.ensures.ok)
+    (view_read c.args.bytes.now c.in_ok-at_word.at_word.now c.in_ok-word.after.now c.in_ok-givens.rest.now c.skip_blanks.result.now c.in_ok-word.word
+    c.in_ok-givens.givens c.in_ok-at_word.ensures.ok c.in_ok-word.ensures.ok reads c.skip_blanks.ensures c.in_ok-read_end.ensures.ok)
 
 pub returns-clause-bounds : goal.returns-clause-bounds
 returns-clause-bounds c =

@@ -29,8 +29,12 @@ returns-in_err-drop_if_empty-clause-sound g c = λ tells most empty can.
 written : (g : Over) (c : After-drop_if_empty g) → (before after : ℕ) × WritesOnly (g.S.Reads.state c.args.space.now)
     (g.S.Reads.state c.drop_if_empty.new.space) (group_key after ∷ lead_key c.args.node before ∷ c.args.head.key ∷ meta_key_of format.groups_file ∷ [])
 written g c =
-    let w = c.drop_if_empty.ensures.writes in
-    (w.0, w.1, subst (λ f. WritesOnly (g.S.Reads.state c.args.space.now) (g.S.Reads.state c.drop_if_empty.new.space) (group_key w.1 ∷ lead_key c.args.node w.0 ∷ key_in f c.args.head.key.id ∷ meta_key_of format.groups_file ∷ [])) (sym c.if-head-eq-GROUPS.true) w.2)
+    let w = c.drop_if_empty.ensures.writes in (
+      w.0,
+      w.1,
+      subst (λ f. WritesOnly (g.S.Reads.state c.args.space.now) (g.S.Reads.state c.drop_if_empty.new.space) (group_key w.1 ∷ lead_key c.args.node w.0 ∷
+          key_in f c.args.head.key.id ∷ meta_key_of format.groups_file ∷ [])) (sym c.if-head-eq-GROUPS.true) w.2,
+    )
 
 pub returns-in_err-drop_if_empty-clause-writes : goal.returns-in_err-drop_if_empty-clause-writes
 returns-in_err-drop_if_empty-clause-writes g c = written g (goal.at.returns-in_err-drop_if_empty-clause-writes g c).After-drop_if_empty
@@ -49,7 +53,8 @@ pub returns-in_err-drop_if_empty-clause-breaks : goal.returns-in_err-drop_if_emp
 returns-in_err-drop_if_empty-clause-breaks g c = λ tells owns.
     let s = g.S.Reads.state c.args.space.now in
     let p = err_from_is_err_and c.from_residual.result c.from_residual.ensures.1 in
-    rw (p.1, p.2) (close_breaks s (head_of c.args.head) c.args.node owns c.if-head-eq-GROUPS.true c.in_err-drop_if_empty.field-0.0 (c.in_err-drop_if_empty.ensures.damaged tells))
+    rw (p.1, p.2) (close_breaks s (head_of c.args.head) c.args.node owns c.if-head-eq-GROUPS.true c.in_err-drop_if_empty.field-0.0
+    (c.in_err-drop_if_empty.ensures.damaged tells))
 
 pub returns-in_err-drop_if_empty-clause-cause : goal.returns-in_err-drop_if_empty-clause-cause
 returns-in_err-drop_if_empty-clause-cause g c =

@@ -24,7 +24,8 @@ returns-in_err-named-in-Err-Damaged-clause-damaged g c = λ tells.
     c.in-Err-Damaged.ensures.unwritten in
     let same = only_read s z 3 few in
     let p = err_from_is_err_and c.from_residual.result c.from_residual.ensures.1 in
-    rw (p.1, p.2) (part_twin s z (head_of c.args.head) c.args.node c.args.rel c.in_err-named-in-Err-Damaged.field-0.0 same (c.in_err-named-in-Err-Damaged.ensures.damaged tells))
+    rw (p.1, p.2) (part_twin s z (head_of c.args.head) c.args.node c.args.rel c.in_err-named-in-Err-Damaged.field-0.0 same
+    (c.in_err-named-in-Err-Damaged.ensures.damaged tells))
 
 pub returns-in_err-named-in-Err-Damaged-clause-breaks : goal.returns-in_err-named-in-Err-Damaged-clause-breaks
 returns-in_err-named-in-Err-Damaged-clause-breaks g c = λ tells row live placed.
@@ -34,7 +35,8 @@ returns-in_err-named-in-Err-Damaged-clause-breaks g c = λ tells row live placed
     c.in-Err-Damaged.ensures.unwritten in
     let same = only_read s z 3 few in
     let p = err_from_is_err_and c.from_residual.result c.from_residual.ensures.1 in
-    rw (p.1, p.2) (twin_then_breaks s z (head_of c.args.head) c.args.node c.in_err-named-in-Err-Damaged.field-0.0 same placed.owns (c.in_err-named-in-Err-Damaged.ensures.damaged tells))
+    rw (p.1, p.2) (twin_then_breaks s z (head_of c.args.head) c.args.node c.in_err-named-in-Err-Damaged.field-0.0 same placed.owns
+    (c.in_err-named-in-Err-Damaged.ensures.damaged tells))
 
 pub returns-in_err-named-in-Err-Damaged-clause-unwritten : goal.returns-in_err-named-in-Err-Damaged-clause-unwritten
 returns-in_err-named-in-Err-Damaged-clause-unwritten g c =

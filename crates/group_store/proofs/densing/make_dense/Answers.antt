@@ -96,7 +96,8 @@ loop-preserved g c =
       part = λ tells members free can. part_next s now c.args.node c.loop.at c.loop.counter members came groups c.if-at.false (was.part tells members free can)
           end turn xs ys c.note.ensures.relationships c.note.ensures.groups (c.in_ok-turn.ensures.local tells);
       leads = λ tells. subst (λ zs. LeadsAmong end.records c.args.node zs ys) (sym c.note.ensures.relationships)
-          (subst (λ zs. LeadsAmong end.records c.args.node (came ++ c.loop.at ∷ []) zs) (sym c.note.ensures.groups) (c.in_ok-turn.ensures.leads tells came groups (was.leads tells)).0);
+          (subst (λ zs. LeadsAmong end.records c.args.node (came ++ c.loop.at ∷ []) zs) (sym c.note.ensures.groups) (c.in_ok-turn.ensures.leads tells came
+          groups (was.leads tells)).0);
       rest = λ tells. rest_next s now c.args.node c.loop.at c.loop.counter c.if-at.false (was.rest tells) end turn.next (c.in_ok-turn.ensures.walk tells);
       dense = λ tells. c.in_ok-turn.ensures.dense tells (was.dense tells);
       beside = λ tells. beside_then s.records now.records end.records c.args.node (was.beside tells) (c.in_ok-turn.ensures.beside tells);
@@ -115,14 +116,20 @@ pub returns-in_err-turn-clause-writes : goal.returns-in_err-turn-clause-writes
 returns-in_err-turn-clause-writes g c =
     touches_beside (g.S.Reads.state c.args.space.now) (g.S.Reads.state c.move_one.new.space) c.args.node (c.loop.counter + 1 + 2) (c.loop.counter + 1 + 2)
     (2 * (c.args.threshold + 1) + 2) (omega (arith, c.loop-test.true, c.if-row-threshold.false))
-    (touches_then (g.S.Reads.state c.args.space.now) (g.S.Reads.state c.loop.space) (g.S.Reads.state c.move_one.new.space) c.args.node (c.loop.counter + 1) (c.loop.counter + 1) 2 2 (come_touches (g.S.Reads.state c.args.space.now) (g.S.Reads.state c.loop.space) c.args.node c.loop.counter (c.loop.counter + 1) c.loop.moved.relationships.items c.loop.moved.groups.items c.loop.invariant.rels c.loop.invariant.groups (omega arith) c.loop.invariant.writes) c.in_err-turn.ensures.touches)
+    (touches_then (g.S.Reads.state c.args.space.now) (g.S.Reads.state c.loop.space) (g.S.Reads.state c.move_one.new.space) c.args.node (c.loop.counter + 1)
+    (c.loop.counter + 1) 2 2 (come_touches (g.S.Reads.state c.args.space.now) (g.S.Reads.state c.loop.space) c.args.node c.loop.counter (c.loop.counter + 1)
+    c.loop.moved.relationships.items c.loop.moved.groups.items c.loop.invariant.rels c.loop.invariant.groups (omega arith) c.loop.invariant.writes)
+    c.in_err-turn.ensures.touches)
 
 pub returns-in_err-turn-clause-touches : goal.returns-in_err-turn-clause-touches
 returns-in_err-turn-clause-touches g c =
     touches_more (g.S.Reads.state c.args.space.now) (g.S.Reads.state c.move_one.new.space) c.args.node (c.loop.counter + 1 + 2) (c.loop.counter + 1 + 2)
     (c.args.threshold + 2) (c.args.threshold + 2) (omega (arith, c.loop-test.true, c.if-row-threshold.false))
     (omega (arith, c.loop-test.true, c.if-row-threshold.false))
-    (touches_then (g.S.Reads.state c.args.space.now) (g.S.Reads.state c.loop.space) (g.S.Reads.state c.move_one.new.space) c.args.node (c.loop.counter + 1) (c.loop.counter + 1) 2 2 (come_touches (g.S.Reads.state c.args.space.now) (g.S.Reads.state c.loop.space) c.args.node c.loop.counter (c.loop.counter + 1) c.loop.moved.relationships.items c.loop.moved.groups.items c.loop.invariant.rels c.loop.invariant.groups (omega arith) c.loop.invariant.writes) c.in_err-turn.ensures.touches)
+    (touches_then (g.S.Reads.state c.args.space.now) (g.S.Reads.state c.loop.space) (g.S.Reads.state c.move_one.new.space) c.args.node (c.loop.counter + 1)
+    (c.loop.counter + 1) 2 2 (come_touches (g.S.Reads.state c.args.space.now) (g.S.Reads.state c.loop.space) c.args.node c.loop.counter (c.loop.counter + 1)
+    c.loop.moved.relationships.items c.loop.moved.groups.items c.loop.invariant.rels c.loop.invariant.groups (omega arith) c.loop.invariant.writes)
+    c.in_err-turn.ensures.touches)
 
 pub returns-in_err-turn-clause-few : goal.returns-in_err-turn-clause-few
 returns-in_err-turn-clause-few g c = λ tells.
@@ -130,20 +137,29 @@ returns-in_err-turn-clause-few g c = λ tells.
     let most = degree (g.S.Reads.state c.args.space.now).records c.args.node + 2 in
     touches_more (g.S.Reads.state c.args.space.now) (g.S.Reads.state c.move_one.new.space) c.args.node (c.loop.counter + 1 + 2) (c.loop.counter + 1 + 2) most
     most (omega (arith, c.loop-test.true, c.if-row-threshold.false, e)) (omega (arith, c.loop-test.true, c.if-row-threshold.false, e))
-    (touches_then (g.S.Reads.state c.args.space.now) (g.S.Reads.state c.loop.space) (g.S.Reads.state c.move_one.new.space) c.args.node (c.loop.counter + 1) (c.loop.counter + 1) 2 2 (come_touches (g.S.Reads.state c.args.space.now) (g.S.Reads.state c.loop.space) c.args.node c.loop.counter (c.loop.counter + 1) c.loop.moved.relationships.items c.loop.moved.groups.items c.loop.invariant.rels c.loop.invariant.groups (omega arith) c.loop.invariant.writes) c.in_err-turn.ensures.touches)
+    (touches_then (g.S.Reads.state c.args.space.now) (g.S.Reads.state c.loop.space) (g.S.Reads.state c.move_one.new.space) c.args.node (c.loop.counter + 1)
+    (c.loop.counter + 1) 2 2 (come_touches (g.S.Reads.state c.args.space.now) (g.S.Reads.state c.loop.space) c.args.node c.loop.counter (c.loop.counter + 1)
+    c.loop.moved.relationships.items c.loop.moved.groups.items c.loop.invariant.rels c.loop.invariant.groups (omega arith) c.loop.invariant.writes)
+    c.in_err-turn.ensures.touches)
 
 pub returns-then-not-note-clause-writes : goal.returns-then-not-note-clause-writes
 returns-then-not-note-clause-writes g c =
     touches_beside (g.S.Reads.state c.args.space.now) (g.S.Reads.state c.move_one.new.space) c.args.node (c.loop.counter + 1 + 2) (c.loop.counter + 1 + 2)
     (2 * (c.args.threshold + 1) + 2) (omega (arith, c.loop-test.true, c.if-row-threshold.false))
-    (touches_then (g.S.Reads.state c.args.space.now) (g.S.Reads.state c.loop.space) (g.S.Reads.state c.move_one.new.space) c.args.node (c.loop.counter + 1) (c.loop.counter + 1) 2 2 (come_touches (g.S.Reads.state c.args.space.now) (g.S.Reads.state c.loop.space) c.args.node c.loop.counter (c.loop.counter + 1) c.loop.moved.relationships.items c.loop.moved.groups.items c.loop.invariant.rels c.loop.invariant.groups (omega arith) c.loop.invariant.writes) c.in_ok-turn.ensures.touches)
+    (touches_then (g.S.Reads.state c.args.space.now) (g.S.Reads.state c.loop.space) (g.S.Reads.state c.move_one.new.space) c.args.node (c.loop.counter + 1)
+    (c.loop.counter + 1) 2 2 (come_touches (g.S.Reads.state c.args.space.now) (g.S.Reads.state c.loop.space) c.args.node c.loop.counter (c.loop.counter + 1)
+    c.loop.moved.relationships.items c.loop.moved.groups.items c.loop.invariant.rels c.loop.invariant.groups (omega arith) c.loop.invariant.writes)
+    c.in_ok-turn.ensures.touches)
 
 pub returns-then-not-note-clause-touches : goal.returns-then-not-note-clause-touches
 returns-then-not-note-clause-touches g c =
     touches_more (g.S.Reads.state c.args.space.now) (g.S.Reads.state c.move_one.new.space) c.args.node (c.loop.counter + 1 + 2) (c.loop.counter + 1 + 2)
     (c.args.threshold + 2) (c.args.threshold + 2) (omega (arith, c.loop-test.true, c.if-row-threshold.false))
     (omega (arith, c.loop-test.true, c.if-row-threshold.false))
-    (touches_then (g.S.Reads.state c.args.space.now) (g.S.Reads.state c.loop.space) (g.S.Reads.state c.move_one.new.space) c.args.node (c.loop.counter + 1) (c.loop.counter + 1) 2 2 (come_touches (g.S.Reads.state c.args.space.now) (g.S.Reads.state c.loop.space) c.args.node c.loop.counter (c.loop.counter + 1) c.loop.moved.relationships.items c.loop.moved.groups.items c.loop.invariant.rels c.loop.invariant.groups (omega arith) c.loop.invariant.writes) c.in_ok-turn.ensures.touches)
+    (touches_then (g.S.Reads.state c.args.space.now) (g.S.Reads.state c.loop.space) (g.S.Reads.state c.move_one.new.space) c.args.node (c.loop.counter + 1)
+    (c.loop.counter + 1) 2 2 (come_touches (g.S.Reads.state c.args.space.now) (g.S.Reads.state c.loop.space) c.args.node c.loop.counter (c.loop.counter + 1)
+    c.loop.moved.relationships.items c.loop.moved.groups.items c.loop.invariant.rels c.loop.invariant.groups (omega arith) c.loop.invariant.writes)
+    c.in_ok-turn.ensures.touches)
 
 pub returns-then-not-note-clause-few : goal.returns-then-not-note-clause-few
 returns-then-not-note-clause-few g c = λ tells.
@@ -151,7 +167,10 @@ returns-then-not-note-clause-few g c = λ tells.
     let most = degree (g.S.Reads.state c.args.space.now).records c.args.node + 2 in
     touches_more (g.S.Reads.state c.args.space.now) (g.S.Reads.state c.move_one.new.space) c.args.node (c.loop.counter + 1 + 2) (c.loop.counter + 1 + 2) most
     most (omega (arith, c.loop-test.true, c.if-row-threshold.false, e)) (omega (arith, c.loop-test.true, c.if-row-threshold.false, e))
-    (touches_then (g.S.Reads.state c.args.space.now) (g.S.Reads.state c.loop.space) (g.S.Reads.state c.move_one.new.space) c.args.node (c.loop.counter + 1) (c.loop.counter + 1) 2 2 (come_touches (g.S.Reads.state c.args.space.now) (g.S.Reads.state c.loop.space) c.args.node c.loop.counter (c.loop.counter + 1) c.loop.moved.relationships.items c.loop.moved.groups.items c.loop.invariant.rels c.loop.invariant.groups (omega arith) c.loop.invariant.writes) c.in_ok-turn.ensures.touches)
+    (touches_then (g.S.Reads.state c.args.space.now) (g.S.Reads.state c.loop.space) (g.S.Reads.state c.move_one.new.space) c.args.node (c.loop.counter + 1)
+    (c.loop.counter + 1) 2 2 (come_touches (g.S.Reads.state c.args.space.now) (g.S.Reads.state c.loop.space) c.args.node c.loop.counter (c.loop.counter + 1)
+    c.loop.moved.relationships.items c.loop.moved.groups.items c.loop.invariant.rels c.loop.invariant.groups (omega arith) c.loop.invariant.writes)
+    c.in_ok-turn.ensures.touches)
 
 pub returns-then-at-clause-wrote : goal.returns-then-at-clause-wrote
 returns-then-at-clause-wrote g c =
@@ -302,7 +321,8 @@ returns-in_err-turn-clause-sound g c = λ tells most empty can room.
     let s = g.S.Reads.state c.args.space.now in
     let now = g.S.Reads.state c.loop.space in
     let p = err_from_is_err_and c.from_residual-in_err-turn.result c.from_residual-in_err-turn.ensures.1 in
-    rw (p.1, p.2) (handed Turn Unit c.in_err-turn.field-0.0 (left_first s now c.args.node c.loop.at c.loop.counter most c.args.threshold empty c.loop.moved.relationships.items c.loop.moved.groups.items c.if-at.false
+    rw (p.1, p.2) (handed Turn Unit c.in_err-turn.field-0.0 (left_first s now c.args.node c.loop.at c.loop.counter most c.args.threshold empty
+    c.loop.moved.relationships.items c.loop.moved.groups.items c.if-at.false
     (c.loop.invariant.left tells most empty can) room (c.in_err-turn.ensures.sound tells)))
 
 pub returns-then-not-note-clause-sound : goal.returns-then-not-note-clause-sound
@@ -310,7 +330,8 @@ returns-then-not-note-clause-sound g c = λ tells most empty can room.
     let s = g.S.Reads.state c.args.space.now in
     let now = g.S.Reads.state c.loop.space in
     let end = g.S.Reads.state c.move_one.new.space in
-    false≢true (sym c.if-not-note.true ∙ c.note.ensures.known.1 (turn_known s now end c.args.node c.loop.at c.loop.counter most empty c.loop.moved.relationships.items c.loop.moved.groups.items c.in_ok-turn.turn c.if-at.false
+    false≢true (sym c.if-not-note.true ∙ c.note.ensures.known.1 (turn_known s now end c.args.node c.loop.at c.loop.counter most empty
+    c.loop.moved.relationships.items c.loop.moved.groups.items c.in_ok-turn.turn c.if-at.false
     (c.in_ok-turn.ensures.own tells) (c.loop.invariant.left tells most empty can)))
 
 pub returns-then-at-2-clause-sound : goal.returns-then-at-2-clause-sound
@@ -335,7 +356,8 @@ returns-in_err-test_chain-clause-sound g c = λ tells most empty can room.
     rw (p.1, p.2) (not_damaged Unit c.in_err-test_chain.field-0.0 (sparse_undamaged l c.args.node c.in-Some.row.degree most empty
     (subst (λ (q : State). c.in-Some.row.degree ≡ degree q.records c.args.node) (sym same) (row_degree s c.args.node c.in-Some.row found))
     (subst (λ (q : State). CanBecomeDense q c.args.node most empty) (sym same) (can_of s l.reads c.args.node most empty can)) c.in_err-test_chain.field-0.0
-    (c.in_err-test_chain.ensures.damaged tells (subst (λ (q : State). c.in-Some.row.first ≡ first_link q.records c.args.node) (sym same) (first_is s.records c.args.node c.in-Some.row found)))))
+    (c.in_err-test_chain.ensures.damaged tells (subst (λ (q : State). c.in-Some.row.first ≡ first_link q.records c.args.node) (sym same)
+    (first_is s.records c.args.node c.in-Some.row found)))))
 
 -- ---- damage
 
@@ -345,11 +367,13 @@ returns-in_err-row-clause-damaged g c = λ tells sparse le.
     let l = g.S.Reads.state c.load.new.space in
     let fault = of_row c.in_err-row.field-0.0 in
     let p = err_from_is_err_and c.from_residual.result c.from_residual.ensures.1 in
-    rw (p.1, p.2) (broken_then s l c.args.node fault (only_loads_node s l c.args.node c.load.ensures.state) (node_fault_breaks s c.args.node fault (node_fault s c.args.node c.in_err-row.field-0.0 (c.in_err-row.ensures.damaged tells))))
+    rw (p.1, p.2) (broken_then s l c.args.node fault (only_loads_node s l c.args.node c.load.ensures.state) (node_fault_breaks s c.args.node fault
+    (node_fault s c.args.node c.in_err-row.field-0.0 (c.in_err-row.ensures.damaged tells))))
 
 pub returns-in_default-clause-damaged : goal.returns-in_default-clause-damaged
 returns-in_default-clause-damaged g c = λ tells sparse le.
-    absurd (none_unused (g.S.Reads.state c.args.space.now) c.args.node (sym c.in_default.is ∙ c.in_ok-row.ensures.found tells) (λ e. let z = sym e ∙ sparse in omega arith))
+    absurd (none_unused (g.S.Reads.state c.args.space.now) c.args.node (sym c.in_default.is ∙ c.in_ok-row.ensures.found tells)
+    (λ e. let z = sym e ∙ sparse in omega arith))
 
 pub returns-then-row-clause-damaged : goal.returns-then-row-clause-damaged
 returns-then-row-clause-damaged g c = λ tells sparse le.
@@ -362,7 +386,8 @@ returns-then-row-threshold-clause-damaged g c = λ tells sparse le.
     let same = only_loads_node s (g.S.Reads.state c.load.new.space) c.args.node c.load.ensures.state in
     let e = row_degree s c.args.node c.in-Some.row (sym c.in-Some.is ∙ c.in_ok-row.ensures.found tells) in
     inl (subst (λ (q : State). Breaks q.records q.shape c.degree_damage.result) (sym same)
-    (subst (λ (d : Damage). Breaks s.records s.shape d) (sym c.degree_damage.ensures) (many_break s c.args.node sparse c.args.threshold le (omega (arith, c.if-row-threshold.true, e)))))
+    (subst (λ (d : Damage). Breaks s.records s.shape d) (sym c.degree_damage.ensures) (many_break s c.args.node sparse c.args.threshold le
+    (omega (arith, c.if-row-threshold.true, e)))))
 
 pub returns-in_err-test_chain-clause-damaged : goal.returns-in_err-test_chain-clause-damaged
 returns-in_err-test_chain-clause-damaged g c = λ tells sparse le.
@@ -373,9 +398,11 @@ returns-in_err-test_chain-clause-damaged g c = λ tells sparse le.
     let found = sym c.in-Some.is ∙ c.in_ok-row.ensures.found tells in
     let fault = c.in_err-test_chain.field-0.0 in
     let p = err_from_is_err_and c.from_residual-in_err-test_chain.result c.from_residual-in_err-test_chain.ensures.1 in
-    rw (p.1, p.2) (broken_then s v c.args.node fault (same_twice s l v same c.test_chain.ensures.state) (breaks_read s l same fault (sparse_breaks l c.args.node (subst (λ (q : State). kind_at q.records nodes_file c.args.node ≡ sparse_kind) (sym same) sparse) c.in-Some.row.degree
+    rw (p.1, p.2) (broken_then s v c.args.node fault (same_twice s l v same c.test_chain.ensures.state) (breaks_read s l same fault (sparse_breaks l c.args.node
+    (subst (λ (q : State). kind_at q.records nodes_file c.args.node ≡ sparse_kind) (sym same) sparse) c.in-Some.row.degree
     (subst (λ (q : State). c.in-Some.row.degree ≡ degree q.records c.args.node) (sym same) (row_degree s c.args.node c.in-Some.row found)) fault
-    (c.in_err-test_chain.ensures.damaged tells (subst (λ (q : State). c.in-Some.row.first ≡ first_link q.records c.args.node) (sym same) (first_is s.records c.args.node c.in-Some.row found))))))
+    (c.in_err-test_chain.ensures.damaged tells (subst (λ (q : State). c.in-Some.row.first ≡ first_link q.records c.args.node) (sym same)
+    (first_is s.records c.args.node c.in-Some.row found))))))
 
 pub returns-in_err-turn-clause-damaged : goal.returns-in_err-turn-clause-damaged
 returns-in_err-turn-clause-damaged g c = λ tells sparse le.
@@ -383,19 +410,23 @@ returns-in_err-turn-clause-damaged g c = λ tells sparse le.
     let now = g.S.Reads.state c.loop.space in
     let was = c.loop.invariant in
     let p = err_from_is_err_and c.from_residual-in_err-turn.result c.from_residual-in_err-turn.ensures.1 in
-    rw (p.1, p.2) (unmoved now (g.S.Reads.state c.move_one.new.space) c.args.node c.loop.at c.in_err-turn.field-0.0 (c.in_err-turn.ensures.damaged tells (was.dense tells))
-    (λ none. rest_live s now c.args.node c.loop.at c.loop.counter c.if-at.false (was.rest tells) (sym (beside_rels s.records now.records c.args.node (was.beside tells) c.loop.at) ∙ none)))
+    rw (p.1, p.2) (unmoved now (g.S.Reads.state c.move_one.new.space) c.args.node c.loop.at c.in_err-turn.field-0.0 (c.in_err-turn.ensures.damaged tells
+    (was.dense tells))
+    (λ none. rest_live s now c.args.node c.loop.at c.loop.counter c.if-at.false (was.rest tells) (sym (beside_rels s.records now.records c.args.node
+    (was.beside tells) c.loop.at) ∙ none)))
 
 pub returns-then-not-note-clause-damaged : goal.returns-then-not-note-clause-damaged
 returns-then-not-note-clause-damaged g c = λ tells sparse le.
     let was = c.loop.invariant in
-    absurd (false≢true (sym c.if-not-note.true ∙ c.note.ensures.known.1 (c.in_ok-turn.ensures.leads tells c.loop.moved.relationships.items c.loop.moved.groups.items (was.leads tells)).1))
+    absurd (false≢true (sym c.if-not-note.true ∙ c.note.ensures.known.1 (c.in_ok-turn.ensures.leads tells c.loop.moved.relationships.items
+    c.loop.moved.groups.items (was.leads tells)).1))
 
 pub returns-then-at-2-clause-damaged : goal.returns-then-at-2-clause-damaged
 returns-then-at-2-clause-damaged g c = λ tells sparse le.
     let s = g.S.Reads.state c.args.space.now in
     let e = row_degree s c.args.node c.in-Some.row (sym c.in-Some.is ∙ c.in_ok-row.ensures.found tells) in
-    absurd (rest_over s (g.S.Reads.state c.loop.space) c.args.node c.loop.at c.loop.counter c.if-at-2.true (c.loop.invariant.rest tells) (omega (arith, c.loop-test.false, e)))
+    absurd (rest_over s (g.S.Reads.state c.loop.space) c.args.node c.loop.at c.loop.counter c.if-at-2.true (c.loop.invariant.rest tells)
+    (omega (arith, c.loop-test.false, e)))
 
 -- ---- by what the node has alone
 
@@ -413,7 +444,8 @@ pub returns-in_err-row-clause-never : goal.returns-in_err-row-clause-never
 returns-in_err-row-clause-never g c = λ tells members free can room.
     let p = err_from_is_err_and c.from_residual.result c.from_residual.ensures.1 in
     not_damaged_at c.from_residual.result p.0 (of_row c.in_err-row.field-0.0) p.1 p.2
-    (row_sound c.in_err-row.field-0.0 (c.in_err-row.ensures.sound tells (sparse_read (g.S.Reads.state c.args.space.now) c.args.node c.args.threshold members free can room)))
+    (row_sound c.in_err-row.field-0.0 (c.in_err-row.ensures.sound tells (sparse_read (g.S.Reads.state c.args.space.now) c.args.node c.args.threshold members
+    free can room)))
 
 pub returns-in_default-clause-never : goal.returns-in_default-clause-never
 returns-in_default-clause-never g c = λ tells members free can room.
@@ -438,7 +470,8 @@ returns-in_err-test_chain-clause-never g c = λ tells members free can room.
     let found = sym c.in-Some.is ∙ c.in_ok-row.ensures.found tells in
     let e = row_degree s c.args.node c.in-Some.row found in
     let p = err_from_is_err_and c.from_residual-in_err-test_chain.result c.from_residual-in_err-test_chain.ensures.1 in
-    rw (p.1, p.2) (handed Unit Unit c.in_err-test_chain.field-0.0 (c.in_err-test_chain.ensures.sound tells (subst (λ (q : State). c.in-Some.row.first ≡ first_link q.records c.args.node) (sym same) (first_is s.records c.args.node c.in-Some.row found))
+    rw (p.1, p.2) (handed Unit Unit c.in_err-test_chain.field-0.0 (c.in_err-test_chain.ensures.sound tells
+    (subst (λ (q : State). c.in-Some.row.first ≡ first_link q.records c.args.node) (sym same) (first_is s.records c.args.node c.in-Some.row found))
     members (subst (λ (q : State). IsHeadChain q.records (node_head c.args.node) c.args.node members) (sym same) can.chain)
     (readable_after s l members same (members_read s c.args.node c.args.threshold members room)) (omega (arith, e, room.exact))))
 
@@ -446,12 +479,14 @@ pub returns-in_err-turn-clause-never : goal.returns-in_err-turn-clause-never
 returns-in_err-turn-clause-never g c = λ tells members free can room.
     let was = c.loop.invariant in
     let p = err_from_is_err_and c.from_residual-in_err-turn.result c.from_residual-in_err-turn.ensures.1 in
-    rw (p.1, p.2) (handed Turn Unit c.in_err-turn.field-0.0 (turn_sound (g.S.Reads.state c.args.space.now) (g.S.Reads.state c.loop.space) c.args.node c.loop.at c.loop.counter c.args.threshold members c.loop.moved.relationships.items c.loop.moved.groups.items
+    rw (p.1, p.2) (handed Turn Unit c.in_err-turn.field-0.0 (turn_sound (g.S.Reads.state c.args.space.now) (g.S.Reads.state c.loop.space) c.args.node c.loop.at
+    c.loop.counter c.args.threshold members c.loop.moved.relationships.items c.loop.moved.groups.items
     c.if-at.false (was.part tells members free can) room (was.beside tells) (c.in_err-turn.ensures.never tells)))
 
 pub returns-then-not-note-clause-never : goal.returns-then-not-note-clause-never
 returns-then-not-note-clause-never g c = λ tells members free can room.
-    false≢true (sym c.if-not-note.true ∙ c.note.ensures.known.1 (part_known (g.S.Reads.state c.args.space.now) (g.S.Reads.state c.loop.space) c.args.node c.loop.at c.loop.counter members c.loop.moved.relationships.items c.loop.moved.groups.items
+    false≢true (sym c.if-not-note.true ∙ c.note.ensures.known.1 (part_known (g.S.Reads.state c.args.space.now) (g.S.Reads.state c.loop.space)
+    c.args.node c.loop.at c.loop.counter members c.loop.moved.relationships.items c.loop.moved.groups.items
     c.if-at.false (c.loop.invariant.part tells members free can) (g.S.Reads.state c.move_one.new.space) c.in_ok-turn.turn (c.in_ok-turn.ensures.local tells)))
 
 pub returns-then-at-2-clause-never : goal.returns-then-at-2-clause-never
@@ -494,7 +529,8 @@ returns-in_err-row-clause-told g c = λ tells thin le.
     let l = g.S.Reads.state c.load.new.space in
     let fault = of_row c.in_err-row.field-0.0 in
     let p = err_from_is_err_and c.from_residual.result c.from_residual.ensures.1 in
-    rw (p.1, p.2) (end_broken s l c.args.node fault (only_loads_node s l c.args.node c.load.ensures.state) (node_fault_breaks s c.args.node fault (node_fault s c.args.node c.in_err-row.field-0.0 (c.in_err-row.ensures.damaged tells))))
+    rw (p.1, p.2) (end_broken s l c.args.node fault (only_loads_node s l c.args.node c.load.ensures.state) (node_fault_breaks s c.args.node fault
+    (node_fault s c.args.node c.in_err-row.field-0.0 (c.in_err-row.ensures.damaged tells))))
 
 pub returns-in_default-clause-told : goal.returns-in_default-clause-told
 returns-in_default-clause-told g c = λ tells thin le.
@@ -506,7 +542,8 @@ returns-in_default-clause-told g c = λ tells thin le.
 
 pub returns-then-row-clause-told : goal.returns-then-row-clause-told
 returns-then-row-clause-told g c = λ tells thin le.
-    absurd (thin (dense_is (g.S.Reads.state c.args.space.now).records c.args.node c.in-Some.row (sym c.in-Some.is ∙ c.in_ok-row.ensures.found tells) c.if-row.true))
+    absurd (thin (dense_is (g.S.Reads.state c.args.space.now).records c.args.node c.in-Some.row (sym c.in-Some.is ∙ c.in_ok-row.ensures.found tells)
+    c.if-row.true))
 
 pub returns-then-row-threshold-clause-told : goal.returns-then-row-threshold-clause-told
 returns-then-row-threshold-clause-told g c = λ tells thin le.
@@ -517,7 +554,8 @@ returns-then-row-threshold-clause-told g c = λ tells thin le.
     let sparse = sparse_known s c.args.node (c.in_ok-row.ensures.known tells)
     (node_row s.records c.args.node c.in-Some.row (sym (sym c.in-Some.is ∙ c.in_ok-row.ensures.found tells))).0 thin in
     inl (inl (subst (λ (q : State). Breaks q.records q.shape c.degree_damage.result) (sym same)
-    (subst (λ (d : Damage). Breaks s.records s.shape d) (sym c.degree_damage.ensures) (many_break s c.args.node sparse c.args.threshold le (omega (arith, c.if-row-threshold.true, e))))))
+    (subst (λ (d : Damage). Breaks s.records s.shape d) (sym c.degree_damage.ensures) (many_break s c.args.node sparse c.args.threshold le
+    (omega (arith, c.if-row-threshold.true, e))))))
 
 pub returns-in_err-test_chain-clause-told : goal.returns-in_err-test_chain-clause-told
 returns-in_err-test_chain-clause-told g c = λ tells thin le.
@@ -530,9 +568,11 @@ returns-in_err-test_chain-clause-told g c = λ tells thin le.
     let sparse = sparse_known s c.args.node (c.in_ok-row.ensures.known tells)
     (node_row s.records c.args.node c.in-Some.row (sym (sym c.in-Some.is ∙ c.in_ok-row.ensures.found tells))).0 thin in
     let p = err_from_is_err_and c.from_residual-in_err-test_chain.result c.from_residual-in_err-test_chain.ensures.1 in
-    rw (p.1, p.2) (end_broken s v c.args.node fault (same_twice s l v same c.test_chain.ensures.state) (breaks_read s l same fault (sparse_breaks l c.args.node (subst (λ (q : State). kind_at q.records nodes_file c.args.node ≡ sparse_kind) (sym same) sparse) c.in-Some.row.degree
+    rw (p.1, p.2) (end_broken s v c.args.node fault (same_twice s l v same c.test_chain.ensures.state) (breaks_read s l same fault (sparse_breaks l c.args.node
+    (subst (λ (q : State). kind_at q.records nodes_file c.args.node ≡ sparse_kind) (sym same) sparse) c.in-Some.row.degree
     (subst (λ (q : State). c.in-Some.row.degree ≡ degree q.records c.args.node) (sym same) (row_degree s c.args.node c.in-Some.row found)) fault
-    (c.in_err-test_chain.ensures.damaged tells (subst (λ (q : State). c.in-Some.row.first ≡ first_link q.records c.args.node) (sym same) (first_is s.records c.args.node c.in-Some.row found))))))
+    (c.in_err-test_chain.ensures.damaged tells (subst (λ (q : State). c.in-Some.row.first ≡ first_link q.records c.args.node) (sym same)
+    (first_is s.records c.args.node c.in-Some.row found))))))
 
 pub returns-in_err-turn-clause-told : goal.returns-in_err-turn-clause-told
 returns-in_err-turn-clause-told g c = λ tells thin le.
@@ -542,18 +582,21 @@ returns-in_err-turn-clause-told g c = λ tells thin le.
     let p = err_from_is_err_and c.from_residual-in_err-turn.result c.from_residual-in_err-turn.ensures.1 in
     rw (p.1, p.2) (end_late (g.S.Reads.state c.move_one.new.space) c.args.node c.in_err-turn.field-0.0
     (unmoved now (g.S.Reads.state c.move_one.new.space) c.args.node c.loop.at c.in_err-turn.field-0.0 (c.in_err-turn.ensures.damaged tells (was.dense tells))
-    (λ none. rest_live s now c.args.node c.loop.at c.loop.counter c.if-at.false (was.rest tells) (sym (beside_rels s.records now.records c.args.node (was.beside tells) c.loop.at) ∙ none))))
+    (λ none. rest_live s now c.args.node c.loop.at c.loop.counter c.if-at.false (was.rest tells) (sym (beside_rels s.records now.records c.args.node
+    (was.beside tells) c.loop.at) ∙ none))))
 
 pub returns-then-not-note-clause-told : goal.returns-then-not-note-clause-told
 returns-then-not-note-clause-told g c = λ tells thin le.
     let was = c.loop.invariant in
-    absurd (false≢true (sym c.if-not-note.true ∙ c.note.ensures.known.1 (c.in_ok-turn.ensures.leads tells c.loop.moved.relationships.items c.loop.moved.groups.items (was.leads tells)).1))
+    absurd (false≢true (sym c.if-not-note.true ∙ c.note.ensures.known.1 (c.in_ok-turn.ensures.leads tells c.loop.moved.relationships.items
+    c.loop.moved.groups.items (was.leads tells)).1))
 
 pub returns-then-at-2-clause-told : goal.returns-then-at-2-clause-told
 returns-then-at-2-clause-told g c = λ tells thin le.
     let s = g.S.Reads.state c.args.space.now in
     let e = row_degree s c.args.node c.in-Some.row (sym c.in-Some.is ∙ c.in_ok-row.ensures.found tells) in
-    absurd (rest_over s (g.S.Reads.state c.loop.space) c.args.node c.loop.at c.loop.counter c.if-at-2.true (c.loop.invariant.rest tells) (omega (arith, c.loop-test.false, e)))
+    absurd (rest_over s (g.S.Reads.state c.loop.space) c.args.node c.loop.at c.loop.counter c.if-at-2.true (c.loop.invariant.rest tells)
+    (omega (arith, c.loop-test.false, e)))
 
 -- ---- what is left of other records
 
@@ -592,14 +635,16 @@ returns-in_err-test_chain-clause-stays g c = λ tells.
     let s = g.S.Reads.state c.args.space.now in
     let l = g.S.Reads.state c.load.new.space in
     let v = g.S.Reads.state c.test_chain.new.space in
-    on_damage c.from_residual-in_err-test_chain.result _ (beside_read s v c.args.node (same_twice s l v (only_loads_node s l c.args.node c.load.ensures.state) c.test_chain.ensures.state))
+    on_damage c.from_residual-in_err-test_chain.result _ (beside_read s v c.args.node (same_twice s l v (only_loads_node s l c.args.node c.load.ensures.state)
+    c.test_chain.ensures.state))
 
 pub returns-in_err-turn-clause-stays : goal.returns-in_err-turn-clause-stays
 returns-in_err-turn-clause-stays g c = λ tells.
     let s = g.S.Reads.state c.args.space.now in
     let now = g.S.Reads.state c.loop.space in
     let p = err_from_is_err_and c.from_residual-in_err-turn.result c.from_residual-in_err-turn.ensures.1 in
-    rw (p.1, p.2) (later_beside s.records now.records (g.S.Reads.state c.move_one.new.space).records c.args.node (c.loop.invariant.beside tells) c.in_err-turn.field-0.0 (c.in_err-turn.ensures.stays tells))
+    rw (p.1, p.2) (later_beside s.records now.records (g.S.Reads.state c.move_one.new.space).records c.args.node (c.loop.invariant.beside tells)
+    c.in_err-turn.field-0.0 (c.in_err-turn.ensures.stays tells))
 
 pub returns-then-not-note-clause-stays : goal.returns-then-not-note-clause-stays
 returns-then-not-note-clause-stays g c = λ tells.

@@ -62,7 +62,8 @@ returns-in_err-own-clause-touches g c =
     let l = g.S.Reads.state c.load.new.space in
     let made = c.in_err-own.ensures.writes in
     touches_more s (g.S.Reads.state c.own_group.new.space) c.args.node 0 2 2 2 (omega arith) (omega arith)
-    (made_touched s (g.S.Reads.state c.own_group.new.space) c.args.node made.1 made.0 (writes_after s l (g.S.Reads.state c.own_group.new.space) _ (only_loads s l c.args.rel c.load.ensures.state) made.2))
+    (made_touched s (g.S.Reads.state c.own_group.new.space) c.args.node made.1 made.0 (writes_after s l (g.S.Reads.state c.own_group.new.space) _
+    (only_loads s l c.args.rel c.load.ensures.state) made.2))
 
 pub returns-in_err-free_previous-clause-touches : goal.returns-in_err-free_previous-clause-touches
 returns-in_err-free_previous-clause-touches g c =
@@ -176,7 +177,8 @@ returns-clause-walk g c = λ tells.
     c.args.rel c.at.result (head_of c.group_head-head.result) c.in_ok-own.own.row.id c.end_links-next.result.1
     (only_loads s l c.args.rel c.load.ensures.state) (c.in_ok-own.ensures.rels tells) key.id (c.in_ok-free_previous.ensures.ok tells)
     c.group_head-head.ensures.is (c.in_ok-first.ensures.ok tells)
-    (links_are s.records c.args.node c.args.rel c.in-Some.row c.end_links-next.result (sym c.in-Some.is ∙ c.in_ok-row.ensures.found tells) c.end_links-next.ensures.of_record).1
+    (links_are s.records c.args.node c.args.rel c.in-Some.row c.end_links-next.result (sym c.in-Some.is ∙ c.in_ok-row.ensures.found tells)
+    c.end_links-next.ensures.of_record).1
 
 pub returns-in_err-row-clause-never : goal.returns-in_err-row-clause-never
 returns-in_err-row-clause-never g c = λ tells came rest groups free spreading node readable full.
@@ -195,7 +197,8 @@ returns-in_err-own-clause-never g c = λ tells came rest groups free spreading n
     let l = g.S.Reads.state c.load.new.space in
     let same = only_loads s l c.args.rel c.load.ensures.state in
     let p = err_from_is_err_and c.from_residual-in_err-own.result c.from_residual-in_err-own.ensures.1 in
-    rw (p.1, p.2) (handed OwnGroup Turn c.in_err-own.field-0.0 (c.in_err-own.ensures.never tells groups free (subst (λ (q : State). IsDense q.records c.args.node) (sym same) spreading.spread.dense)
+    rw (p.1, p.2) (handed OwnGroup Turn c.in_err-own.field-0.0 (c.in_err-own.ensures.never tells groups free
+    (subst (λ (q : State). IsDense q.records c.args.node) (sym same) spreading.spread.dense)
     (subst (λ (q : State). IsGroupChain q.records c.args.node groups) (sym same) spreading.spread.chain) (take_after s l free same spreading.take)
     (node_read s l c.args.node same node)
     (subst (λ (q : State). (meta_of q groups_file).live ≢ room q groups_file) (sym same) full)))
@@ -208,7 +211,8 @@ returns-in_err-first-clause-never g c = λ tells came rest groups free spreading
     let key = subst (λ (o : Option RelRow). IfSome o (λ _. IsKey (rel_key c.args.rel))) c.in-Some.is c.in_ok-row.ensures.key in
     let p = err_from_is_err_and c.from_residual-in_err-first.result c.from_residual-in_err-first.ensures.1 in
     rw (p.1, p.2) (handed ℕ Turn c.in_err-first.field-0.0 (c.in_err-first.ensures.sound tells
-    (push_finds s l (g.S.Reads.state c.own_group.new.space) c.args.node c.args.rel c.in-Some.row c.in_ok-own.own (only_loads s l c.args.rel c.load.ensures.state) (sym c.in-Some.is ∙ c.in_ok-row.ensures.found tells)
+    (push_finds s l (g.S.Reads.state c.own_group.new.space) c.args.node c.args.rel c.in-Some.row c.in_ok-own.own
+    (only_loads s l c.args.rel c.load.ensures.state) (sym c.in-Some.is ∙ c.in_ok-row.ensures.found tells)
     (c.in_ok-own.ensures.local tells) (c.in_ok-own.ensures.dense tells) key.id came rest groups free spreading t (head_of c.group_head-head.result)
     (c.in_ok-free_previous.ensures.ok tells)
     (c.group_head-head.ensures.is ∙ ap (λ (side : Side). group_head c.in_ok-own.own.row.id side) c.at.ensures) readable.mark)))
@@ -231,7 +235,8 @@ returns-in_err-own-clause-sound g c = λ tells rest most empty spread room.
     let same = only_loads s l c.args.rel c.load.ensures.state in
     let p = err_from_is_err_and c.from_residual-in_err-own.result c.from_residual-in_err-own.ensures.1 in
     rw (p.1, p.2) (handed OwnGroup Turn c.in_err-own.field-0.0
-    (c.in_err-own.ensures.sound tells (c.args.rel ∷ rest) most empty (keeps_then s l c.args.node (c.args.rel ∷ rest) most empty same spread.keeps) (subst (λ (q : State). IsDense q.records c.args.node) (sym same) spread.dense)
+    (c.in_err-own.ensures.sound tells (c.args.rel ∷ rest) most empty (keeps_then s l c.args.node (c.args.rel ∷ rest) most empty same spread.keeps)
+    (subst (λ (q : State). IsDense q.records c.args.node) (sym same) spread.dense)
     (has_room s l c.args.node c.args.rel rest most empty same spread room)))
 
 pub returns-in_err-first-clause-sound : goal.returns-in_err-first-clause-sound
@@ -241,7 +246,8 @@ returns-in_err-first-clause-sound g c = λ tells rest most empty spread room.
     let t = g.S.Reads.state c.free_previous.new.space in
     let p = err_from_is_err_and c.from_residual-in_err-first.result c.from_residual-in_err-first.ensures.1 in
     rw (p.1, p.2) (handed ℕ Turn c.in_err-first.field-0.0 (c.in_err-first.ensures.sound tells
-    (push_right s l (g.S.Reads.state c.own_group.new.space) c.args.node c.args.rel c.in-Some.row c.in_ok-own.own.row.id (only_loads s l c.args.rel c.load.ensures.state) (sym c.in-Some.is ∙ c.in_ok-row.ensures.found tells)
+    (push_right s l (g.S.Reads.state c.own_group.new.space) c.args.node c.args.rel c.in-Some.row c.in_ok-own.own.row.id
+    (only_loads s l c.args.rel c.load.ensures.state) (sym c.in-Some.is ∙ c.in_ok-row.ensures.found tells)
     (c.in_ok-own.ensures.opened tells) rest most empty spread t (head_of c.group_head-head.result) (c.in_ok-free_previous.ensures.ok tells)
     (c.group_head-head.ensures.is ∙ ap (λ (side : Side). group_head c.in_ok-own.own.row.id side) c.at.ensures))))
 
@@ -252,7 +258,8 @@ returns-in_err-row-clause-damaged g c = λ tells dense.
     let s = g.S.Reads.state c.args.space.now in
     let l = g.S.Reads.state c.load.new.space in
     let p = err_from_is_err_and c.from_residual.result c.from_residual.ensures.1 in
-    rw (p.1, p.2) (unread s l c.args.node c.args.rel (only_loads s l c.args.rel c.load.ensures.state) c.in_err-row.field-0.0 (c.in_err-row.ensures.damaged tells))
+    rw (p.1, p.2) (unread s l c.args.node c.args.rel (only_loads s l c.args.rel c.load.ensures.state) c.in_err-row.field-0.0
+    (c.in_err-row.ensures.damaged tells))
 
 pub returns-in_default-clause-damaged : goal.returns-in_default-clause-damaged
 returns-in_default-clause-damaged g c = λ tells dense.
@@ -264,7 +271,8 @@ returns-in_err-own-clause-damaged g c = λ tells dense.
     let l = g.S.Reads.state c.load.new.space in
     let dense_l = subst (λ (q : State). IsDense q.records c.args.node) (sym (only_loads s l c.args.rel c.load.ensures.state)) dense in
     let p = err_from_is_err_and c.from_residual-in_err-own.result c.from_residual-in_err-own.ensures.1 in
-    rw (p.1, p.2) (no_own s l (g.S.Reads.state c.own_group.new.space) c.args.node c.args.rel c.in_err-own.field-0.0 (c.in_err-own.ensures.damaged tells dense_l) c.in_err-own.ensures.unwritten)
+    rw (p.1, p.2) (no_own s l (g.S.Reads.state c.own_group.new.space) c.args.node c.args.rel c.in_err-own.field-0.0 (c.in_err-own.ensures.damaged tells dense_l)
+    c.in_err-own.ensures.unwritten)
 
 -- the head of the node that the relationship was to come to
 own_heads : (g : Over) (c : After-push_counted g) → g.S.Reads.tells → IsDense (g.S.Reads.state c.args.space.now).records c.args.node
@@ -283,7 +291,8 @@ pub returns-in_err-first-clause-damaged : goal.returns-in_err-first-clause-damag
 returns-in_err-first-clause-damaged g c = λ tells dense.
     let p = err_from_is_err_and c.from_residual-in_err-first.result c.from_residual-in_err-first.ensures.1 in
     let own = own_heads g (goal.at.returns-in_err-first-clause-damaged g c).After-push_counted tells dense in
-    rw (p.1, p.2) (no_push (g.S.Reads.state c.args.space.now) (g.S.Reads.state c.free_previous.new.space) (g.S.Reads.state c.push_counted.new.space) c.args.node c.args.rel
+    rw (p.1, p.2) (no_push (g.S.Reads.state c.args.space.now) (g.S.Reads.state c.free_previous.new.space) (g.S.Reads.state c.push_counted.new.space)
+    c.args.node c.args.rel
     c.in_err-first.field-0.0 (c.in_err-first.ensures.breaks tells c.args.node own) c.in_err-first.ensures.unwritten)
 
 -- ---- the node stays dense
@@ -329,7 +338,8 @@ returns-clause-beside g c = λ tells.
     let end = g.S.Reads.state c.push_counted.new.space in
     beside_then s.records l.records end.records c.args.node (beside_read s l c.args.node (only_loads s l c.args.rel c.load.ensures.state))
     (beside_then l.records m.records end.records c.args.node (c.in_ok-own.ensures.beside tells)
-    (beside_moved m (g.S.Reads.state c.free_previous.new.space) end c.args.node c.args.rel (head_of c.group_head-head.result) (ap (λ (h : Head). h.key.file) c.group_head-head.ensures.is) (c.in_ok-free_previous.ensures.ok tells) (c.in_ok-first.ensures.ok tells)))
+    (beside_moved m (g.S.Reads.state c.free_previous.new.space) end c.args.node c.args.rel (head_of c.group_head-head.result) (ap (λ (h : Head). h.key.file)
+    c.group_head-head.ensures.is) (c.in_ok-free_previous.ensures.ok tells) (c.in_ok-first.ensures.ok tells)))
 
 pub returns-in_err-row-clause-stays : goal.returns-in_err-row-clause-stays
 returns-in_err-row-clause-stays g c = λ tells.
@@ -348,7 +358,8 @@ returns-in_err-own-clause-stays g c = λ tells.
     let s = g.S.Reads.state c.args.space.now in
     let l = g.S.Reads.state c.load.new.space in
     let p = err_from_is_err_and c.from_residual-in_err-own.result c.from_residual-in_err-own.ensures.1 in
-    rw (p.1, p.2) (unwritten_beside s l (g.S.Reads.state c.own_group.new.space) c.args.node (only_loads s l c.args.rel c.load.ensures.state) c.in_err-own.field-0.0 c.in_err-own.ensures.unwritten)
+    rw (p.1, p.2) (unwritten_beside s l (g.S.Reads.state c.own_group.new.space) c.args.node (only_loads s l c.args.rel c.load.ensures.state)
+    c.in_err-own.field-0.0 c.in_err-own.ensures.unwritten)
 
 pub returns-in_err-first-clause-stays : goal.returns-in_err-first-clause-stays
 returns-in_err-first-clause-stays g c = λ tells.
@@ -359,7 +370,8 @@ returns-in_err-first-clause-stays g c = λ tells.
     let p = err_from_is_err_and c.from_residual-in_err-first.result c.from_residual-in_err-first.ensures.1 in
     rw (p.1, p.2) (unpushed_beside s.records t (g.S.Reads.state c.push_counted.new.space) c.args.node
     (beside_then s.records l.records t.records c.args.node (beside_read s l c.args.node (only_loads s l c.args.rel c.load.ensures.state))
-    (beside_then l.records m.records t.records c.args.node (c.in_ok-own.ensures.beside tells) (beside_freed m t c.args.node c.args.rel (c.in_ok-free_previous.ensures.ok tells))))
+    (beside_then l.records m.records t.records c.args.node (c.in_ok-own.ensures.beside tells) (beside_freed m t c.args.node c.args.rel
+    (c.in_ok-free_previous.ensures.ok tells))))
     c.in_err-first.field-0.0 c.in_err-first.ensures.unwritten)
 
 -- ---- each node has the heads that it had
@@ -520,4 +532,5 @@ returns-in_err-free_previous-clause-onward g c =
 
 pub returns-in_err-first-clause-onward : goal.returns-in_err-first-clause-onward
 returns-in_err-first-clause-onward g c =
-    g.met.S.Reads.further_onward _ _ _ (g.met.S.Reads.further_onward _ _ _ (g.met.S.Reads.further_onward _ _ _ c.in_ok-row.ensures.onward c.in_ok-own.ensures.onward) c.in_ok-free_previous.ensures.onward) c.in_err-first.ensures.onward
+    g.met.S.Reads.further_onward _ _ _ (g.met.S.Reads.further_onward _ _ _ (g.met.S.Reads.further_onward _ _ _ c.in_ok-row.ensures.onward
+    c.in_ok-own.ensures.onward) c.in_ok-free_previous.ensures.onward) c.in_err-first.ensures.onward

@@ -74,12 +74,14 @@ returns-in-None-clause-opened g c = λ tells.
     let node = c.args.node in
     let label = c.args.label in
     if_ok c.make_own.result _
-    (λ (own : OwnGroup). (rest : List ℕ) (most : ℕ) (empty : List ℕ) → KeepsBut s.records s.shape node rest most empty → IsDense s.records node → KeepsBut end.records end.shape node rest most (own.row.id ∷ empty) × HasOpened s end node label own.row.id rest)
+    (λ (own : OwnGroup). (rest : List ℕ) (most : ℕ) (empty : List ℕ) → KeepsBut s.records s.shape node rest most empty → IsDense s.records node
+    → KeepsBut end.records end.shape node rest most (own.row.id ∷ empty) × HasOpened s end node label own.row.id rest)
     (λ own made rest most empty keeps dense.
     let lacks = none_found s node label rest most empty keeps dense c.in_ok-row.field-0 c.in-None.is
     (λ xs chain. c.in_ok-row.ensures.none tells dense xs chain) in
     opened_made s now end node label own.row.id rest most empty same
-    (made rest most empty (keeps_then s now node rest most empty same keeps) (subst (λ (t : State). IsDense t.records node) (sym same) dense) (subst (λ (t : State). LacksGroup t.records node label) (sym same) lacks)))
+    (made rest most empty (keeps_then s now node rest most empty same keeps) (subst (λ (t : State). IsDense t.records node) (sym same) dense)
+    (subst (λ (t : State). LacksGroup t.records node label) (sym same) lacks)))
     (c.make_own.ensures.rules tells)
 
 pub returns-in-None-clause-grows : goal.returns-in-None-clause-grows
@@ -87,7 +89,8 @@ returns-in-None-clause-grows g c = λ tells.
     let s = g.S.Reads.state c.args.space.now in
     let now = g.S.Reads.state c.find_group.new.space in
     made_grows c.make_own.result s now (g.S.Reads.state c.make_own.new.space) c.args.node c.args.label (same_read _ s now c.find_group.ensures.at_most)
-    (λ rest most empty keeps dense. none_found s c.args.node c.args.label rest most empty keeps dense c.in_ok-row.field-0 c.in-None.is (λ xs chain. c.in_ok-row.ensures.none tells dense xs chain))
+    (λ rest most empty keeps dense. none_found s c.args.node c.args.label rest most empty keeps dense c.in_ok-row.field-0 c.in-None.is
+    (λ xs chain. c.in_ok-row.ensures.none tells dense xs chain))
     (c.make_own.ensures.made tells) (c.make_own.ensures.first tells)
 
 pub returns-in-None-clause-wrote : goal.returns-in-None-clause-wrote
@@ -96,7 +99,8 @@ returns-in-None-clause-wrote g c =
     let now = g.S.Reads.state c.find_group.new.space in
     let end = g.S.Reads.state c.make_own.new.space in
     let same = same_read _ s now c.find_group.ensures.at_most in
-    if_ok c.make_own.result _ (λ (own : OwnGroup). WritesOnly s end (group_key own.row.id ∷ group_key own.first ∷ node_key c.args.node ∷ meta_key_of groups_file ∷ []))
+    if_ok c.make_own.result _ (λ (own : OwnGroup). WritesOnly s end (group_key own.row.id ∷ group_key own.first ∷ node_key c.args.node ∷ meta_key_of groups_file
+    ∷ []))
     (λ own k. writes_after s now end _ same k) c.make_own.ensures.wrote
 
 pub returns-in-None-clause-writes : goal.returns-in-None-clause-writes
@@ -112,7 +116,8 @@ returns-in_err-row-clause-sound g c = λ tells rest most empty keeps dense room.
     let s = g.S.Reads.state c.args.space.now in
     let p = err_from_is_err_and c.from_residual.result c.from_residual.ensures.1 in
     rw (p.1, p.2) (handed (Option GroupRow) OwnGroup c.in_err-row.field-0.0
-    (c.in_err-row.ensures.sound tells (node_known s c.args.node rest most empty keeps dense) (chain_ids s c.args.node rest most empty keeps dense) (can_walk s c.args.node rest most empty keeps dense)))
+    (c.in_err-row.ensures.sound tells (node_known s c.args.node rest most empty keeps dense) (chain_ids s c.args.node rest most empty keeps dense)
+    (can_walk s c.args.node rest most empty keeps dense)))
 
 pub returns-in-None-clause-sound : goal.returns-in-None-clause-sound
 returns-in-None-clause-sound g c = λ tells rest most empty keeps dense full.
@@ -155,7 +160,8 @@ pub returns-in_err-row-clause-never : goal.returns-in_err-row-clause-never
 returns-in_err-row-clause-never g c = λ tells groups free dense chain can readable full.
     let s = g.S.Reads.state c.args.space.now in
     let p = err_from_is_err_and c.from_residual.result c.from_residual.ensures.1 in
-    rw (p.1, p.2) (handed (Option GroupRow) OwnGroup c.in_err-row.field-0.0 (c.in_err-row.ensures.sound tells readable groups (walkable s c.args.node groups free chain can)))
+    rw (p.1, p.2) (handed (Option GroupRow) OwnGroup c.in_err-row.field-0.0 (c.in_err-row.ensures.sound tells readable groups
+    (walkable s c.args.node groups free chain can)))
 
 pub returns-in-None-clause-never : goal.returns-in-None-clause-never
 returns-in-None-clause-never g c = λ tells groups free dense chain can readable full.
@@ -186,7 +192,8 @@ returns-in-None-clause-row g c = λ tells.
     let node = c.args.node in
     let label = c.args.label in
     if_ok c.make_own.result _
-    (λ (own : OwnGroup). (rest : List ℕ) (most : ℕ) (empty : List ℕ) → KeepsBut s.records s.shape node rest most empty → IsDense s.records node → own.row ≡ group_row_at end.records own.row.id)
+    (λ (own : OwnGroup). (rest : List ℕ) (most : ℕ) (empty : List ℕ) → KeepsBut s.records s.shape node rest most empty → IsDense s.records node
+    → own.row ≡ group_row_at end.records own.row.id)
     (λ own made rest most empty keeps dense.
     let lacks = none_found s node label rest most empty keeps dense c.in_ok-row.field-0 c.in-None.is
     (λ xs chain. c.in_ok-row.ensures.none tells dense xs chain) in
@@ -283,7 +290,8 @@ returns-in-Some-clause-leads g c = λ tells.
     let s = g.S.Reads.state c.args.space.now in
     let now = g.S.Reads.state c.find_group.new.space in
     leads_found s now c.args.node c.in-Some.row.id (same_read _ s now c.find_group.ensures.at_most)
-    (subst (λ (o : Option GroupRow). IfSome o (λ row. IsReached s.records (first_link s.records c.args.node) row.id)) c.in-Some.is (c.in_ok-row.ensures.reached tells))
+    (subst (λ (o : Option GroupRow). IfSome o (λ row. IsReached s.records (first_link s.records c.args.node) row.id)) c.in-Some.is
+    (c.in_ok-row.ensures.reached tells))
 
 pub returns-in-None-clause-leads : goal.returns-in-None-clause-leads
 returns-in-None-clause-leads g c = λ tells.
@@ -304,7 +312,8 @@ returns-in-None-clause-rels g c = λ tells.
     let end = g.S.Reads.state c.make_own.new.space in
     if_done c.make_own.result (end ≡ made now c.args.node c.args.label)
     ((x : ℕ) → rec_at end.records relationships_file x ≡ rec_at s.records relationships_file x)
-    (λ is x. ap (λ (t : State). rec_at t.records relationships_file x) is ∙ rels_made now c.args.node c.args.label x ∙ ap (λ (t : State). rec_at t.records relationships_file x) (same_read _ s now c.find_group.ensures.at_most)) (c.make_own.ensures.ok tells)
+    (λ is x. ap (λ (t : State). rec_at t.records relationships_file x) is ∙ rels_made now c.args.node c.args.label x ∙ ap
+    (λ (t : State). rec_at t.records relationships_file x) (same_read _ s now c.find_group.ensures.at_most)) (c.make_own.ensures.ok tells)
 
 -- ---- the group is the node's, and each node has the heads that it had
 
@@ -327,7 +336,8 @@ returns-in-None-clause-heads g c = λ tells.
     let s = g.S.Reads.state c.args.space.now in
     let now = g.S.Reads.state c.find_group.new.space in
     let end = g.S.Reads.state c.make_own.new.space in
-    if_done c.make_own.result (KeepsHeads now end) (KeepsHeads s end) (λ k. heads_then s now end (heads_same s now (same_read _ s now c.find_group.ensures.at_most)) k) (c.make_own.ensures.heads tells)
+    if_done c.make_own.result (KeepsHeads now end) (KeepsHeads s end) (λ k. heads_then s now end
+    (heads_same s now (same_read _ s now c.find_group.ensures.at_most)) k) (c.make_own.ensures.heads tells)
 
 pub returns-in_err-row-clause-opened : goal.returns-in_err-row-clause-opened
 returns-in_err-row-clause-opened g c _ = never_ok c.from_residual.result _ _ c.from_residual.ensures.1

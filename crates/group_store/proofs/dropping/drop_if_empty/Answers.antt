@@ -40,12 +40,14 @@ returns-in_err-rec-clause-writes g c =
 pub returns-then-is_filled-clause-dropped : goal.returns-then-is_filled-clause-dropped
 returns-then-is_filled-clause-dropped g c = λ tells free xs can empty.
     let s = g.S.Reads.state c.args.space.now in
-    absurd (true≢false (sym (filled_is s.records c.args.group c.in_ok-rec.rec c.is_filled.result true (c.in_ok-rec.ensures.got tells) c.is_filled.ensures c.if-is_filled.true) ∙ empty))
+    absurd (true≢false (sym (filled_is s.records c.args.group c.in_ok-rec.rec c.is_filled.result true (c.in_ok-rec.ensures.got tells) c.is_filled.ensures
+    c.if-is_filled.true) ∙ empty))
 
 pub returns-then-is_filled-clause-is : goal.returns-then-is_filled-clause-is
 returns-then-is_filled-clause-is g c = λ tells.
     let s = g.S.Reads.state c.args.space.now in
-    ap not (sym (filled_is s.records c.args.group c.in_ok-rec.rec c.is_filled.result true (c.in_ok-rec.ensures.got tells) c.is_filled.ensures c.if-is_filled.true))
+    ap not (sym (filled_is s.records c.args.group c.in_ok-rec.rec c.is_filled.result true (c.in_ok-rec.ensures.got tells) c.is_filled.ensures
+    c.if-is_filled.true))
 
 pub returns-then-is_filled-clause-kept : goal.returns-then-is_filled-clause-kept
 returns-then-is_filled-clause-kept g c = λ _. same_one (g.S.Reads.state c.args.space.now) (g.S.Reads.state c.read_member.new.space) c.in_ok-rec.ensures.read
@@ -61,12 +63,14 @@ returns-in_err-test_link-clause-damaged g c = λ tells.
     let p = err_from_is_err_and c.from_residual-in_err-test_link.result c.from_residual-in_err-test_link.ensures.1 in
     let before = number_read s.records c.args.group group_previous c.number-before.result c.in_ok-rec.rec (c.in_ok-rec.ensures.got tells)
     c.number-before.ensures in
-    rw (p.1, p.2) (BadPrevious c.in_err-test_link.field-0.0 (link_read s (g.S.Reads.state c.read_member.new.space) c.number-before.result (previous_group s.records c.args.group) (range_damage c.args.group) c.in_err-test_link.field-0.0
+    rw (p.1, p.2) (BadPrevious c.in_err-test_link.field-0.0 (link_read s (g.S.Reads.state c.read_member.new.space) c.number-before.result
+    (previous_group s.records c.args.group) (range_damage c.args.group) c.in_err-test_link.field-0.0
     c.in_ok-rec.ensures.read before c.in_err-test_link.ensures.damaged))
 
 pub returns-in_err-test_link-clause-unwritten : goal.returns-in_err-test_link-clause-unwritten
 returns-in_err-test_link-clause-unwritten g c =
-    on_damage c.from_residual-in_err-test_link.result _ (same_one (g.S.Reads.state c.args.space.now) (g.S.Reads.state c.read_member.new.space) c.in_ok-rec.ensures.read)
+    on_damage c.from_residual-in_err-test_link.result _ (same_one (g.S.Reads.state c.args.space.now) (g.S.Reads.state c.read_member.new.space)
+    c.in_ok-rec.ensures.read)
 
 pub returns-in_err-test_link-clause-writes : goal.returns-in_err-test_link-clause-writes
 returns-in_err-test_link-clause-writes g c =
@@ -78,12 +82,14 @@ returns-in_err-test_link-2-clause-damaged g c = λ tells.
     let s = g.S.Reads.state c.args.space.now in
     let p = err_from_is_err_and c.from_residual-in_err-test_link-2.result c.from_residual-in_err-test_link-2.ensures.1 in
     let after = number_read s.records c.args.group group_next c.number-after.result c.in_ok-rec.rec (c.in_ok-rec.ensures.got tells) c.number-after.ensures in
-    rw (p.1, p.2) (BadNext c.in_err-test_link-2.field-0.0 (link_read s (g.S.Reads.state c.read_member.new.space) c.number-after.result (next_group s.records c.args.group) (range_damage c.args.group) c.in_err-test_link-2.field-0.0
+    rw (p.1, p.2) (BadNext c.in_err-test_link-2.field-0.0 (link_read s (g.S.Reads.state c.read_member.new.space) c.number-after.result
+    (next_group s.records c.args.group) (range_damage c.args.group) c.in_err-test_link-2.field-0.0
     c.in_ok-rec.ensures.read after c.in_err-test_link-2.ensures.damaged))
 
 pub returns-in_err-test_link-2-clause-unwritten : goal.returns-in_err-test_link-2-clause-unwritten
 returns-in_err-test_link-2-clause-unwritten g c =
-    on_damage c.from_residual-in_err-test_link-2.result _ (same_one (g.S.Reads.state c.args.space.now) (g.S.Reads.state c.read_member.new.space) c.in_ok-rec.ensures.read)
+    on_damage c.from_residual-in_err-test_link-2.result _ (same_one (g.S.Reads.state c.args.space.now) (g.S.Reads.state c.read_member.new.space)
+    c.in_ok-rec.ensures.read)
 
 pub returns-in_err-test_link-2-clause-writes : goal.returns-in_err-test_link-2-clause-writes
 returns-in_err-test_link-2-clause-writes g c =
@@ -93,7 +99,8 @@ returns-in_err-test_link-2-clause-writes g c =
 pub returns-clause-is : goal.returns-clause-is
 returns-clause-is g c = λ tells.
     let s = g.S.Reads.state c.args.space.now in
-    ap not (sym (filled_is s.records c.args.group c.in_ok-rec.rec c.is_filled.result false (c.in_ok-rec.ensures.got tells) c.is_filled.ensures c.if-is_filled.false))
+    ap not (sym (filled_is s.records c.args.group c.in_ok-rec.rec c.is_filled.result false (c.in_ok-rec.ensures.got tells) c.is_filled.ensures
+    c.if-is_filled.false))
 
 pub returns-in_err-rec-clause-sound : goal.returns-in_err-rec-clause-sound
 returns-in_err-rec-clause-sound g c = λ tells xs on.
@@ -106,14 +113,16 @@ returns-in_err-test_link-clause-sound g c = λ tells xs on.
     let s = g.S.Reads.state c.args.space.now in
     let before = number_read s.records c.args.group group_previous c.number-before.result c.in_ok-rec.rec (c.in_ok-rec.ensures.got tells)
     c.number-before.ensures in
-    let is_ok = c.in_err-test_link.ensures.sound (right_previous s (g.S.Reads.state c.read_member.new.space) c.args.node c.args.group c.number-before.result xs c.in_ok-rec.ensures.read before on) in
+    let is_ok = c.in_err-test_link.ensures.sound (right_previous s (g.S.Reads.state c.read_member.new.space) c.args.node c.args.group c.number-before.result xs
+    c.in_ok-rec.ensures.read before on) in
     absurd (false≢true is_ok)
 
 pub returns-in_err-test_link-2-clause-sound : goal.returns-in_err-test_link-2-clause-sound
 returns-in_err-test_link-2-clause-sound g c = λ tells xs on.
     let s = g.S.Reads.state c.args.space.now in
     let after = number_read s.records c.args.group group_next c.number-after.result c.in_ok-rec.rec (c.in_ok-rec.ensures.got tells) c.number-after.ensures in
-    let is_ok = c.in_err-test_link-2.ensures.sound (right_next s (g.S.Reads.state c.read_member.new.space) c.args.node c.args.group c.number-after.result xs c.in_ok-rec.ensures.read after on) in
+    let is_ok = c.in_err-test_link-2.ensures.sound (right_next s (g.S.Reads.state c.read_member.new.space) c.args.node c.args.group c.number-after.result xs
+    c.in_ok-rec.ensures.read after on) in
     absurd (false≢true is_ok)
 
 -- ---- what the damage breaks
@@ -122,7 +131,8 @@ pub returns-in_err-rec-clause-breaks : goal.returns-in_err-rec-clause-breaks
 returns-in_err-rec-clause-breaks g c = λ tells row is owner.
     let s = g.S.Reads.state c.args.space.now in
     let p = err_from_is_err_and c.from_residual.result c.from_residual.ensures.1 in
-    rw (p.1, p.2) (drop_breaks s c.args.node c.args.group row is owner c.in_err-rec.field-0.0 (member_told s c.args.node c.args.group c.in_err-rec.field-0.0 (c.in_err-rec.ensures.damaged tells)))
+    rw (p.1, p.2) (drop_breaks s c.args.node c.args.group row is owner c.in_err-rec.field-0.0 (member_told s c.args.node c.args.group c.in_err-rec.field-0.0
+    (c.in_err-rec.ensures.damaged tells)))
 
 pub returns-in_err-test_link-clause-breaks : goal.returns-in_err-test_link-clause-breaks
 returns-in_err-test_link-clause-breaks g c = λ tells row is owner.
@@ -131,7 +141,8 @@ returns-in_err-test_link-clause-breaks g c = λ tells row is owner.
     let before = number_read s.records c.args.group group_previous c.number-before.result c.in_ok-rec.rec (c.in_ok-rec.ensures.got tells)
     c.number-before.ensures in
     rw (p.1, p.2) (drop_breaks s c.args.node c.args.group row is owner (Damaged c.in_err-test_link.field-0.0) (BadPrevious c.in_err-test_link.field-0.0
-    (link_read s (g.S.Reads.state c.read_member.new.space) c.number-before.result (previous_group s.records c.args.group) (range_damage c.args.group) c.in_err-test_link.field-0.0
+    (link_read s (g.S.Reads.state c.read_member.new.space) c.number-before.result (previous_group s.records c.args.group) (range_damage c.args.group)
+    c.in_err-test_link.field-0.0
     c.in_ok-rec.ensures.read before c.in_err-test_link.ensures.damaged)))
 
 pub returns-in_err-test_link-2-clause-breaks : goal.returns-in_err-test_link-2-clause-breaks
@@ -140,7 +151,8 @@ returns-in_err-test_link-2-clause-breaks g c = λ tells row is owner.
     let p = err_from_is_err_and c.from_residual-in_err-test_link-2.result c.from_residual-in_err-test_link-2.ensures.1 in
     let after = number_read s.records c.args.group group_next c.number-after.result c.in_ok-rec.rec (c.in_ok-rec.ensures.got tells) c.number-after.ensures in
     rw (p.1, p.2) (drop_breaks s c.args.node c.args.group row is owner (Damaged c.in_err-test_link-2.field-0.0) (BadNext c.in_err-test_link-2.field-0.0
-    (link_read s (g.S.Reads.state c.read_member.new.space) c.number-after.result (next_group s.records c.args.group) (range_damage c.args.group) c.in_err-test_link-2.field-0.0
+    (link_read s (g.S.Reads.state c.read_member.new.space) c.number-after.result (next_group s.records c.args.group) (range_damage c.args.group)
+    c.in_err-test_link-2.field-0.0
     c.in_ok-rec.ensures.read after c.in_err-test_link-2.ensures.damaged)))
 
 pub returns-in_err-rec-clause-cause : goal.returns-in_err-rec-clause-cause
@@ -167,7 +179,8 @@ returns-in_err-behind-clause-damaged g c = λ tells.
     c.number-before.ensures in
     let after = number_read s.records c.args.group group_next c.number-after.result c.in_ok-rec.rec (c.in_ok-rec.ensures.got tells) c.number-after.ensures in
     let p = err_from_is_err_and c.from_residual-in_err-behind.result c.from_residual-in_err-behind.ensures.1 in
-    rw (p.1, p.2) (loose_told s c.args.node c.args.group c.in_err-behind.field-0.0 (behind_loose s s1 c.args.node c.args.group c.number-before.result c.number-after.result c.in_err-behind.field-0.0 c.in_ok-rec.ensures.read before after (c.in_err-behind.ensures.damaged tells)))
+    rw (p.1, p.2) (loose_told s c.args.node c.args.group c.in_err-behind.field-0.0 (behind_loose s s1 c.args.node c.args.group c.number-before.result
+    c.number-after.result c.in_err-behind.field-0.0 c.in_ok-rec.ensures.read before after (c.in_err-behind.ensures.damaged tells)))
 
 pub returns-in_err-behind-clause-breaks : goal.returns-in_err-behind-clause-breaks
 returns-in_err-behind-clause-breaks g c = λ tells row is owner.
@@ -177,7 +190,9 @@ returns-in_err-behind-clause-breaks g c = λ tells row is owner.
     c.number-before.ensures in
     let after = number_read s.records c.args.group group_next c.number-after.result c.in_ok-rec.rec (c.in_ok-rec.ensures.got tells) c.number-after.ensures in
     let p = err_from_is_err_and c.from_residual-in_err-behind.result c.from_residual-in_err-behind.ensures.1 in
-    rw (p.1, p.2) (drop_breaks s c.args.node c.args.group row is owner c.in_err-behind.field-0.0 (loose_told s c.args.node c.args.group c.in_err-behind.field-0.0 (behind_loose s s1 c.args.node c.args.group c.number-before.result c.number-after.result c.in_err-behind.field-0.0 c.in_ok-rec.ensures.read before after (c.in_err-behind.ensures.damaged tells))))
+    rw (p.1, p.2) (drop_breaks s c.args.node c.args.group row is owner c.in_err-behind.field-0.0 (loose_told s c.args.node c.args.group
+    c.in_err-behind.field-0.0 (behind_loose s s1 c.args.node c.args.group c.number-before.result c.number-after.result c.in_err-behind.field-0.0
+    c.in_ok-rec.ensures.read before after (c.in_err-behind.ensures.damaged tells))))
 
 pub returns-in_err-behind-clause-sound : goal.returns-in_err-behind-clause-sound
 returns-in_err-behind-clause-sound g c = λ tells xs on.
@@ -188,7 +203,8 @@ returns-in_err-behind-clause-sound g c = λ tells xs on.
     let after = number_read s.records c.args.group group_next c.number-after.result c.in_ok-rec.rec (c.in_ok-rec.ensures.got tells) c.number-after.ensures in
     let p = err_from_is_err_and c.from_residual-in_err-behind.result c.from_residual-in_err-behind.ensures.1 in
     not_damaged_at c.from_residual-in_err-behind.result p.0 c.in_err-behind.field-0.0 p.1 p.2
-    (loose_undamaged s c.args.node c.args.group xs c.in_err-behind.field-0.0 on (behind_loose s s1 c.args.node c.args.group c.number-before.result c.number-after.result c.in_err-behind.field-0.0 c.in_ok-rec.ensures.read before after (c.in_err-behind.ensures.damaged tells)))
+    (loose_undamaged s c.args.node c.args.group xs c.in_err-behind.field-0.0 on (behind_loose s s1 c.args.node c.args.group c.number-before.result
+    c.number-after.result c.in_err-behind.field-0.0 c.in_ok-rec.ensures.read before after (c.in_err-behind.ensures.damaged tells)))
 
 pub returns-in_err-lead-clause-damaged : goal.returns-in_err-lead-clause-damaged
 returns-in_err-lead-clause-damaged g c = λ tells.
@@ -200,7 +216,8 @@ returns-in_err-lead-clause-damaged g c = λ tells.
     let before = number_read s.records c.args.group group_previous c.number-before.result c.in_ok-rec.rec (c.in_ok-rec.ensures.got tells)
     c.number-before.ensures in
     let p = err_from_is_err_and c.from_residual-in_err-lead.result c.from_residual-in_err-lead.ensures.1 in
-    rw (p.1, p.2) (loose_told s c.args.node c.args.group c.in_err-lead.field-0.0 (lead_loose s s2 c.args.node c.args.group c.number-before.result c.in_err-lead.field-0.0 same before (c.in_err-lead.ensures.damaged tells)))
+    rw (p.1, p.2) (loose_told s c.args.node c.args.group c.in_err-lead.field-0.0 (lead_loose s s2 c.args.node c.args.group c.number-before.result
+    c.in_err-lead.field-0.0 same before (c.in_err-lead.ensures.damaged tells)))
 
 pub returns-in_err-lead-clause-breaks : goal.returns-in_err-lead-clause-breaks
 returns-in_err-lead-clause-breaks g c = λ tells row is owner.
@@ -212,7 +229,8 @@ returns-in_err-lead-clause-breaks g c = λ tells row is owner.
     let before = number_read s.records c.args.group group_previous c.number-before.result c.in_ok-rec.rec (c.in_ok-rec.ensures.got tells)
     c.number-before.ensures in
     let p = err_from_is_err_and c.from_residual-in_err-lead.result c.from_residual-in_err-lead.ensures.1 in
-    rw (p.1, p.2) (drop_breaks s c.args.node c.args.group row is owner c.in_err-lead.field-0.0 (loose_told s c.args.node c.args.group c.in_err-lead.field-0.0 (lead_loose s s2 c.args.node c.args.group c.number-before.result c.in_err-lead.field-0.0 same before (c.in_err-lead.ensures.damaged tells))))
+    rw (p.1, p.2) (drop_breaks s c.args.node c.args.group row is owner c.in_err-lead.field-0.0 (loose_told s c.args.node c.args.group c.in_err-lead.field-0.0
+    (lead_loose s s2 c.args.node c.args.group c.number-before.result c.in_err-lead.field-0.0 same before (c.in_err-lead.ensures.damaged tells))))
 
 pub returns-in_err-lead-clause-sound : goal.returns-in_err-lead-clause-sound
 returns-in_err-lead-clause-sound g c = λ tells xs on.
@@ -225,14 +243,16 @@ returns-in_err-lead-clause-sound g c = λ tells xs on.
     c.number-before.ensures in
     let p = err_from_is_err_and c.from_residual-in_err-lead.result c.from_residual-in_err-lead.ensures.1 in
     not_damaged_at c.from_residual-in_err-lead.result p.0 c.in_err-lead.field-0.0 p.1 p.2
-    (loose_undamaged s c.args.node c.args.group xs c.in_err-lead.field-0.0 on (lead_loose s s2 c.args.node c.args.group c.number-before.result c.in_err-lead.field-0.0 same before (c.in_err-lead.ensures.damaged tells)))
+    (loose_undamaged s c.args.node c.args.group xs c.in_err-lead.field-0.0 on (lead_loose s s2 c.args.node c.args.group c.number-before.result
+    c.in_err-lead.field-0.0 same before (c.in_err-lead.ensures.damaged tells)))
 
 pub returns-in_err-behind-clause-unwritten : goal.returns-in_err-behind-clause-unwritten
 returns-in_err-behind-clause-unwritten g c =
     let s = g.S.Reads.state c.args.space.now in
     let s1 = g.S.Reads.state c.read_member.new.space in
     let s2 = g.S.Reads.state c.read_behind.new.space in
-    on_damage c.from_residual-in_err-behind.result _ (same_then s s1 s2 (same_one s s1 c.in_ok-rec.ensures.read) (same_read 1 s1 s2 c.in_err-behind.ensures.at_most))
+    on_damage c.from_residual-in_err-behind.result _ (same_then s s1 s2 (same_one s s1 c.in_ok-rec.ensures.read)
+    (same_read 1 s1 s2 c.in_err-behind.ensures.at_most))
 
 pub returns-in_err-behind-clause-writes : goal.returns-in_err-behind-clause-writes
 returns-in_err-behind-clause-writes g c =
@@ -247,7 +267,8 @@ returns-in_err-lead-clause-unwritten g c =
     let s1 = g.S.Reads.state c.read_member.new.space in
     let s2 = g.S.Reads.state c.read_behind.new.space in
     let s3 = g.S.Reads.state c.read_lead.new.space in
-    on_damage c.from_residual-in_err-lead.result _ (same_three s s1 s2 s3 c.number-after.result c.in_ok-rec.ensures.read c.in_ok-behind.ensures.state c.in_err-lead.ensures.state)
+    on_damage c.from_residual-in_err-lead.result _ (same_three s s1 s2 s3 c.number-after.result c.in_ok-rec.ensures.read c.in_ok-behind.ensures.state
+    c.in_err-lead.ensures.state)
 
 pub returns-in_err-lead-clause-writes : goal.returns-in_err-lead-clause-writes
 returns-in_err-lead-clause-writes g c =
@@ -264,8 +285,12 @@ returns-in_err-write_behind-clause-writes g c =
     let s2 = g.S.Reads.state c.read_behind.new.space in
     let s3 = g.S.Reads.state c.read_lead.new.space in
     let s4 = g.S.Reads.state c.write_behind.new.space in
-    let same = same_three s s1 s2 s3 c.number-after.result c.in_ok-rec.ensures.read c.in_ok-behind.ensures.state c.in_ok-lead.ensures.state in
-    (c.number-before.result, c.number-after.result, lead_writes s s3 s4 s4 (group_key c.number-after.result) (lead_key c.args.node c.number-before.result) (group_key c.args.group) (meta_key_of groups_file) same c.in_err-write_behind.ensures.writes (same_writes s4 s4 _ refl))
+    let same = same_three s s1 s2 s3 c.number-after.result c.in_ok-rec.ensures.read c.in_ok-behind.ensures.state c.in_ok-lead.ensures.state in (
+      c.number-before.result,
+      c.number-after.result,
+      lead_writes s s3 s4 s4 (group_key c.number-after.result) (lead_key c.args.node c.number-before.result)
+          (group_key c.args.group) (meta_key_of groups_file) same c.in_err-write_behind.ensures.writes (same_writes s4 s4 _ refl),
+    )
 
 pub returns-in_err-write_lead-clause-writes : goal.returns-in_err-write_lead-clause-writes
 returns-in_err-write_lead-clause-writes g c =
@@ -275,8 +300,12 @@ returns-in_err-write_lead-clause-writes g c =
     let s3 = g.S.Reads.state c.read_lead.new.space in
     let s4 = g.S.Reads.state c.write_behind.new.space in
     let s5 = g.S.Reads.state c.write_lead.new.space in
-    let same = same_three s s1 s2 s3 c.number-after.result c.in_ok-rec.ensures.read c.in_ok-behind.ensures.state c.in_ok-lead.ensures.state in
-    (c.number-before.result, c.number-after.result, lead_writes s s3 s4 s5 (group_key c.number-after.result) (lead_key c.args.node c.number-before.result) (group_key c.args.group) (meta_key_of groups_file) same c.in_ok-write_behind.ensures.writes c.in_err-write_lead.ensures.writes)
+    let same = same_three s s1 s2 s3 c.number-after.result c.in_ok-rec.ensures.read c.in_ok-behind.ensures.state c.in_ok-lead.ensures.state in (
+      c.number-before.result,
+      c.number-after.result,
+      lead_writes s s3 s4 s5 (group_key c.number-after.result) (lead_key c.args.node c.number-before.result)
+          (group_key c.args.group) (meta_key_of groups_file) same c.in_ok-write_behind.ensures.writes c.in_err-write_lead.ensures.writes,
+    )
 
 pub returns-in_err-give-clause-writes : goal.returns-in_err-give-clause-writes
 returns-in_err-give-clause-writes g c =
@@ -287,8 +316,13 @@ returns-in_err-give-clause-writes g c =
     let s4 = g.S.Reads.state c.write_behind.new.space in
     let s5 = g.S.Reads.state c.write_lead.new.space in
     let s6 = g.S.Reads.state c.give.new.space in
-    let same = same_three s s1 s2 s3 c.number-after.result c.in_ok-rec.ensures.read c.in_ok-behind.ensures.state c.in_ok-lead.ensures.state in
-    (c.number-before.result, c.number-after.result, all_writes s s3 s4 s5 s6 (group_key c.number-after.result) (lead_key c.args.node c.number-before.result) (group_key c.args.group) (meta_key_of groups_file) same c.in_ok-write_behind.ensures.writes c.in_ok-write_lead.ensures.writes c.in_err-give.ensures.writes)
+    let same = same_three s s1 s2 s3 c.number-after.result c.in_ok-rec.ensures.read c.in_ok-behind.ensures.state c.in_ok-lead.ensures.state in (
+      c.number-before.result,
+      c.number-after.result,
+      all_writes s s3 s4 s5 s6 (group_key c.number-after.result) (lead_key c.args.node c.number-before.result)
+          (group_key c.args.group) (meta_key_of groups_file) same c.in_ok-write_behind.ensures.writes c.in_ok-write_lead.ensures.writes
+          c.in_err-give.ensures.writes,
+    )
 
 pub returns-clause-writes : goal.returns-clause-writes
 returns-clause-writes g c =
@@ -299,8 +333,13 @@ returns-clause-writes g c =
     let s4 = g.S.Reads.state c.write_behind.new.space in
     let s5 = g.S.Reads.state c.write_lead.new.space in
     let s6 = g.S.Reads.state c.give.new.space in
-    let same = same_three s s1 s2 s3 c.number-after.result c.in_ok-rec.ensures.read c.in_ok-behind.ensures.state c.in_ok-lead.ensures.state in
-    (c.number-before.result, c.number-after.result, all_writes s s3 s4 s5 s6 (group_key c.number-after.result) (lead_key c.args.node c.number-before.result) (group_key c.args.group) (meta_key_of groups_file) same c.in_ok-write_behind.ensures.writes c.in_ok-write_lead.ensures.writes c.in_ok-give.ensures.writes)
+    let same = same_three s s1 s2 s3 c.number-after.result c.in_ok-rec.ensures.read c.in_ok-behind.ensures.state c.in_ok-lead.ensures.state in (
+      c.number-before.result,
+      c.number-after.result,
+      all_writes s s3 s4 s5 s6 (group_key c.number-after.result) (lead_key c.args.node c.number-before.result)
+          (group_key c.args.group) (meta_key_of groups_file) same c.in_ok-write_behind.ensures.writes c.in_ok-write_lead.ensures.writes
+          c.in_ok-give.ensures.writes,
+    )
 
 pub returns-clause-ok : goal.returns-clause-ok
 returns-clause-ok g c = λ tells _.
@@ -379,27 +418,38 @@ returns-in_err-write_behind-clause-cause g c =
 pub returns-in_err-write_lead-clause-cause : goal.returns-in_err-write_lead-clause-cause
 returns-in_err-write_lead-clause-cause g c =
     space_cause_passed _ _ _ c.from_residual-in_err-write_lead.result c.in_err-write_lead.field-0.0
-    (later_on (later_on (later_on c.in_ok-rec.ensures.cause.later c.in_ok-behind.ensures.cause.later) c.in_ok-lead.ensures.cause.later) c.in_ok-write_behind.ensures.cause.later) c.in_err-write_lead.ensures.cause c.from_residual-in_err-write_lead.ensures.1
+    (later_on (later_on (later_on c.in_ok-rec.ensures.cause.later c.in_ok-behind.ensures.cause.later) c.in_ok-lead.ensures.cause.later)
+    c.in_ok-write_behind.ensures.cause.later) c.in_err-write_lead.ensures.cause c.from_residual-in_err-write_lead.ensures.1
 
 pub returns-in_err-give-clause-cause : goal.returns-in_err-give-clause-cause
 returns-in_err-give-clause-cause g c =
     space_cause_passed _ _ _ c.from_residual-in_err-give.result c.in_err-give.field-0.0
-    (later_on (later_on (later_on (later_on c.in_ok-rec.ensures.cause.later c.in_ok-behind.ensures.cause.later) c.in_ok-lead.ensures.cause.later) c.in_ok-write_behind.ensures.cause.later) c.in_ok-write_lead.ensures.cause.later) c.in_err-give.ensures.cause c.from_residual-in_err-give.ensures.1
+    (later_on (later_on (later_on (later_on c.in_ok-rec.ensures.cause.later c.in_ok-behind.ensures.cause.later) c.in_ok-lead.ensures.cause.later)
+    c.in_ok-write_behind.ensures.cause.later) c.in_ok-write_lead.ensures.cause.later) c.in_err-give.ensures.cause c.from_residual-in_err-give.ensures.1
 
 pub returns-in_err-write_lead-clause-onward : goal.returns-in_err-write_lead-clause-onward
 returns-in_err-write_lead-clause-onward g c =
     g.met.S.Reads.further_onward c.args.space.now c.write_behind.new.space c.write_lead.new.space
-    (g.met.S.Reads.further_onward c.args.space.now c.read_lead.new.space c.write_behind.new.space (g.met.S.Reads.further_onward c.args.space.now c.read_behind.new.space c.read_lead.new.space (g.met.S.Reads.further_onward c.args.space.now c.read_member.new.space c.read_behind.new.space c.in_ok-rec.ensures.onward c.in_ok-behind.ensures.onward) c.in_ok-lead.ensures.onward) c.in_ok-write_behind.ensures.onward) c.in_err-write_lead.ensures.onward
+    (g.met.S.Reads.further_onward c.args.space.now c.read_lead.new.space c.write_behind.new.space (g.met.S.Reads.further_onward c.args.space.now
+    c.read_behind.new.space c.read_lead.new.space (g.met.S.Reads.further_onward c.args.space.now c.read_member.new.space c.read_behind.new.space
+    c.in_ok-rec.ensures.onward c.in_ok-behind.ensures.onward) c.in_ok-lead.ensures.onward) c.in_ok-write_behind.ensures.onward)
+    c.in_err-write_lead.ensures.onward
 
 pub returns-in_err-give-clause-onward : goal.returns-in_err-give-clause-onward
 returns-in_err-give-clause-onward g c =
     g.met.S.Reads.further_onward c.args.space.now c.write_lead.new.space c.give.new.space
-    (g.met.S.Reads.further_onward c.args.space.now c.write_behind.new.space c.write_lead.new.space (g.met.S.Reads.further_onward c.args.space.now c.read_lead.new.space c.write_behind.new.space (g.met.S.Reads.further_onward c.args.space.now c.read_behind.new.space c.read_lead.new.space (g.met.S.Reads.further_onward c.args.space.now c.read_member.new.space c.read_behind.new.space c.in_ok-rec.ensures.onward c.in_ok-behind.ensures.onward) c.in_ok-lead.ensures.onward) c.in_ok-write_behind.ensures.onward) c.in_ok-write_lead.ensures.onward) c.in_err-give.ensures.onward
+    (g.met.S.Reads.further_onward c.args.space.now c.write_behind.new.space c.write_lead.new.space (g.met.S.Reads.further_onward c.args.space.now
+    c.read_lead.new.space c.write_behind.new.space (g.met.S.Reads.further_onward c.args.space.now c.read_behind.new.space c.read_lead.new.space
+    (g.met.S.Reads.further_onward c.args.space.now c.read_member.new.space c.read_behind.new.space c.in_ok-rec.ensures.onward c.in_ok-behind.ensures.onward)
+    c.in_ok-lead.ensures.onward) c.in_ok-write_behind.ensures.onward) c.in_ok-write_lead.ensures.onward) c.in_err-give.ensures.onward
 
 pub returns-clause-onward : goal.returns-clause-onward
 returns-clause-onward g c =
     g.met.S.Reads.further_onward c.args.space.now c.write_lead.new.space c.give.new.space
-    (g.met.S.Reads.further_onward c.args.space.now c.write_behind.new.space c.write_lead.new.space (g.met.S.Reads.further_onward c.args.space.now c.read_lead.new.space c.write_behind.new.space (g.met.S.Reads.further_onward c.args.space.now c.read_behind.new.space c.read_lead.new.space (g.met.S.Reads.further_onward c.args.space.now c.read_member.new.space c.read_behind.new.space c.in_ok-rec.ensures.onward c.in_ok-behind.ensures.onward) c.in_ok-lead.ensures.onward) c.in_ok-write_behind.ensures.onward) c.in_ok-write_lead.ensures.onward) c.in_ok-give.ensures.onward
+    (g.met.S.Reads.further_onward c.args.space.now c.write_behind.new.space c.write_lead.new.space (g.met.S.Reads.further_onward c.args.space.now
+    c.read_lead.new.space c.write_behind.new.space (g.met.S.Reads.further_onward c.args.space.now c.read_behind.new.space c.read_lead.new.space
+    (g.met.S.Reads.further_onward c.args.space.now c.read_member.new.space c.read_behind.new.space c.in_ok-rec.ensures.onward c.in_ok-behind.ensures.onward)
+    c.in_ok-lead.ensures.onward) c.in_ok-write_behind.ensures.onward) c.in_ok-write_lead.ensures.onward) c.in_ok-give.ensures.onward
 
 pub returns-in_err-rec-clause-dropped : goal.returns-in_err-rec-clause-dropped
 returns-in_err-rec-clause-dropped g c _ = never_ok c.from_residual.result _ _ c.from_residual.ensures.1
@@ -610,4 +660,5 @@ returns-in_err-lead-clause-onward g c =
 
 pub returns-in_err-write_behind-clause-onward : goal.returns-in_err-write_behind-clause-onward
 returns-in_err-write_behind-clause-onward g c =
-    g.met.S.Reads.further_onward _ _ _ (g.met.S.Reads.further_onward _ _ _ (g.met.S.Reads.further_onward _ _ _ c.in_ok-rec.ensures.onward c.in_ok-behind.ensures.onward) c.in_ok-lead.ensures.onward) c.in_err-write_behind.ensures.onward
+    g.met.S.Reads.further_onward _ _ _ (g.met.S.Reads.further_onward _ _ _ (g.met.S.Reads.further_onward _ _ _ c.in_ok-rec.ensures.onward
+    c.in_ok-behind.ensures.onward) c.in_ok-lead.ensures.onward) c.in_err-write_behind.ensures.onward

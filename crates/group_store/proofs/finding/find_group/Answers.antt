@@ -10,7 +10,8 @@ returns-in-Some-clause-none g c = λ tells dense xs chain.
     let s = g.R.Reads.state c.args.space.now in
     let first = subst (IsFirst s.records c.args.node) c.in-Some.is (c.in_ok-first.ensures.first tells) in
     none_then s.records c.args.node c.args.label xs c.seek.result dense chain
-    (found_then s (g.R.Reads.state c.first_group.new.space) c.args.node c.in-Some.first c.args.label c.seek.result c.in_ok-first.ensures.at_most dense first.1 (c.seek.ensures.found tells))
+    (found_then s (g.R.Reads.state c.first_group.new.space) c.args.node c.in-Some.first c.args.label c.seek.result c.in_ok-first.ensures.at_most dense first.1
+    (c.seek.ensures.found tells))
 
 pub returns-in-Some-clause-reads : goal.returns-in-Some-clause-reads
 returns-in-Some-clause-reads g c = λ tells xs can.

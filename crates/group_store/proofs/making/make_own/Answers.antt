@@ -44,7 +44,8 @@ returns-in_err-first-clause-writes g c =
 pub returns-in_default-clause-damaged : goal.returns-in_default-clause-damaged
 returns-in_default-clause-damaged g c = λ tells.
     let s = g.S.Reads.state c.args.space.now in
-    subst (IsMakeDamage s c.args.node) (sym c.chain_damage.ensures) (NotDense (subst (IsFirst s.records c.args.node) c.in_default.is (c.in_ok-first.ensures.first tells)))
+    subst (IsMakeDamage s c.args.node) (sym c.chain_damage.ensures) (NotDense (subst (IsFirst s.records c.args.node) c.in_default.is
+    (c.in_ok-first.ensures.first tells)))
 
 pub returns-in_default-clause-unwritten : goal.returns-in_default-clause-unwritten
 returns-in_default-clause-unwritten g c = same_read 1 (g.S.Reads.state c.args.space.now) (g.S.Reads.state c.first_group.new.space) c.in_ok-first.ensures.at_most
@@ -60,7 +61,8 @@ returns-in_err-test_link-clause-damaged g c = λ tells.
     let p = err_from_is_err_and c.from_residual-in_err-test_link.result c.from_residual-in_err-test_link.ensures.1 in
     let first = subst (IsFirst s.records c.args.node) c.in-Some.is (c.in_ok-first.ensures.first tells) in
     let reads = c.in_ok-first.ensures.at_most in
-    rw (p.1, p.2) (BadLink c.in_err-test_link.field-0.0 (link_told s (g.S.Reads.state c.first_group.new.space) reads.count c.in-Some.first (first_link s.records c.args.node) (link_damage c.args.node) c.in_err-test_link.field-0.0
+    rw (p.1, p.2) (BadLink c.in_err-test_link.field-0.0 (link_told s (g.S.Reads.state c.first_group.new.space) reads.count c.in-Some.first
+    (first_link s.records c.args.node) (link_damage c.args.node) c.in_err-test_link.field-0.0
     reads.is first.1 c.in_err-test_link.ensures.damaged))
 
 pub returns-in_err-test_link-clause-sound : goal.returns-in_err-test_link-clause-sound
@@ -68,12 +70,14 @@ returns-in_err-test_link-clause-sound g c = λ tells readable free xs can dense 
     let s = g.S.Reads.state c.args.space.now in
     let first = subst (IsFirst s.records c.args.node) c.in-Some.is (c.in_ok-first.ensures.first tells) in
     let reads = c.in_ok-first.ensures.at_most in
-    let is_ok = c.in_err-test_link.ensures.sound (right_first s (g.S.Reads.state c.first_group.new.space) reads.count c.args.node c.args.label c.in-Some.first free xs reads.is first.1 can) in
+    let is_ok = c.in_err-test_link.ensures.sound (right_first s (g.S.Reads.state c.first_group.new.space) reads.count c.args.node c.args.label c.in-Some.first
+    free xs reads.is first.1 can) in
     absurd (false≢true is_ok)
 
 pub returns-in_err-test_link-clause-unwritten : goal.returns-in_err-test_link-clause-unwritten
 returns-in_err-test_link-clause-unwritten g c =
-    on_damage c.from_residual-in_err-test_link.result _ (same_read 1 (g.S.Reads.state c.args.space.now) (g.S.Reads.state c.first_group.new.space) c.in_ok-first.ensures.at_most)
+    on_damage c.from_residual-in_err-test_link.result _ (same_read 1 (g.S.Reads.state c.args.space.now) (g.S.Reads.state c.first_group.new.space)
+    c.in_ok-first.ensures.at_most)
 
 pub returns-in_err-test_link-clause-writes : goal.returns-in_err-test_link-clause-writes
 returns-in_err-test_link-clause-writes g c =
@@ -91,13 +95,18 @@ pub returns-in-Err-clause-unwritten : goal.returns-in-Err-clause-unwritten
 returns-in-Err-clause-unwritten g c =
     let s = g.S.Reads.state c.args.space.now in
     let now = g.S.Reads.state c.first_group.new.space in
-    on_damage {T = OwnGroup} (Err c.fault_of.result) _ (same_then s now (g.S.Reads.state c.take.new.space) (same_read 1 s now c.in_ok-first.ensures.at_most) c.in-Err.ensures.err)
+    on_damage {T = OwnGroup} (Err c.fault_of.result) _ (same_then s now (g.S.Reads.state c.take.new.space) (same_read 1 s now c.in_ok-first.ensures.at_most)
+    c.in-Err.ensures.err)
 
 pub returns-in-Err-clause-writes : goal.returns-in-Err-clause-writes
 returns-in-Err-clause-writes g c =
     let s = g.S.Reads.state c.args.space.now in
-    let now = g.S.Reads.state c.first_group.new.space in
-    (0, 0, same_writes s (g.S.Reads.state c.take.new.space) _ (same_then s now (g.S.Reads.state c.take.new.space) (same_read 1 s now c.in_ok-first.ensures.at_most) c.in-Err.ensures.err))
+    let now = g.S.Reads.state c.first_group.new.space in (
+      0,
+      0,
+      same_writes s (g.S.Reads.state c.take.new.space) _ (same_then s now (g.S.Reads.state c.take.new.space)
+          (same_read 1 s now c.in_ok-first.ensures.at_most) c.in-Err.ensures.err),
+    )
 
 pub returns-in_err-lead-clause-writes : goal.returns-in_err-lead-clause-writes
 returns-in_err-lead-clause-writes g c =
@@ -162,7 +171,8 @@ returns-clause-wrote g c =
     let id : c.in-Ok.id ≡ c.empty_row.result.id = sym (ap (λ (r : GroupRow). r.id) c.empty_row.ensures) in
     subst (λ k. WritesOnly s (g.S.Reads.state c.lead.new.space) (group_key k ∷ group_key c.in-Some.first ∷ node_key c.args.node ∷ meta_key_of groups_file ∷ []))
     id
-    (all_writes s now (g.S.Reads.state c.take.new.space) (g.S.Reads.state c.lead.new.space) (group_key c.in-Ok.id) (group_key c.in-Some.first) (node_key c.args.node) (meta_key_of groups_file)
+    (all_writes s now (g.S.Reads.state c.take.new.space) (g.S.Reads.state c.lead.new.space) (group_key c.in-Ok.id) (group_key c.in-Some.first)
+    (node_key c.args.node) (meta_key_of groups_file)
     (same_read 1 s now c.in_ok-first.ensures.at_most) c.in-Ok.ensures.writes c.in_ok-lead.ensures.writes)
 
 pub returns-clause-first : goal.returns-clause-first
@@ -347,4 +357,5 @@ returns-in_err-lead-clause-onward g c =
 
 pub returns-in_err-lead-clause-shape : goal.returns-in_err-lead-clause-shape
 returns-in_err-lead-clause-shape g c _ =
-    g.met.S.Reads.onward_shape _ _ (g.met.S.Reads.further_onward _ _ _ (g.met.S.Reads.further_onward _ _ _ c.in_ok-first.ensures.onward c.in-Ok.ensures.onward) c.in_err-lead.ensures.onward)
+    g.met.S.Reads.onward_shape _ _ (g.met.S.Reads.further_onward _ _ _ (g.met.S.Reads.further_onward _ _ _ c.in_ok-first.ensures.onward c.in-Ok.ensures.onward)
+    c.in_err-lead.ensures.onward)

@@ -43,7 +43,8 @@ returns-then-not-is_group_of-clause-damaged g c = λ tells.
     let s = g.R.Reads.state c.args.space.now in
     let mark : c.meta.result.high ≡ group_mark s = ap (λ (m : Meta). m.high) c.meta.ensures in
     subst (IsMemberDamage s c.args.node c.args.id) (sym c.member_damage.ensures)
-    (not_member s c.args.node c.args.id c.get_into.new.rec (omega arith) (c.in_ok-get_into.ensures.got tells) (sym c.is_group_of.ensures ∙ c.if-not-is_group_of.true))
+    (not_member s c.args.node c.args.id c.get_into.new.rec (omega arith) (c.in_ok-get_into.ensures.got tells) (sym c.is_group_of.ensures
+    ∙ c.if-not-is_group_of.true))
 
 pub returns-clause-member : goal.returns-clause-member
 returns-clause-member g c = λ tells.

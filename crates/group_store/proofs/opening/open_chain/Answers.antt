@@ -38,7 +38,8 @@ returns-then-branch-clause-opened g c = λ tells.
     let t = g.S.Reads.state c.open_group.new.space in
     let same = c.in_ok-is_dense.ensures.state in
     let dense = (c.in_ok-is_dense.ensures.is tells).0 c.if-branch.true in
-    if_ok c.open_group.result _ (λ (head : ChainHead). (row : RelRow) (empty : List ℕ) → CanOpen s c.args.node c.args.degree c.args.threshold c.args.label c.args.side row empty → OpensChain s t (head_of head) c.args.node row empty)
+    if_ok c.open_group.result _ (λ (head : ChainHead). (row : RelRow) (empty : List ℕ) → CanOpen s c.args.node c.args.degree c.args.threshold c.args.label
+    c.args.side row empty → OpensChain s t (head_of head) c.args.node row empty)
     (λ head f row empty can. then_opens s z same c.args.node c.args.degree c.args.threshold c.args.label c.args.side row empty can t (head_of head)
     (f row empty (group_can s z same c.args.node c.args.degree c.args.threshold c.args.label c.args.side row empty can dense))) (c.open_group.ensures.opened
     tells)
@@ -87,12 +88,14 @@ returns-clause-opened g c = λ tells.
     let t = g.S.Reads.state c.open_group-2.new.space in
     let same = c.in_ok-is_dense.ensures.state in
     let thin : ¬ IsDense s.records c.args.node = λ d. false≢true (sym c.if-branch.false ∙ (c.in_ok-is_dense.ensures.is tells).1 d) in
-    if_ok c.open_group-2.result _ (λ (head : ChainHead). (row : RelRow) (empty : List ℕ) → CanOpen s c.args.node c.args.degree c.args.threshold c.args.label c.args.side row empty → OpensChain s t (head_of head) c.args.node row empty)
+    if_ok c.open_group-2.result _ (λ (head : ChainHead). (row : RelRow) (empty : List ℕ) → CanOpen s c.args.node c.args.degree c.args.threshold c.args.label
+    c.args.side row empty → OpensChain s t (head_of head) c.args.node row empty)
     (λ head f row empty can.
     let becomes = c.in_ok-make_dense.ensures.made tells s.shape.threshold empty
     (dense_can s z same c.args.node c.args.degree c.args.threshold c.args.label c.args.side row empty can thin) in
     dense_opens s z same c.args.node c.args.degree c.args.threshold c.args.label c.args.side row empty can u becomes t (head_of head)
-    (f row empty (dense_group_can s z same c.args.node c.args.degree c.args.threshold c.args.label c.args.side row empty can u becomes))) (c.open_group-2.ensures.opened tells)
+    (f row empty (dense_group_can s z same c.args.node c.args.degree c.args.threshold c.args.label c.args.side row empty can u becomes)))
+    (c.open_group-2.ensures.opened tells)
 
 pub returns-clause-sound : goal.returns-clause-sound
 returns-clause-sound g c = λ tells row empty can room.
@@ -103,7 +106,8 @@ returns-clause-sound g c = λ tells row empty can room.
     let thin : ¬ IsDense s.records c.args.node = λ d. false≢true (sym c.if-branch.false ∙ (c.in_ok-is_dense.ensures.is tells).1 d) in
     let becomes = c.in_ok-make_dense.ensures.made tells s.shape.threshold empty
     (dense_can s z same c.args.node c.args.degree c.args.threshold c.args.label c.args.side row empty can thin) in
-    c.open_group-2.ensures.sound tells row empty (dense_group_can s z same c.args.node c.args.degree c.args.threshold c.args.label c.args.side row empty can u becomes)
+    c.open_group-2.ensures.sound tells row empty (dense_group_can s z same c.args.node c.args.degree c.args.threshold c.args.label c.args.side row empty can u
+    becomes)
     (dense_group_room s z same c.args.node c.args.degree c.args.threshold c.args.label c.args.side row empty can u becomes room)
 
 pub returns-clause-writes : goal.returns-clause-writes
@@ -136,7 +140,8 @@ returns-clause-wrote g c =
     let u = g.S.Reads.state c.make_dense.new.space in
     let t = g.S.Reads.state c.open_group-2.new.space in
     if_ok c.open_group-2.result _ (λ (head : ChainHead). WritesOpened s t c.args.node head.key (moved_writes c.args.threshold c.args.degree + 1))
-    (λ head w. dense_opened s z t c.args.node c.args.threshold c.args.degree c.in_ok-is_dense.ensures.state u c.if-degree-threshold.false head.key c.in_ok-make_dense.ensures.wrote w) c.open_group-2.ensures.wrote
+    (λ head w. dense_opened s z t c.args.node c.args.threshold c.args.degree c.in_ok-is_dense.ensures.state u c.if-degree-threshold.false head.key
+    c.in_ok-make_dense.ensures.wrote w) c.open_group-2.ensures.wrote
 
 -- ---- damage
 
@@ -144,7 +149,8 @@ pub returns-in_err-is_dense-clause-damaged : goal.returns-in_err-is_dense-clause
 returns-in_err-is_dense-clause-damaged g c = λ tells way.
     let s = g.S.Reads.state c.args.space.now in
     let p = err_from_is_err_and c.from_residual.result c.from_residual.ensures.1 in
-    rw (p.1, p.2) (only_breaks s c.in_err-is_dense.field-0.0 (node_fault_breaks s c.args.node c.in_err-is_dense.field-0.0 (c.in_err-is_dense.ensures.damaged tells)))
+    rw (p.1, p.2) (only_breaks s c.in_err-is_dense.field-0.0 (node_fault_breaks s c.args.node c.in_err-is_dense.field-0.0 (c.in_err-is_dense.ensures.damaged
+    tells)))
 
 pub returns-then-branch-clause-damaged : goal.returns-then-branch-clause-damaged
 returns-then-branch-clause-damaged g c = λ tells way.
@@ -302,7 +308,8 @@ returns-in_err-make_dense-clause-stays g c = λ tells.
     let s = g.S.Reads.state c.args.space.now in
     let z = g.S.Reads.state c.is_dense.new.space in
     let p = err_from_is_err_and c.from_residual-in_err-make_dense.result c.from_residual-in_err-make_dense.ensures.1 in
-    rw (p.1, p.2) (later_beside s.records z.records (g.S.Reads.state c.make_dense.new.space).records c.args.node (beside_read s z c.args.node c.in_ok-is_dense.ensures.state) c.in_err-make_dense.field-0.0 (c.in_err-make_dense.ensures.stays tells))
+    rw (p.1, p.2) (later_beside s.records z.records (g.S.Reads.state c.make_dense.new.space).records c.args.node
+    (beside_read s z c.args.node c.in_ok-is_dense.ensures.state) c.in_err-make_dense.field-0.0 (c.in_err-make_dense.ensures.stays tells))
 
 pub returns-clause-beside : goal.returns-clause-beside
 returns-clause-beside g c = λ tells.
@@ -331,7 +338,8 @@ returns-clause-stays g c = λ tells.
 
 pub returns-then-branch-clause-owns : goal.returns-then-branch-clause-owns
 returns-then-branch-clause-owns g c = λ tells way.
-    c.open_group.ensures.owns tells (subst (λ (q : State). IsDense q.records c.args.node) (sym c.in_ok-is_dense.ensures.state) ((c.in_ok-is_dense.ensures.is tells).0 c.if-branch.true))
+    c.open_group.ensures.owns tells (subst (λ (q : State). IsDense q.records c.args.node) (sym c.in_ok-is_dense.ensures.state)
+    ((c.in_ok-is_dense.ensures.is tells).0 c.if-branch.true))
 
 pub returns-then-degree-threshold-clause-owns : goal.returns-then-degree-threshold-clause-owns
 returns-then-degree-threshold-clause-owns g c = λ tells way.

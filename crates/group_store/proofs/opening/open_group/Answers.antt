@@ -24,7 +24,8 @@ pub returns-in_err-own-clause-sound : goal.returns-in_err-own-clause-sound
 returns-in_err-own-clause-sound g c = λ tells row empty can room.
     let s = g.S.Reads.state c.args.space.now in
     let p = err_from_is_err_and c.from_residual.result c.from_residual.ensures.1 in
-    rw (p.1, p.2) (handed OwnGroup ChainHead c.in_err-own.field-0.0 (c.in_err-own.ensures.sound tells [] s.shape.threshold empty (all_but s.records s.shape c.args.node s.shape.threshold empty can.keeps) can.dense (not_full s c.args.node s.shape.threshold empty can.keeps room)))
+    rw (p.1, p.2) (handed OwnGroup ChainHead c.in_err-own.field-0.0 (c.in_err-own.ensures.sound tells [] s.shape.threshold empty
+    (all_but s.records s.shape c.args.node s.shape.threshold empty can.keeps) can.dense (not_full s c.args.node s.shape.threshold empty can.keeps room)))
 
 pub returns-in_err-own-clause-writes : goal.returns-in_err-own-clause-writes
 returns-in_err-own-clause-writes g c =
@@ -39,7 +40,8 @@ returns-in_err-count_group-clause-sound g c = λ tells row empty can room.
     let o = c.in_ok-own.ensures.opened tells [] s.shape.threshold empty keeps can.dense in
     let is = c.in_ok-own.ensures.row tells [] s.shape.threshold empty keeps can.dense in
     let p = err_from_is_err_and c.from_residual-in_err-count_group.result c.from_residual-in_err-count_group.ensures.1 in
-    rw (p.1, p.2) (handed Unit ChainHead c.in_err-count_group.field-0.0 (c.in_err-count_group.ensures.sound tells s.shape.threshold (c.in_ok-own.own.row.id ∷ empty)
+    rw (p.1, p.2) (handed Unit ChainHead c.in_err-count_group.field-0.0 (c.in_err-count_group.ensures.sound tells s.shape.threshold
+    (c.in_ok-own.own.row.id ∷ empty)
     (can_raise s m c.args.node c.args.label c.in_ok-own.own.row c.args.side row empty can o.0 o.1 is)))
 
 pub returns-in_err-count_group-clause-writes : goal.returns-in_err-count_group-clause-writes
@@ -48,7 +50,8 @@ returns-in_err-count_group-clause-writes g c =
     let m = g.S.Reads.state c.own_group.new.space in
     let t = g.S.Reads.state c.count_group.new.space in
     let own = c.in_ok-own.own in
-    made_writes s t c.args.node own.first own.row.id (raised_writes s m t own.row.id own.first c.args.node c.in_ok-own.ensures.wrote c.in_err-count_group.ensures.writes)
+    made_writes s t c.args.node own.first own.row.id (raised_writes s m t own.row.id own.first c.args.node c.in_ok-own.ensures.wrote
+    c.in_err-count_group.ensures.writes)
 
 pub returns-clause-opened : goal.returns-clause-opened
 returns-clause-opened g c = λ tells row empty can.
@@ -69,7 +72,8 @@ returns-clause-writes g c =
     let m = g.S.Reads.state c.own_group.new.space in
     let t = g.S.Reads.state c.count_group.new.space in
     let own = c.in_ok-own.own in
-    made_writes s t c.args.node own.first own.row.id (raised_writes s m t own.row.id own.first c.args.node c.in_ok-own.ensures.wrote c.in_ok-count_group.ensures.writes)
+    made_writes s t c.args.node own.first own.row.id (raised_writes s m t own.row.id own.first c.args.node c.in_ok-own.ensures.wrote
+    c.in_ok-count_group.ensures.writes)
 
 pub returns-clause-wrote : goal.returns-clause-wrote
 returns-clause-wrote g c =
@@ -78,7 +82,8 @@ returns-clause-wrote g c =
     let t = g.S.Reads.state c.count_group.new.space in
     let own = c.in_ok-own.own in
     subst (λ (k : Key). WritesOpened s t c.args.node k 1) (sym (ap (λ (h : Head). h.key) c.group_head.ensures.is))
-    (opened_writes s t c.args.node own.first own.row.id (found_writes s m t own.row.id own.first c.args.node c.in_ok-own.ensures.wrote c.in_ok-count_group.ensures.writes))
+    (opened_writes s t c.args.node own.first own.row.id (found_writes s m t own.row.id own.first c.args.node c.in_ok-own.ensures.wrote
+    c.in_ok-count_group.ensures.writes))
 
 -- ---- damage
 
@@ -134,7 +139,8 @@ returns-clause-owns g c = λ tells dense.
     let m = g.S.Reads.state c.own_group.new.space in
     let t = g.S.Reads.state c.count_group.new.space in
     subst (λ (h : Head). IsHeadOf t.records h c.args.node) (sym c.group_head.ensures.is)
-    (c.in_ok-count_group.ensures.heads tells _ c.args.node (owned_head m.records c.args.node c.in_ok-own.own.row.id c.args.side (c.in_ok-own.ensures.dense tells dense) (c.in_ok-own.ensures.owns tells)))
+    (c.in_ok-count_group.ensures.heads tells _ c.args.node (owned_head m.records c.args.node c.in_ok-own.own.row.id c.args.side
+    (c.in_ok-own.ensures.dense tells dense) (c.in_ok-own.ensures.owns tells)))
 
 pub returns-clause-heads : goal.returns-clause-heads
 returns-clause-heads g c = λ tells.

@@ -46,7 +46,8 @@ returns-in_err-group-clause-sound g c = λ tells most empty x row end.
     let keeps = keeps_read s z same most empty end.keeps in
     let dense_z = subst (λ (r : Records). IsDense r c.args.node) (sym (same_records s z same)) dense in
     let p = err_from_is_err_and c.from_residual-in_err-group.result c.from_residual-in_err-group.ensures.1 in
-    rw (p.1, p.2) (handed (Option GroupRow) ChainHead c.in_err-group.field-0.0 (c.in_err-group.ensures.sound tells (node_readable z keeps c.args.node) (chain_of z.records z.shape keeps c.args.node dense_z) (walkable z keeps c.args.node dense_z)))
+    rw (p.1, p.2) (handed (Option GroupRow) ChainHead c.in_err-group.field-0.0 (c.in_err-group.ensures.sound tells (node_readable z keeps c.args.node)
+    (chain_of z.records z.shape keeps c.args.node dense_z) (walkable z keeps c.args.node dense_z)))
 
 pub returns-in_err-count_group-clause-sound : goal.returns-in_err-count_group-clause-sound
 returns-in_err-count_group-clause-sound g c = λ tells most empty x row end.
@@ -69,7 +70,8 @@ returns-clause-found g c = λ tells most empty x row end.
     let same = only_read z y (1 + group_mark z) c.in_ok-group.ensures.at_most in
     let can = found_raise s z y c.in_ok-is_dense.ensures.state same c.args.node c.args.label c.in-Some.group most empty end.keeps found in
     subst (λ (h : Head). FindsChain s t h c.args.node row most empty) (sym c.group_head.ensures.is)
-    (finds_group s z y c.in_ok-is_dense.ensures.state same c.args.node c.args.label c.in-Some.group t c.args.side most empty x row end found can (c.in_ok-count_group.ensures.raised tells most empty can))
+    (finds_group s z y c.in_ok-is_dense.ensures.state same c.args.node c.args.label c.in-Some.group t c.args.side most empty x row end found can
+    (c.in_ok-count_group.ensures.raised tells most empty can))
 
 pub returns-in_default-clause-sound : goal.returns-in_default-clause-sound
 returns-in_default-clause-sound g c = λ tells most empty x row end.
@@ -79,8 +81,10 @@ returns-in_default-clause-sound g c = λ tells most empty x row end.
     let dense = (c.in_ok-is_dense.ensures.is tells).0 c.if-not-branch.false in
     let keeps = keeps_read s z same most empty end.keeps in
     let dense_z = subst (λ (r : Records). IsDense r c.args.node) (sym (same_records s z same)) dense in
-    let lacks = (c.in_ok-group.ensures.none tells dense_z (chain_of z.records z.shape keeps c.args.node dense_z) (is_chain z.records z.shape keeps c.args.node dense_z)).0 c.in_default.is in
-    absurd (has_group z.records z.shape keeps c.args.node dense_z x c.args.label row (ap (λ (q : State). rel_at q.records x) same ∙ end.live) end.at.end end.at.typed lacks)
+    let lacks = (c.in_ok-group.ensures.none tells dense_z (chain_of z.records z.shape keeps c.args.node dense_z) (is_chain z.records z.shape keeps c.args.node
+    dense_z)).0 c.in_default.is in
+    absurd (has_group z.records z.shape keeps c.args.node dense_z x c.args.label row (ap (λ (q : State). rel_at q.records x) same ∙ end.live)
+    end.at.end end.at.typed lacks)
 
 -- ---- what is written
 
@@ -88,7 +92,8 @@ pub returns-in_err-group-clause-unwritten : goal.returns-in_err-group-clause-unw
 returns-in_err-group-clause-unwritten g c =
     let z = g.S.Reads.state c.is_dense.new.space in
     let y = g.S.Reads.state c.find_group.new.space in
-    on_damage c.from_residual-in_err-group.result _ (same_twice (g.S.Reads.state c.args.space.now) z y c.in_ok-is_dense.ensures.state (only_read z y (1 + group_mark z) c.in_err-group.ensures.at_most))
+    on_damage c.from_residual-in_err-group.result _ (same_twice (g.S.Reads.state c.args.space.now) z y c.in_ok-is_dense.ensures.state
+    (only_read z y (1 + group_mark z) c.in_err-group.ensures.at_most))
 
 pub returns-in_default-clause-unwritten : goal.returns-in_default-clause-unwritten
 returns-in_default-clause-unwritten g c =
@@ -178,7 +183,8 @@ returns-in_err-group-clause-breaks g c = λ tells row live at.
     let same = c.in_ok-is_dense.ensures.state in
     let dense = subst (λ (r : Records). IsDense r c.args.node) (sym (same_records s z same)) ((c.in_ok-is_dense.ensures.is tells).0 c.if-not-branch.false) in
     let p = err_from_is_err_and c.from_residual-in_err-group.result c.from_residual-in_err-group.ensures.1 in
-    rw (p.1, p.2) (breaks_read s z same c.in_err-group.field-0.0 (find_breaks z c.args.node dense c.in_err-group.field-0.0 (c.in_err-group.ensures.damaged tells)))
+    rw (p.1, p.2) (breaks_read s z same c.in_err-group.field-0.0 (find_breaks z c.args.node dense c.in_err-group.field-0.0
+    (c.in_err-group.ensures.damaged tells)))
 
 pub returns-in_default-clause-breaks : goal.returns-in_default-clause-breaks
 returns-in_default-clause-breaks g c = λ tells row live at.
@@ -189,7 +195,8 @@ returns-in_default-clause-breaks g c = λ tells row live at.
     let found = subst (IsFound z.records c.args.node c.args.label) c.in_default.is (c.in_ok-group.ensures.found tells) dense in
     let lacks : LacksGroupOn z.records c.args.node c.args.label = record { dense = dense; members = found.0; list = found.1; lacks = found.2 } in
     subst (λ (d : Damage). Breaks s.records s.shape d) (sym c.end_damage.ensures)
-    (no_group_breaks s c.args.node c.args.rel c.args.label row live at.end at.typed (subst (λ (r : Records). LacksGroupOn r c.args.node c.args.label) (same_records s z same) lacks))
+    (no_group_breaks s c.args.node c.args.rel c.args.label row live at.end at.typed (subst (λ (r : Records). LacksGroupOn r c.args.node c.args.label)
+    (same_records s z same) lacks))
 
 pub returns-in_err-count_group-clause-damaged : goal.returns-in_err-count_group-clause-damaged
 returns-in_err-count_group-clause-damaged g c = λ tells.
@@ -200,7 +207,8 @@ returns-in_err-count_group-clause-damaged g c = λ tells.
     let same = only_read z y (1 + group_mark z) c.in_ok-group.ensures.at_most in
     let at = found_at s z y c.in_ok-is_dense.ensures.state same c.args.node c.args.label c.in-Some.group found in
     let p = err_from_is_err_and c.from_residual-in_err-count_group.result c.from_residual-in_err-count_group.ensures.1 in
-    rw (p.1, p.2) (count_only s y c.args.node c.args.rel c.args.label c.in-Some.group.id (same_twice s z y c.in_ok-is_dense.ensures.state same) c.in_err-count_group.field-0.0 (c.in_err-count_group.ensures.names tells) (c.in_err-count_group.ensures.breaks tells at))
+    rw (p.1, p.2) (count_only s y c.args.node c.args.rel c.args.label c.in-Some.group.id (same_twice s z y c.in_ok-is_dense.ensures.state same)
+    c.in_err-count_group.field-0.0 (c.in_err-count_group.ensures.names tells) (c.in_err-count_group.ensures.breaks tells at))
 
 pub returns-in_err-count_group-clause-breaks : goal.returns-in_err-count_group-clause-breaks
 returns-in_err-count_group-clause-breaks g c = λ tells row live end.
@@ -211,7 +219,8 @@ returns-in_err-count_group-clause-breaks g c = λ tells row live end.
     let same = only_read z y (1 + group_mark z) c.in_ok-group.ensures.at_most in
     let at = found_at s z y c.in_ok-is_dense.ensures.state same c.args.node c.args.label c.in-Some.group found in
     let p = err_from_is_err_and c.from_residual-in_err-count_group.result c.from_residual-in_err-count_group.ensures.1 in
-    rw (p.1, p.2) (breaks_read s y (same_twice s z y c.in_ok-is_dense.ensures.state same) c.in_err-count_group.field-0.0 (c.in_err-count_group.ensures.breaks tells at))
+    rw (p.1, p.2) (breaks_read s y (same_twice s z y c.in_ok-is_dense.ensures.state same) c.in_err-count_group.field-0.0 (c.in_err-count_group.ensures.breaks
+    tells at))
 
 pub returns-in_err-is_dense-clause-cause : goal.returns-in_err-is_dense-clause-cause
 returns-in_err-is_dense-clause-cause g c =
@@ -291,7 +300,8 @@ returns-then-not-branch-clause-placed g c = λ tells which row at.
     let thin : ¬ IsDense s.records c.args.node = λ d. false≢true (sym c.if-not-branch.true ∙ (c.in_ok-is_dense.ensures.is tells).1 d) in
     let sparse : IsSparse s.records c.args.node = ⊎_elim (λ d. absurd (thin d)) (λ k. k) which in
     subst (λ (h : Head). IsPlaced z.records h c.args.node row) (sym c.node_head.ensures.is)
-    (placed_node z.records c.args.node c.args.label c.args.side row (subst (λ (r : Records). IsSparse r c.args.node) (sym (same_records s z c.in_ok-is_dense.ensures.state)) sparse) at)
+    (placed_node z.records c.args.node c.args.label c.args.side row (subst (λ (r : Records). IsSparse r c.args.node)
+    (sym (same_records s z c.in_ok-is_dense.ensures.state)) sparse) at)
 
 pub returns-clause-placed : goal.returns-clause-placed
 returns-clause-placed g c = λ tells which row rel_at_node.
@@ -303,7 +313,8 @@ returns-clause-placed g c = λ tells which row rel_at_node.
     let same = only_read z y (1 + group_mark z) c.in_ok-group.ensures.at_most in
     let at = found_at s z y c.in_ok-is_dense.ensures.state same c.args.node c.args.label c.in-Some.group found in
     subst (λ (h : Head). IsPlaced t.records h c.args.node row) (sym c.group_head.ensures.is)
-    (placed_as t y c.args.node (alike_back y t c.args.node (alike_counted y t c.args.node (g.met.S.Reads.onward_shape _ _ c.count_group.ensures.onward) (c.in_ok-count_group.ensures.counts tells at))) _ row
+    (placed_as t y c.args.node (alike_back y t c.args.node (alike_counted y t c.args.node (g.met.S.Reads.onward_shape _ _ c.count_group.ensures.onward)
+    (c.in_ok-count_group.ensures.counts tells at))) _ row
     (placed_group y c.args.node c.args.label c.in-Some.group c.args.side row at found.1.typed rel_at_node))
 
 pub returns-in_err-is_dense-clause-found : goal.returns-in_err-is_dense-clause-found

@@ -53,7 +53,8 @@ returns-then-limit-out-clause-sound g c = λ tells is most empty can.
     let all : (a + b) + d ≡ limit = omega (arith, c.if-limit-out.true, c.in_ok-out.ensures.few, c.in_ok-into.ensures.few) in
     degree_right s node row can.group c.args.node_degree limit a b d is c.saturating_add-limit.ensures all (c.in_ok-out.ensures.counted tells)
     (counted_read s y (first_in row Into) node (members_of row.label Into) (limit - a) b c.in_ok-out.ensures.state (c.in_ok-into.ensures.counted tells))
-    (counted_read s z (first_in row Loop) node (members_of row.label Loop) (limit - a - b) d (same_twice s y z c.in_ok-out.ensures.state c.in_ok-into.ensures.state) (c.in_ok-loops.ensures.counted tells)) can.keeps
+    (counted_read s z (first_in row Loop) node (members_of row.label Loop) (limit - a - b) d (same_twice s y z c.in_ok-out.ensures.state
+    c.in_ok-into.ensures.state) (c.in_ok-loops.ensures.counted tells)) can.keeps
 
 pub returns-then-limit-out-clause-breaks : goal.returns-then-limit-out-clause-breaks
 returns-then-limit-out-clause-breaks g c = λ tells is at.
@@ -70,7 +71,8 @@ returns-then-limit-out-clause-breaks g c = λ tells is at.
     subst (λ (k : Damage). Breaks s.records s.shape k) (sym c.degree_damage.ensures)
     (degree_breaks s node row at c.args.node_degree limit a b d is c.saturating_add-limit.ensures all (c.in_ok-out.ensures.counted tells)
     (counted_read s y (first_in row Into) node (members_of row.label Into) (limit - a) b c.in_ok-out.ensures.state (c.in_ok-into.ensures.counted tells))
-    (counted_read s z (first_in row Loop) node (members_of row.label Loop) (limit - a - b) d (same_twice s y z c.in_ok-out.ensures.state c.in_ok-into.ensures.state) (c.in_ok-loops.ensures.counted tells)))
+    (counted_read s z (first_in row Loop) node (members_of row.label Loop) (limit - a - b) d (same_twice s y z c.in_ok-out.ensures.state
+    c.in_ok-into.ensures.state) (c.in_ok-loops.ensures.counted tells)))
 
 pub returns-clause-counts : goal.returns-clause-counts
 returns-clause-counts g c = λ tells.

@@ -25,7 +25,8 @@ returns-clause-raised g c = λ tells most empty can.
     let same = same_twice s y z (got_same s y c.in_ok-rec.ensures.state) c.in_ok-counts.ensures.state in
     let lengths = lengths_read y z node row c.in_ok-counts.counts c.in_ok-counts.ensures.state (c.in_ok-counts.ensures.counts tells) in
     raises_after s z t node row.id most empty same
-    (subst (λ (q : State). HasRaised z q node row.id most empty) (sym (c.in_ok-set_counts.ensures.ok tells)) (raises z node row most empty (can_read s z node row most empty same can) c.if-row.false c.in_ok-counts.counts lengths))
+    (subst (λ (q : State). HasRaised z q node row.id most empty) (sym (c.in_ok-set_counts.ensures.ok tells)) (raises z node row most empty
+    (can_read s z node row most empty same can) c.if-row.false c.in_ok-counts.counts lengths))
 
 pub returns-in_err-rec-clause-cause : goal.returns-in_err-rec-clause-cause
 returns-in_err-rec-clause-cause g c =

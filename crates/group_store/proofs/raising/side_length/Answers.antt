@@ -16,7 +16,8 @@ returns-clause-breaks g c = λ tells at.
     let is = group_is s node row at in
     c.chain_length.ensures.breaks tells (group_head row.id c.args.side) refl (c.first_in.ensures ∙ first_is s node row at c.args.side)
     (inr (record { own = owns_group s.records row.id row.label node is c.args.side at.dense; on = at.on }))
-    (λ x there. subst (λ (m : Members). stands s.records node m x ≡ true) (sym c.members_of.ensures) (stands_there s.records row.id row.label node is c.args.side x there))
+    (λ x there. subst (λ (m : Members). stands s.records node m x ≡ true) (sym c.members_of.ensures) (stands_there s.records row.id row.label node is
+    c.args.side x there))
 
 pub returns-clause-state : goal.returns-clause-state
 returns-clause-state g c = only_read (g.R.Reads.state c.args.space.now) (g.R.Reads.state c.chain_length.new.space) c.args.budget c.chain_length.ensures.at_most

@@ -49,7 +49,8 @@ returns-in_err-next-clause-damaged g c = λ tells is.
     let now = g.R.Reads.state c.loop.space in
     let was = c.loop.invariant in
     let p = err_from_is_err_and c.from_residual.result c.from_residual.ensures.1 in
-    rw (p.1, p.2) (step_told s now c.args.node c.args.degree c.loop.before c.loop.at c.loop.counter was.same c.if-at.false (was.tail tells is) c.in_err-next.field-0.0 (c.in_err-next.ensures.damaged tells))
+    rw (p.1, p.2) (step_told s now c.args.node c.args.degree c.loop.before c.loop.at c.loop.counter was.same c.if-at.false (was.tail tells is)
+    c.in_err-next.field-0.0 (c.in_err-next.ensures.damaged tells))
 
 pub returns-in_err-next-clause-state : goal.returns-in_err-next-clause-state
 returns-in_err-next-clause-state g c = same_twice (g.R.Reads.state c.args.space.now) (g.R.Reads.state c.loop.space) (g.R.Reads.state c.meet.new.space)
@@ -61,7 +62,8 @@ returns-in_err-meet-clause-damaged g c = λ tells is.
     let now = g.R.Reads.state c.loop.space in
     let was = c.loop.invariant in
     let p = err_from_is_err_and c.from_residual-in_err-meet.result c.from_residual-in_err-meet.ensures.1 in
-    rw (p.1, p.2) (step_told s now c.args.node c.args.degree c.loop.before c.loop.at c.loop.counter was.same c.if-at-2.false (was.tail tells is) c.in_err-meet.field-0.0 (c.in_err-meet.ensures.damaged tells))
+    rw (p.1, p.2) (step_told s now c.args.node c.args.degree c.loop.before c.loop.at c.loop.counter was.same c.if-at-2.false (was.tail tells is)
+    c.in_err-meet.field-0.0 (c.in_err-meet.ensures.damaged tells))
 
 pub returns-in_err-meet-clause-state : goal.returns-in_err-meet-clause-state
 returns-in_err-meet-clause-state g c = same_twice (g.R.Reads.state c.args.space.now) (g.R.Reads.state c.loop.space) (g.R.Reads.state c.meet-2.new.space)
@@ -100,7 +102,8 @@ returns-in_err-next-clause-sound g c = λ tells is members chain readable few.
     let was = c.loop.invariant in
     let p = err_from_is_err_and c.from_residual.result c.from_residual.ensures.1 in
     rw (p.1, p.2) (not_damaged Unit c.in_err-next.field-0.0
-    (step_sound s (g.R.Reads.state c.loop.space) c.args.node c.loop.before c.loop.at c.loop.counter members was.same c.if-at.false readable (was.tail tells is members chain) c.in_err-next.field-0.0 (c.in_err-next.ensures.damaged tells)))
+    (step_sound s (g.R.Reads.state c.loop.space) c.args.node c.loop.before c.loop.at c.loop.counter members was.same c.if-at.false readable
+    (was.tail tells is members chain) c.in_err-next.field-0.0 (c.in_err-next.ensures.damaged tells)))
 
 pub returns-in_err-meet-clause-sound : goal.returns-in_err-meet-clause-sound
 returns-in_err-meet-clause-sound g c = λ tells is members chain readable few.
@@ -108,7 +111,8 @@ returns-in_err-meet-clause-sound g c = λ tells is members chain readable few.
     let was = c.loop.invariant in
     let p = err_from_is_err_and c.from_residual-in_err-meet.result c.from_residual-in_err-meet.ensures.1 in
     rw (p.1, p.2) (not_damaged Unit c.in_err-meet.field-0.0
-    (step_sound s (g.R.Reads.state c.loop.space) c.args.node c.loop.before c.loop.at c.loop.counter members was.same c.if-at-2.false readable (was.tail tells is members chain) c.in_err-meet.field-0.0 (c.in_err-meet.ensures.damaged tells)))
+    (step_sound s (g.R.Reads.state c.loop.space) c.args.node c.loop.before c.loop.at c.loop.counter members was.same c.if-at-2.false readable
+    (was.tail tells is members chain) c.in_err-meet.field-0.0 (c.in_err-meet.ensures.damaged tells)))
 
 pub returns-clause-sound : goal.returns-clause-sound
 returns-clause-sound g c = λ tells is members chain readable few.

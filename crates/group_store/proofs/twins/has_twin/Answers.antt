@@ -69,7 +69,8 @@ returns-in-None-clause-found g c = λ tells.
     let s = g.R.Reads.state c.args.space.now in
     let u = g.R.Reads.state c.get.new.self in
     let same = same_records s u (only_read s u 1 (reads_one s u c.get.ensures.state)) in
-    none_lone s.records c.args.node c.args.group (subst (λ (r : Records). ¬ IsDense r c.args.node) same (subst (IsFirst u.records c.args.node) c.in-None.is (c.in_ok-first.ensures.first tells)))
+    none_lone s.records c.args.node c.args.group (subst (λ (r : Records). ¬ IsDense r c.args.node) same (subst (IsFirst u.records c.args.node) c.in-None.is
+    (c.in_ok-first.ensures.first tells)))
 
 -- ---- damage
 
@@ -78,7 +79,8 @@ returns-in_err-first-clause-damaged g c = λ tells.
     let s = g.R.Reads.state c.args.space.now in
     let u = g.R.Reads.state c.get.new.self in
     let p = err_from_is_err_and c.from_residual-in_err-first.result c.from_residual-in_err-first.ensures.1 in
-    rw (p.1, p.2) (node_then s u c.args.node c.in_err-first.field-0.0 (only_read s u 1 (reads_one s u c.get.ensures.state)) (c.in_err-first.ensures.damaged tells))
+    rw (p.1, p.2) (node_then s u c.args.node c.in_err-first.field-0.0 (only_read s u 1 (reads_one s u c.get.ensures.state))
+    (c.in_err-first.ensures.damaged tells))
 
 pub returns-in-Some-clause-damaged : goal.returns-in-Some-clause-damaged
 returns-in-Some-clause-damaged g c = λ tells.

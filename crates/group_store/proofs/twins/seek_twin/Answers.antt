@@ -45,7 +45,8 @@ loop-preserved g c =
             met.0 ++ c.loop.at ∷ [],
             passed_more s.records c.args.node c.args.first c.loop.at c.number-at.result met.0 some member link met.1,
             lone_more s.records c.args.group c.args.label c.loop.at met.0
-                (λ e. no_twin c.in_ok-rec.rec c.loop.at c.args.group c.args.label (sym c.is_twin.ensures ∙ c.if-is_twin.false) (ap (λ (r : Rec). field 4 r format.group_type) got ∙ e)) met.2,
+                (λ e. no_twin c.in_ok-rec.rec c.loop.at c.args.group c.args.label (sym c.is_twin.ensures ∙ c.if-is_twin.false)
+                (ap (λ (r : Rec). field 4 r format.group_type) got ∙ e)) met.2,
           );
       left = λ tells xs walk few.
           let link = link_then s now c.loop.counter c.loop.at c.number-at.result c.in_ok-rec.rec c.loop.invariant.read (c.in_ok-rec.ensures.got tells)
@@ -108,7 +109,8 @@ pub returns-in_err-rec-clause-damaged : goal.returns-in_err-rec-clause-damaged
 returns-in_err-rec-clause-damaged g c = λ tells.
     let s = g.R.Reads.state c.args.space.now in
     let p = err_from_is_err_and c.from_residual.result c.from_residual.ensures.1 in
-    rw (p.1, p.2) (walk_fault s (g.R.Reads.state c.loop.space) c.loop.counter c.args.node c.args.first (c.meta-budget.result.high - c.loop.counter) c.loop.at c.in_err-rec.field-0.0
+    rw (p.1, p.2) (walk_fault s (g.R.Reads.state c.loop.space) c.loop.counter c.args.node c.args.first (c.meta-budget.result.high - c.loop.counter)
+    c.loop.at c.in_err-rec.field-0.0
     c.loop.invariant.read c.if-at.false (c.loop.invariant.left tells) (c.in_err-rec.ensures.damaged tells))
 
 pub returns-then-at-2-clause-damaged : goal.returns-then-at-2-clause-damaged
@@ -116,7 +118,8 @@ returns-then-at-2-clause-damaged g c = λ tells.
     let s = g.R.Reads.state c.args.space.now in
     let ge = c.loop-test.false in
     subst (IsWalkDamage s c.args.node c.args.first) (sym c.chain_damage.ensures)
-    (NoList (λ xs list. c.if-at-2.true (left_none s.records (c.meta-budget.result.high - c.loop.counter) c.loop.at xs (omega arith) (c.loop.invariant.left tells xs list.walk (few_owned s.records c.args.node c.args.first xs list)))))
+    (NoList (λ xs list. c.if-at-2.true (left_none s.records (c.meta-budget.result.high - c.loop.counter) c.loop.at xs (omega arith)
+    (c.loop.invariant.left tells xs list.walk (few_owned s.records c.args.node c.args.first xs list)))))
 
 pub returns-in_err-rec-clause-met : goal.returns-in_err-rec-clause-met
 returns-in_err-rec-clause-met g c _ = never_ok c.from_residual.result _ _ c.from_residual.ensures.1

@@ -94,7 +94,8 @@ pub returns-in_err-rec-clause-damaged : goal.returns-in_err-rec-clause-damaged
 returns-in_err-rec-clause-damaged g c = λ tells.
     let s = g.R.Reads.state c.args.space.now in
     let p = err_from_is_err_and c.from_residual.result c.from_residual.ensures.1 in
-    rw (p.1, p.2) (walk_fault s (g.R.Reads.state c.loop.space) (length c.loop.rows.items) c.args.row.now.id c.args.row.now.first (c.meta-budget.result.high - c.loop.counter) c.loop.at c.in_err-rec.field-0.0
+    rw (p.1, p.2) (walk_fault s (g.R.Reads.state c.loop.space) (length c.loop.rows.items) c.args.row.now.id c.args.row.now.first
+    (c.meta-budget.result.high - c.loop.counter) c.loop.at c.in_err-rec.field-0.0
     c.loop.invariant.read c.if-at.false (c.loop.invariant.left tells) (c.in_err-rec.ensures.damaged tells))
 
 pub returns-in_err-rec-clause-sound : goal.returns-in_err-rec-clause-sound
@@ -102,7 +103,8 @@ returns-in_err-rec-clause-sound g c = λ tells xs can.
     let s = g.R.Reads.state c.args.space.now in
     let p = err_from_is_err_and c.from_residual.result c.from_residual.ensures.1 in
     not_damaged_at c.from_residual.result p.0 c.in_err-rec.field-0.0 p.1 p.2 (undamaged s c.args.row.now.id c.args.row.now.first xs c.in_err-rec.field-0.0 can
-    (walk_fault s (g.R.Reads.state c.loop.space) (length c.loop.rows.items) c.args.row.now.id c.args.row.now.first (c.meta-budget.result.high - c.loop.counter) c.loop.at c.in_err-rec.field-0.0
+    (walk_fault s (g.R.Reads.state c.loop.space) (length c.loop.rows.items) c.args.row.now.id c.args.row.now.first (c.meta-budget.result.high - c.loop.counter)
+    c.loop.at c.in_err-rec.field-0.0
     c.loop.invariant.read c.if-at.false (c.loop.invariant.left tells) (c.in_err-rec.ensures.damaged tells)))
 
 pub returns-then-at-2-clause-damaged : goal.returns-then-at-2-clause-damaged
@@ -110,7 +112,8 @@ returns-then-at-2-clause-damaged g c = λ tells.
     let s = g.R.Reads.state c.args.space.now in
     let ge = c.loop-test.false in
     subst (IsWalkDamage s c.args.row.now.id c.args.row.now.first) (sym c.chain_damage.ensures)
-    (NoList (λ xs list. c.if-at-2.true (left_none s.records (c.meta-budget.result.high - c.loop.counter) c.loop.at xs (omega arith) (c.loop.invariant.left tells xs list.walk (few_owned s.records c.args.row.now.id c.args.row.now.first xs list)))))
+    (NoList (λ xs list. c.if-at-2.true (left_none s.records (c.meta-budget.result.high - c.loop.counter) c.loop.at xs (omega arith)
+    (c.loop.invariant.left tells xs list.walk (few_owned s.records c.args.row.now.id c.args.row.now.first xs list)))))
 
 pub returns-then-at-clause-few_reads : goal.returns-then-at-clause-few_reads
 returns-then-at-clause-few_reads g c = λ tells xs can.
@@ -163,7 +166,8 @@ pub returns-then-at-2-clause-sound : goal.returns-then-at-2-clause-sound
 returns-then-at-2-clause-sound g c = λ tells xs can.
     let s = g.R.Reads.state c.args.space.now in
     let ge = c.loop-test.false in
-    absurd (c.if-at-2.true (left_none s.records (c.meta-budget.result.high - c.loop.counter) c.loop.at xs (omega arith) (c.loop.invariant.left tells xs can.list.walk (few_groups s.records c.args.row.now.id c.args.row.now.first xs can.list))))
+    absurd (c.if-at-2.true (left_none s.records (c.meta-budget.result.high - c.loop.counter) c.loop.at xs (omega arith)
+    (c.loop.invariant.left tells xs can.list.walk (few_groups s.records c.args.row.now.id c.args.row.now.first xs can.list))))
 
 pub returns-in_err-rec-clause-cause : goal.returns-in_err-rec-clause-cause
 returns-in_err-rec-clause-cause g c =

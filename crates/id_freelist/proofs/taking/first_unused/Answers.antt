@@ -38,7 +38,8 @@ loop-id-preserved g c =
       same = same_more s (g.R.Reads.state c.loop-id.space) (g.R.Reads.state c.get.new.self) inv.same c.in_ok-rec.ensures.state;
       used = λ t x lt. ⊎_elim (λ (l : x < id). inv.used t x l) (λ (ge : id ≤ x). let same : id ≡ x = omega arith in
           subst (λ z. kind_at s.records c.args.file z ≢ free_kind) same (λ e. c.if-byte-eq-FREE.false (c.byte.ensures
-          ∙ sym (kind_read s (g.R.Reads.state c.loop-id.space) c.args.file c.args.mark id c.in_ok-rec.rec (ap (λ (z : State). z.records) inv.same) c.requires.mark c.loop-id-test.true (c.in_ok-rec.ensures.got t)) ∙ e))) (cases_lt x id);
+          ∙ sym (kind_read s (g.R.Reads.state c.loop-id.space) c.args.file c.args.mark id c.in_ok-rec.rec (ap (λ (z : State). z.records) inv.same)
+          c.requires.mark c.loop-id-test.true (c.in_ok-rec.ensures.got t)) ∙ e))) (cases_lt x id);
       onward = g.met.R.Reads.further_onward c.args.space.now c.loop-id.space c.get.new.self inv.onward c.in_ok-rec.ensures.onward;
       faults = let cause = c.in_ok-rec.ensures.cause in omega (arith, inv.faults, cause.later);
     }

@@ -29,13 +29,15 @@ pub returns-then-not-is_ranged-clause-refused : goal.returns-then-not-is_ranged-
 returns-then-not-is_ranged-clause-refused g c tells =
     let s = g.S.Reads.state c.args.space.now in
     subst (IsTakeFault s c.args.file) (sym c.damaged.ensures) (unranged s c.args.file
-    (tested s c.args.file c.meta-meta.result c.shape.result c.room_of-room.result c.is_ranged.result false c.meta-meta.ensures c.shape.ensures.is c.room_of-room.ensures c.is_ranged.ensures c.if-not-is_ranged.true))
+    (tested s c.args.file c.meta-meta.result c.shape.result c.room_of-room.result c.is_ranged.result false c.meta-meta.ensures c.shape.ensures.is
+    c.room_of-room.ensures c.is_ranged.ensures c.if-not-is_ranged.true))
 
 pub returns-then-not-is_ranged-clause-sound : goal.returns-then-not-is_ranged-clause-sound
 returns-then-not-is_ranged-clause-sound g c tells free can =
     let s = g.S.Reads.state c.args.space.now in
     sound_of s c.args.file (Err c.damaged.result) (subst (IsTakeFault s c.args.file) (sym c.damaged.ensures) (unranged s c.args.file
-    (tested s c.args.file c.meta-meta.result c.shape.result c.room_of-room.result c.is_ranged.result false c.meta-meta.ensures c.shape.ensures.is c.room_of-room.ensures c.is_ranged.ensures c.if-not-is_ranged.true))) free can
+    (tested s c.args.file c.meta-meta.result c.shape.result c.room_of-room.result c.is_ranged.result false c.meta-meta.ensures c.shape.ensures.is
+    c.room_of-room.ensures c.is_ranged.ensures c.if-not-is_ranged.true))) free can
 
 pub returns-then-not-is_counted-clause-refused : goal.returns-then-not-is_counted-clause-refused
 returns-then-not-is_counted-clause-refused g c tells = c.in_ok-damage.ensures.is tells

@@ -54,7 +54,8 @@ returns-in-None-clause-decided g c = λ tells.
     = subst (λ (r : Records). IfNone c.in_ok-damage-2.field-0 ((d : ℕ) → In d (map (λ (a : Definition). a.id) c.args.definitions.now) → IsRight r d))
     c.in_ok-damage.ensures.read.records (c.in_ok-damage-2.ensures.right tells) in
     let right : (d : ℕ) → In d (map (λ (a : Definition). a.id) c.args.definitions.now) → IsRight records d = search (rules, rights) in
-    indexed_of records (each_keeps records ids listed (λ d e i j l k. twin_none records ids ids none d e i j l k) all (λ d i. right d (subst (In d) (sym c.requires.named) i)))
+    indexed_of records (each_keeps records ids listed (λ d e i j l k. twin_none records ids ids none d e i j l k) all
+    (λ d i. right d (subst (In d) (sym c.requires.named) i)))
 
 pub returns-in_err-damage-2-clause-read : goal.returns-in_err-damage-2-clause-read
 returns-in_err-damage-2-clause-read g c =

@@ -43,7 +43,8 @@ loop-definition-preserved g c =
       right = λ tells.
           let right : IsRight (g.R.Reads.state c.loop-definition.space).records d.id = search (rules, c.in_ok-damage.ensures.right tells) in
           one_more_right (IsRight records) all i c.loop-definition-test.true (inv.right tells) (subst (λ (r : Records). IsRight r d.id) inv.read.records right);
-      read = is_read-on g.R.Reads g.met.R.Reads.further_onward c.args.space.now c.loop-definition.space c.check_index.new.space inv.read c.in_ok-damage.ensures.read;
+      read = is_read-on g.R.Reads g.met.R.Reads.further_onward c.args.space.now c.loop-definition.space c.check_index.new.space inv.read
+          c.in_ok-damage.ensures.read;
     }
 
 pub returns-clause-right : goal.returns-clause-right
@@ -59,7 +60,8 @@ returns-in_err-damage-clause-sound g c = λ tells readable.
 
 pub returns-in_err-damage-clause-read : goal.returns-in_err-damage-clause-read
 returns-in_err-damage-clause-read g c =
-    is_read-on g.R.Reads g.met.R.Reads.further_onward c.args.space.now c.loop-definition.space c.check_index.new.space c.loop-definition.invariant.read c.in_err-damage.ensures.read
+    is_read-on g.R.Reads g.met.R.Reads.further_onward c.args.space.now c.loop-definition.space c.check_index.new.space c.loop-definition.invariant.read
+    c.in_err-damage.ensures.read
 
 pub returns-in_err-damage-clause-cause : goal.returns-in_err-damage-clause-cause
 returns-in_err-damage-clause-cause g c =

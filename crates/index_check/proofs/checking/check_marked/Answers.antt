@@ -16,7 +16,8 @@ returns-in-Some-2-clause-broken g c = λ tells.
     let marks = c.mark_lists.new.marks in
     let all : AreAllMarked records c.args.ids.now marks = search (rules, c.in_ok-damage.ensures.right tells) in
     let found : IfSome c.in_ok-id.field-0 (λ x. ¬ (is_live records format.index_file x ≡ true → marked marks x ≡ true))
-    = subst (λ (r : Records). IfSome c.in_ok-id.field-0 (λ x. ¬ (is_live r format.index_file x ≡ true → marked marks x ≡ true))) c.in_ok-damage.ensures.read.records
+    = subst (λ (r : Records). IfSome c.in_ok-id.field-0 (λ x. ¬ (is_live r format.index_file x ≡ true → marked marks x ≡ true)))
+    c.in_ok-damage.ensures.read.records
     (c.in_ok-id.ensures.found tells) in
     let bad : ¬ (is_live records format.index_file c.in-Some-2.id ≡ true → marked marks c.in-Some-2.id ≡ true) = search (rules, found) in
     breaks_by records c.broken.result format.index_file c.in-Some-2.id c.broken.ensures (left_over records c.args.ids.now marks all c.in-Some-2.id bad)

@@ -21,7 +21,8 @@ returns-in_err-definitions-clause-read g c =
 
 pub returns-clause-read : goal.returns-clause-read
 returns-clause-read g c =
-    is_read-on g.R.Reads g.met.R.Reads.further_onward _ _ _ (is_read-on g.R.Reads g.met.R.Reads.further_onward _ _ _ c.in_ok-ids.ensures.read c.in_ok-definitions.ensures.read) c.check_definitions.ensures.read
+    is_read-on g.R.Reads g.met.R.Reads.further_onward _ _ _ (is_read-on g.R.Reads g.met.R.Reads.further_onward _ _ _ c.in_ok-ids.ensures.read
+    c.in_ok-definitions.ensures.read) c.check_definitions.ensures.read
 
 pub returns-in_err-definitions-clause-cause : goal.returns-in_err-definitions-clause-cause
 returns-in_err-definitions-clause-cause g c =

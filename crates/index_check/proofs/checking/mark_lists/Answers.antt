@@ -91,12 +91,15 @@ returns-in-None-2-clause-right g c = λ tells.
     search (rules, c.in_ok-id.ensures.marks tells) in
     let keeps : (k : ℕ) → k < 12 * length ids → HeadKeeps Always (IsHeadItem records ids) k = search (rules, c.in_ok-id.ensures.keeps tells) in
     let once : (p : ℕ) → IsOnce Always (IsHeadItem records ids) (12 * length ids) p = search (rules, c.in_ok-id.ensures.once tells) in
-    let marks_after : IfNone c.in_ok-id-2.field-0 ((p : ℕ) → Decides (marked last p) ((marked first p ≡ true) ⊎ AmongHeads Always (AreItsEntries records ids) (180 * length ids) p))
-    = subst (λ (r : Records). IfNone c.in_ok-id-2.field-0 ((p : ℕ) → Decides (marked last p) ((marked first p ≡ true) ⊎ AmongHeads Always (AreItsEntries r ids) (180 * length ids) p))) c.in_ok-id.ensures.read.records (c.in_ok-id-2.ensures.marks tells) in
+    let marks_after : IfNone c.in_ok-id-2.field-0 ((p : ℕ) → Decides (marked last p) ((marked first p ≡ true) ⊎ AmongHeads Always (AreItsEntries records ids)
+    (180 * length ids) p))
+    = subst (λ (r : Records). IfNone c.in_ok-id-2.field-0 ((p : ℕ) → Decides (marked last p) ((marked first p ≡ true) ⊎ AmongHeads Always (AreItsEntries r ids)
+    (180 * length ids) p))) c.in_ok-id.ensures.read.records (c.in_ok-id-2.ensures.marks tells) in
     let last_marks : (p : ℕ) → Decides (marked last p) ((marked first p ≡ true) ⊎ AmongHeads Always (AreItsEntries records ids) (180 * length ids) p) =
     search (rules, marks_after) in
     let keeps_after : IfNone c.in_ok-id-2.field-0 ((k : ℕ) → k < 180 * length ids → HeadKeeps Always (AreItsEntries records ids) k)
-    = subst (λ (r : Records). IfNone c.in_ok-id-2.field-0 ((k : ℕ) → k < 180 * length ids → HeadKeeps Always (AreItsEntries r ids) k)) c.in_ok-id.ensures.read.records
+    = subst (λ (r : Records). IfNone c.in_ok-id-2.field-0 ((k : ℕ) → k < 180 * length ids → HeadKeeps Always (AreItsEntries r ids) k))
+    c.in_ok-id.ensures.read.records
     (c.in_ok-id-2.ensures.keeps tells) in
     let last_keeps : (k : ℕ) → k < 180 * length ids → HeadKeeps Always (AreItsEntries records ids) k = search (rules, keeps_after) in
     let once_after : IfNone c.in_ok-id-2.field-0 ((p : ℕ) → IsOnce Always (AreItsEntries records ids) (180 * length ids) p)

@@ -53,19 +53,23 @@ returns-clause-found g c = λ tells.
 
 pub returns-in_err-ids-clause-read : goal.returns-in_err-ids-clause-read
 returns-in_err-ids-clause-read g c =
-    is_read-on g.R.Reads g.met.R.Reads.further_onward _ _ _ (is_read-get g.R.Reads _ _ c.in_ok-meta.ensures.state c.in_ok-meta.ensures.onward c.in_ok-meta.ensures.cause.later) c.in_err-ids.ensures.read
+    is_read-on g.R.Reads g.met.R.Reads.further_onward _ _ _ (is_read-get g.R.Reads _ _ c.in_ok-meta.ensures.state c.in_ok-meta.ensures.onward
+    c.in_ok-meta.ensures.cause.later) c.in_err-ids.ensures.read
 
 pub returns-in_default-clause-read : goal.returns-in_default-clause-read
 returns-in_default-clause-read g c =
-    is_read-on g.R.Reads g.met.R.Reads.further_onward _ _ _ (is_read-get g.R.Reads _ _ c.in_ok-meta.ensures.state c.in_ok-meta.ensures.onward c.in_ok-meta.ensures.cause.later) c.in_ok-ids.ensures.read
+    is_read-on g.R.Reads g.met.R.Reads.further_onward _ _ _ (is_read-get g.R.Reads _ _ c.in_ok-meta.ensures.state c.in_ok-meta.ensures.onward
+    c.in_ok-meta.ensures.cause.later) c.in_ok-ids.ensures.read
 
 pub returns-then-len-gt-MOST_INDEXES-clause-read : goal.returns-then-len-gt-MOST_INDEXES-clause-read
 returns-then-len-gt-MOST_INDEXES-clause-read g c =
-    is_read-on g.R.Reads g.met.R.Reads.further_onward _ _ _ (is_read-get g.R.Reads _ _ c.in_ok-meta.ensures.state c.in_ok-meta.ensures.onward c.in_ok-meta.ensures.cause.later) c.in_ok-ids.ensures.read
+    is_read-on g.R.Reads g.met.R.Reads.further_onward _ _ _ (is_read-get g.R.Reads _ _ c.in_ok-meta.ensures.state c.in_ok-meta.ensures.onward
+    c.in_ok-meta.ensures.cause.later) c.in_ok-ids.ensures.read
 
 pub returns-clause-read : goal.returns-clause-read
 returns-clause-read g c =
-    is_read-on g.R.Reads g.met.R.Reads.further_onward _ _ _ (is_read-get g.R.Reads _ _ c.in_ok-meta.ensures.state c.in_ok-meta.ensures.onward c.in_ok-meta.ensures.cause.later) c.in_ok-ids.ensures.read
+    is_read-on g.R.Reads g.met.R.Reads.further_onward _ _ _ (is_read-get g.R.Reads _ _ c.in_ok-meta.ensures.state c.in_ok-meta.ensures.onward
+    c.in_ok-meta.ensures.cause.later) c.in_ok-ids.ensures.read
 
 pub returns-in_err-meta-clause-found : goal.returns-in_err-meta-clause-found
 returns-in_err-meta-clause-found g c _ = never_ok c.from_residual.result _ _ c.from_residual.ensures.1

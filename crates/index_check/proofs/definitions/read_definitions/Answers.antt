@@ -35,12 +35,14 @@ loop-id-preserved g c =
           ∙ ap (λ xs. xs ++ one.id ∷ []) inv.ids
           ∙ ap (λ x. take at ids ++ x ∷ []) c.in_ok-definition.ensures.id
           ∙ sym (take_more ids at 0 c.loop-id-test.true);
-      read = is_read-on g.R.Reads g.met.R.Reads.further_onward c.args.space.now c.loop-id.space c.read_definition.new.space inv.read c.in_ok-definition.ensures.read;
+      read = is_read-on g.R.Reads g.met.R.Reads.further_onward c.args.space.now c.loop-id.space c.read_definition.new.space inv.read
+          c.in_ok-definition.ensures.read;
     }
 
 pub returns-in_err-definition-clause-read : goal.returns-in_err-definition-clause-read
 returns-in_err-definition-clause-read g c =
-    is_read-on g.R.Reads g.met.R.Reads.further_onward c.args.space.now c.loop-id.space c.read_definition.new.space c.loop-id.invariant.read c.in_err-definition.ensures.read
+    is_read-on g.R.Reads g.met.R.Reads.further_onward c.args.space.now c.loop-id.space c.read_definition.new.space c.loop-id.invariant.read
+    c.in_err-definition.ensures.read
 
 pub returns-in_err-definition-clause-cause : goal.returns-in_err-definition-clause-cause
 returns-in_err-definition-clause-cause g c =

@@ -34,7 +34,8 @@ loop-number-preserved g c =
     record {
       are = λ tells.
           let found : IsBucketList (g.R.Reads.state c.loop-number.space).records d n ids = search (rules, c.in_ok-ids.ensures.found tells) in
-          subst (AreEntriesTo records d (n + 1)) (sym items) (entries_more records d n c.loop-number.entries.items ids (inv.are tells) (subst (λ (r : Records). IsBucketList r d n ids) inv.read.records found));
+          subst (AreEntriesTo records d (n + 1)) (sym items) (entries_more records d n c.loop-number.entries.items ids (inv.are tells)
+          (subst (λ (r : Records). IsBucketList r d n ids) inv.read.records found));
       low = low_more c.meta-records.result.high format.most_ids c.loop-number.entries.items ids c.extend_from_slice.new.self.items
           (omega (arith, c.requires.low)) items inv.low few;
       read = is_read-on g.R.Reads g.met.R.Reads.further_onward c.args.space.now c.loop-number.space c.bucket_at.new.space inv.read c.in_ok-ids.ensures.read;
@@ -46,7 +47,8 @@ returns-in_err-ids-clause-cause g c =
 
 pub returns-in_err-ids-clause-read : goal.returns-in_err-ids-clause-read
 returns-in_err-ids-clause-read g c =
-    is_read-on g.R.Reads g.met.R.Reads.further_onward c.args.space.now c.loop-number.space c.bucket_at.new.space c.loop-number.invariant.read c.in_err-ids.ensures.read
+    is_read-on g.R.Reads g.met.R.Reads.further_onward c.args.space.now c.loop-number.space c.bucket_at.new.space c.loop-number.invariant.read
+    c.in_err-ids.ensures.read
 
 pub returns-clause-found : goal.returns-clause-found
 returns-clause-found g c = λ tells.

@@ -51,15 +51,19 @@ returns-clause-found g c = λ tells.
 
 pub returns-in_err-rec-2-clause-read : goal.returns-in_err-rec-2-clause-read
 returns-in_err-rec-2-clause-read g c =
-    is_read-on g.R.Reads g.met.R.Reads.further_onward _ _ _ (is_read-get g.R.Reads _ _ c.in_ok-rec.ensures.state c.in_ok-rec.ensures.onward c.in_ok-rec.ensures.cause.later) (is_read-get g.R.Reads _ _ c.in_err-rec-2.ensures.state c.in_err-rec-2.ensures.onward c.in_err-rec-2.ensures.cause.later)
+    is_read-on g.R.Reads g.met.R.Reads.further_onward _ _ _ (is_read-get g.R.Reads _ _ c.in_ok-rec.ensures.state c.in_ok-rec.ensures.onward
+    c.in_ok-rec.ensures.cause.later) (is_read-get g.R.Reads _ _ c.in_err-rec-2.ensures.state c.in_err-rec-2.ensures.onward
+    c.in_err-rec-2.ensures.cause.later)
 
 pub returns-then-byte-ne-HEADS-clause-read : goal.returns-then-byte-ne-HEADS-clause-read
 returns-then-byte-ne-HEADS-clause-read g c =
-    is_read-on g.R.Reads g.met.R.Reads.further_onward _ _ _ (is_read-get g.R.Reads _ _ c.in_ok-rec.ensures.state c.in_ok-rec.ensures.onward c.in_ok-rec.ensures.cause.later) (is_read-get g.R.Reads _ _ c.in_ok-rec-2.ensures.state c.in_ok-rec-2.ensures.onward c.in_ok-rec-2.ensures.cause.later)
+    is_read-on g.R.Reads g.met.R.Reads.further_onward _ _ _ (is_read-get g.R.Reads _ _ c.in_ok-rec.ensures.state c.in_ok-rec.ensures.onward
+    c.in_ok-rec.ensures.cause.later) (is_read-get g.R.Reads _ _ c.in_ok-rec-2.ensures.state c.in_ok-rec-2.ensures.onward c.in_ok-rec-2.ensures.cause.later)
 
 pub returns-clause-read : goal.returns-clause-read
 returns-clause-read g c =
-    is_read-on g.R.Reads g.met.R.Reads.further_onward _ _ _ (is_read-get g.R.Reads _ _ c.in_ok-rec.ensures.state c.in_ok-rec.ensures.onward c.in_ok-rec.ensures.cause.later) (is_read-get g.R.Reads _ _ c.in_ok-rec-2.ensures.state c.in_ok-rec-2.ensures.onward c.in_ok-rec-2.ensures.cause.later)
+    is_read-on g.R.Reads g.met.R.Reads.further_onward _ _ _ (is_read-get g.R.Reads _ _ c.in_ok-rec.ensures.state c.in_ok-rec.ensures.onward
+    c.in_ok-rec.ensures.cause.later) (is_read-get g.R.Reads _ _ c.in_ok-rec-2.ensures.state c.in_ok-rec-2.ensures.onward c.in_ok-rec-2.ensures.cause.later)
 
 pub returns-in_err-rec-clause-found : goal.returns-in_err-rec-clause-found
 returns-in_err-rec-clause-found g c _ = never_ok c.from_residual.result _ _ c.from_residual.ensures.1

@@ -49,7 +49,8 @@ returns-in-Some-2-clause-broken g c = λ tells.
     let nodes = c.in-Nodes.nodes.items in
     let n = c.in-Some-2.node in
     let are : AreEntriesTo records d.id 180 entries = search (rules, c.in_ok-entries.ensures.found tells) in
-    let told = nodes_told records _ d c.deref.result.now entries c.in_ok-id.field-0 (Nodes c.in-Nodes.nodes) c.in_ok-entries.ensures.read.records c.deref.ensures.value
+    let told = nodes_told records _ d c.deref.result.now entries c.in_ok-id.field-0 (Nodes c.in-Nodes.nodes) c.in_ok-entries.ensures.read.records
+    c.deref.ensures.value
     c.in-Nodes.is (c.in_ok-id.ensures.told tells) in
     let found : IsWrongNode (g.R.Reads.state c.nodes_of.new.space).records d c.deref-in-Nodes.result.now n =
     search (rules, c.in_ok-node-in-Nodes.ensures.found tells) in
@@ -66,7 +67,8 @@ returns-clause-right g c = λ tells.
     let entries = c.in-Some.entries.items in
     let nodes = c.in-Nodes.nodes.items in
     let are : AreEntriesTo records d.id 180 entries = search (rules, c.in_ok-entries.ensures.found tells) in
-    let told = nodes_told records _ d c.deref.result.now entries c.in_ok-id.field-0 (Nodes c.in-Nodes.nodes) c.in_ok-entries.ensures.read.records c.deref.ensures.value
+    let told = nodes_told records _ d c.deref.result.now entries c.in_ok-id.field-0 (Nodes c.in-Nodes.nodes) c.in_ok-entries.ensures.read.records
+    c.deref.ensures.value
     c.in-Nodes.is (c.in_ok-id.ensures.told tells) in
     let found : AreNodesRight (g.R.Reads.state c.nodes_of.new.space).records d c.deref-in-Nodes.result.now =
     search (rules, c.in_ok-node-in-Nodes.ensures.none tells) in
@@ -85,15 +87,18 @@ returns-in-Unwanted-clause-read g c =
 
 pub returns-in_err-node-in-Nodes-clause-read : goal.returns-in_err-node-in-Nodes-clause-read
 returns-in_err-node-in-Nodes-clause-read g c =
-    is_read-on g.R.Reads g.met.R.Reads.further_onward _ _ _ (is_read-on g.R.Reads g.met.R.Reads.further_onward _ _ _ c.in_ok-entries.ensures.read c.in_ok-id.ensures.read) c.in_err-node-in-Nodes.ensures.read
+    is_read-on g.R.Reads g.met.R.Reads.further_onward _ _ _ (is_read-on g.R.Reads g.met.R.Reads.further_onward _ _ _ c.in_ok-entries.ensures.read
+    c.in_ok-id.ensures.read) c.in_err-node-in-Nodes.ensures.read
 
 pub returns-in-Some-2-clause-read : goal.returns-in-Some-2-clause-read
 returns-in-Some-2-clause-read g c =
-    is_read-on g.R.Reads g.met.R.Reads.further_onward _ _ _ (is_read-on g.R.Reads g.met.R.Reads.further_onward _ _ _ c.in_ok-entries.ensures.read c.in_ok-id.ensures.read) c.in_ok-node-in-Nodes.ensures.read
+    is_read-on g.R.Reads g.met.R.Reads.further_onward _ _ _ (is_read-on g.R.Reads g.met.R.Reads.further_onward _ _ _ c.in_ok-entries.ensures.read
+    c.in_ok-id.ensures.read) c.in_ok-node-in-Nodes.ensures.read
 
 pub returns-clause-read : goal.returns-clause-read
 returns-clause-read g c =
-    is_read-on g.R.Reads g.met.R.Reads.further_onward _ _ _ (is_read-on g.R.Reads g.met.R.Reads.further_onward _ _ _ c.in_ok-entries.ensures.read c.in_ok-id.ensures.read) c.in_ok-node-in-Nodes.ensures.read
+    is_read-on g.R.Reads g.met.R.Reads.further_onward _ _ _ (is_read-on g.R.Reads g.met.R.Reads.further_onward _ _ _ c.in_ok-entries.ensures.read
+    c.in_ok-id.ensures.read) c.in_ok-node-in-Nodes.ensures.read
 
 pub returns-in_err-id-clause-cause : goal.returns-in_err-id-clause-cause
 returns-in_err-id-clause-cause g c =

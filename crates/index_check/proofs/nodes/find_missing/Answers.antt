@@ -40,8 +40,10 @@ loop-node-preserved g c =
     let no : c.in_ok-is_missing.field-0 ≡ false = search rules in
     record {
       met = λ tells. one_more (λ k. HasValue records d k → marked marks k ≡ true) n (inv.met tells)
-          (met_of records d n (marked marks n) c.in_ok-is_missing.field-0 no (subst (λ (r : Records). Decides c.in_ok-is_missing.field-0 (IsMissing r d n (marked marks n))) inv.read.records (c.in_ok-is_missing.ensures.told tells)));
-      read = is_read-on g.R.Reads g.met.R.Reads.further_onward c.args.space.now c.loop-node.space c.is_missing.new.space inv.read c.in_ok-is_missing.ensures.read;
+          (met_of records d n (marked marks n) c.in_ok-is_missing.field-0 no (subst (λ (r : Records). Decides c.in_ok-is_missing.field-0
+          (IsMissing r d n (marked marks n))) inv.read.records (c.in_ok-is_missing.ensures.told tells)));
+      read = is_read-on g.R.Reads g.met.R.Reads.further_onward c.args.space.now c.loop-node.space c.is_missing.new.space inv.read
+          c.in_ok-is_missing.ensures.read;
     }
 
 pub returns-then-branch-clause-found : goal.returns-then-branch-clause-found
@@ -72,7 +74,8 @@ returns-in_err-is_missing-clause-cause g c =
 
 pub returns-in_err-is_missing-clause-read : goal.returns-in_err-is_missing-clause-read
 returns-in_err-is_missing-clause-read g c =
-    is_read-on g.R.Reads g.met.R.Reads.further_onward c.args.space.now c.loop-node.space c.is_missing.new.space c.loop-node.invariant.read c.in_err-is_missing.ensures.read
+    is_read-on g.R.Reads g.met.R.Reads.further_onward c.args.space.now c.loop-node.space c.is_missing.new.space c.loop-node.invariant.read
+    c.in_err-is_missing.ensures.read
 
 pub returns-in_err-is_missing-clause-none : goal.returns-in_err-is_missing-clause-none
 returns-in_err-is_missing-clause-none g c _ = never_ok c.from_residual.result _ _ c.from_residual.ensures.1

@@ -9,7 +9,8 @@ use Rattle.index_check.proofs.nodes.mark_once.Goals as goal
 -- one mark more
 marked_more : (marks : List Bool) (n p : ℕ) → n < length marks → marked (set marks n true) p ≡ (nat_eq p n || marked marks p)
 marked_more marks n p lt = ⊎_elim
-    (λ (e : p ≡ n). subst (λ z. marked (set marks n true) z ≡ (nat_eq z n || marked marks z)) (sym e) (get_or-set_same marks n true false lt ∙ sym (ap (λ b. b || marked marks n) (eq_true n n refl))))
+    (λ (e : p ≡ n). subst (λ z. marked (set marks n true) z ≡ (nat_eq z n || marked marks z)) (sym e) (get_or-set_same marks n true false lt ∙ sym
+    (ap (λ b. b || marked marks n) (eq_true n n refl))))
     (λ (ne : p ≢ n). get_or-set_other marks n p true false ne ∙ sym (ap (λ b. b || marked marks p) (eq_false p n ne)))
     (nat_cases p n)
 

@@ -50,7 +50,8 @@ loop-id-preserved g c =
     let node = c.in-Some.node in
     let items : c.push.new.self.items ≡ c.loop-id.nodes.items ++ node ∷ [] = search rules in
     let wanted : g.R.Reads.tells → IsNodeOf records d x node
-    = λ tells. subst (λ (r : Records). IsNodeOf r d x node) inv.read.records (let w : IsNodeOf (g.R.Reads.state c.loop-id.space).records d x node = search (rules, c.in_ok-node.ensures.wanted tells) in w) in
+    = λ tells. subst (λ (r : Records). IsNodeOf r d x node) inv.read.records (let w : IsNodeOf (g.R.Reads.state c.loop-id.space).records d x node = search
+    (rules, c.in_ok-node.ensures.wanted tells) in w) in
     let below : node < high (g.R.Reads.state c.loop-id.space).records format.nodes_file = search (rules, c.in_ok-node.ensures.low) in
     record {
       nodes = λ tells.
@@ -61,7 +62,8 @@ loop-id-preserved g c =
       wanted = λ tells. one_more_in (λ y. wanted_in records (said_by records d y) ≡ true) entries i c.loop-id-test.true (inv.wanted tells)
           (wanted tells).wanted;
       low = subst (All (λ n. n < high records format.nodes_file)) (sym items)
-          (All-append (λ n. n < high records format.nodes_file) c.loop-id.nodes.items (node ∷ []) inv.low (one_low node (high records format.nodes_file) (subst (λ (r : Records). node < high r format.nodes_file) inv.read.records below)));
+          (All-append (λ n. n < high records format.nodes_file) c.loop-id.nodes.items (node ∷ []) inv.low (one_low node (high records format.nodes_file)
+          (subst (λ (r : Records). node < high r format.nodes_file) inv.read.records below)));
       read = is_read-on g.R.Reads g.met.R.Reads.further_onward c.args.space.now c.loop-id.space c.node_of.new.space inv.read c.in_ok-node.ensures.read;
     }
 
@@ -81,8 +83,11 @@ returns-clause-told g c = λ tells.
     let records = (g.R.Reads.state c.args.space.now).records in
     let entries = c.args.entries.now in
     let i = c.loop-id.id-index in
-    let all : take i entries ≡ entries = take_all i entries (omega arith) in
-    (c.loop-id.invariant.nodes tells ∙ ap (map (entry_node records)) all, (λ (x : ℕ) (m : In x entries). c.loop-id.invariant.wanted tells x (subst (In x) (sym all) m)))
+    let all : take i entries ≡ entries = take_all i entries (omega arith) in (
+      c.loop-id.invariant.nodes tells ∙ ap (map (entry_node records)) all,
+      (λ (x : ℕ) (m : In x entries). c.loop-id.invariant.wanted tells x
+          (subst (In x) (sym all) m)),
+    )
 
 pub returns-in_err-node-clause-read : goal.returns-in_err-node-clause-read
 returns-in_err-node-clause-read g c =

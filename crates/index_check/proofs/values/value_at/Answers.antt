@@ -24,7 +24,8 @@ returns-then-node-meta-clause-is g c = λ tells.
     let records = (g.R.Reads.state c.args.space.now).records in
     let mark : c.meta.result.high ≡ high records format.nodes_file = ap (λ (m : Meta). m.high) c.meta.ensures in
     let past : high records format.nodes_file ≤ c.args.node = omega (arith, c.if-node-meta.true) in
-    sym (value_free records c.args.label c.args.key c.args.node (kind_high (high records format.nodes_file) (rec_at records format.nodes_file c.args.node) c.args.node past))
+    sym (value_free records c.args.label c.args.key c.args.node (kind_high (high records format.nodes_file) (rec_at records format.nodes_file c.args.node)
+    c.args.node past))
 
 pub returns-then-byte-eq-FREE-clause-is : goal.returns-then-byte-eq-FREE-clause-is
 returns-then-byte-eq-FREE-clause-is g c = λ tells.
@@ -58,13 +59,17 @@ returns-clause-is g c = λ tells.
 
 pub returns-clause-read : goal.returns-clause-read
 returns-clause-read g c =
-    is_read-on g.R.Reads g.met.R.Reads.further_onward _ _ _ (is_read-get g.R.Reads _ _ c.in_ok-rec.ensures.state c.in_ok-rec.ensures.onward c.in_ok-rec.ensures.cause.later)
-    (is_read-gets g.R.Reads c.in_ok-value.ensures.at_most.count _ _ c.in_ok-value.ensures.at_most.is c.in_ok-value.ensures.onward c.in_ok-value.ensures.cause.later)
+    is_read-on g.R.Reads g.met.R.Reads.further_onward _ _ _ (is_read-get g.R.Reads _ _ c.in_ok-rec.ensures.state c.in_ok-rec.ensures.onward
+    c.in_ok-rec.ensures.cause.later)
+    (is_read-gets g.R.Reads c.in_ok-value.ensures.at_most.count _ _ c.in_ok-value.ensures.at_most.is c.in_ok-value.ensures.onward
+    c.in_ok-value.ensures.cause.later)
 
 pub returns-in_err-value-clause-read : goal.returns-in_err-value-clause-read
 returns-in_err-value-clause-read g c =
-    is_read-on g.R.Reads g.met.R.Reads.further_onward _ _ _ (is_read-get g.R.Reads _ _ c.in_ok-rec.ensures.state c.in_ok-rec.ensures.onward c.in_ok-rec.ensures.cause.later)
-    (is_read-gets g.R.Reads c.in_err-value.ensures.at_most.count _ _ c.in_err-value.ensures.at_most.is c.in_err-value.ensures.onward c.in_err-value.ensures.cause.later)
+    is_read-on g.R.Reads g.met.R.Reads.further_onward _ _ _ (is_read-get g.R.Reads _ _ c.in_ok-rec.ensures.state c.in_ok-rec.ensures.onward
+    c.in_ok-rec.ensures.cause.later)
+    (is_read-gets g.R.Reads c.in_err-value.ensures.at_most.count _ _ c.in_err-value.ensures.at_most.is c.in_err-value.ensures.onward
+    c.in_err-value.ensures.cause.later)
 
 pub returns-in_err-value-clause-sound : goal.returns-in_err-value-clause-sound
 returns-in_err-value-clause-sound g c = λ tells readable.
@@ -74,7 +79,8 @@ returns-in_err-value-clause-sound g c = λ tells readable.
     let kind = kind_read records format.nodes_file c.args.node c.in_ok-rec.rec low (c.in_ok-rec.ensures.got tells) in
     let has = readable c.args.node (λ z. c.if-byte-eq-FREE.false (c.byte.ensures ∙ sym kind ∙ z)) in
     sound_exit c.from_residual-in_err-value.result c.in_err-value.field-0.0 c.from_residual-in_err-value.ensures.1
-    (c.in_err-value.ensures.sound tells has.0 (subst (λ (s : State). HasProperties s.records (node_owner c.args.node) has.0) (sym c.in_ok-rec.ensures.state) has.1))
+    (c.in_err-value.ensures.sound tells has.0 (subst (λ (s : State). HasProperties s.records (node_owner c.args.node) has.0) (sym c.in_ok-rec.ensures.state)
+    has.1))
 
 pub returns-in_err-value-clause-cause : goal.returns-in_err-value-clause-cause
 returns-in_err-value-clause-cause g c =

@@ -86,7 +86,8 @@ returns-in_err-load_next-clause-sound g c = λ tells right.
     let p = err_from_is_err_and c.from_residual.result c.from_residual.ensures.1 in
     let fault = c.in_err-load_next.ensures.damaged tells (subst (λ records. HoldsFirst records c.each.names.names) (sym there) (c.each.invariant.first tells))
     in
-    rw (p.1, p.2) (NotDamaged-loadable s.records c.in_err-load_next.field-0.0 right (subst (λ records. IsLoadFault records c.in_err-load_next.field-0.0) there fault))
+    rw (p.1, p.2) (NotDamaged-loadable s.records c.in_err-load_next.field-0.0 right (subst (λ records. IsLoadFault records c.in_err-load_next.field-0.0)
+    there fault))
 
 pub returns-in_err-load_next-clause-at_most : goal.returns-in_err-load_next-clause-at_most
 returns-in_err-load_next-clause-at_most g c =
@@ -107,5 +108,6 @@ returns-clause-right g c = λ tells.
     let s = g.R.Reads.state c.args.space.now in
     let mark : c.meta-high.result.high ≡ name_mark s.records = ap (λ (m : Meta). m.high) c.meta-high.ensures in
     let long : length c.each.names.names ≡ name_mark s.records = omega (arith, c.each-test.false, c.count.ensures.value, c.each.invariant.count) in
-    let all = subst (AreLoadableTo s.records) long (AreLoadableTo-first s.records c.each.names.names c.count.ensures.are_names (c.each.invariant.first tells) (c.each.invariant.form tells)) in
+    let all = subst (AreLoadableTo s.records) long (AreLoadableTo-first s.records c.each.names.names c.count.ensures.are_names (c.each.invariant.first tells)
+    (c.each.invariant.form tells)) in
     record { mark = omega arith; form = all.form; names = all.names }

@@ -15,7 +15,8 @@ use Rattle.path_find.proofs.checking.all_spread.Goals as goal
 pub returns-in_err-spreads-clause-damaged : goal.returns-in_err-spreads-clause-damaged
 returns-in_err-spreads-clause-damaged g c = λ tells.
     let p = err_from_is_err_and c.from_residual.result c.from_residual.ensures.1 in
-    rw (p.1, p.2) (broken-read g.R.Reads g.met.R.Reads.onward_shape c.args.reads.now c.loop-row.reads c.loop-row.invariant.read c.in_err-spreads.field-0.0 (c.in_err-spreads.ensures.damaged tells))
+    rw (p.1, p.2) (broken-read g.R.Reads g.met.R.Reads.onward_shape c.args.reads.now c.loop-row.reads c.loop-row.invariant.read c.in_err-spreads.field-0.0
+    (c.in_err-spreads.ensures.damaged tells))
 
 pub returns-then-not-spreads-clause-no : goal.returns-then-not-spreads-clause-no
 returns-then-not-spreads-clause-no g c = λ tells store. λ all.
@@ -48,7 +49,8 @@ loop-row-preserved g c = record {
         let at_old = subst (λ (s : State). IsSpreadAt (neighbours_at s c.args.direction c.args.labels.now) levels c.args.edges row) same mid in
         let here : index ≡ k = omega arith in
         subst (λ i. IsSpreadAt (neighbours_at old c.args.direction c.args.labels.now) levels c.args.edges (get_or levels i d)) here
-        (subst (IsSpreadAt (neighbours_at old c.args.direction c.args.labels.now) levels c.args.edges) (sym (get_or_default levels index d (level_of 0 0) c.loop-row-test.true)) at_old)
+        (subst (IsSpreadAt (neighbours_at old c.args.direction c.args.labels.now) levels c.args.edges) (sym (get_or_default levels index d (level_of 0 0)
+        c.loop-row-test.true)) at_old)
   ];
 }
 

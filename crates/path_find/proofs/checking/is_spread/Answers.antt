@@ -19,7 +19,8 @@ pub returns-then-is_last-clause-yes : goal.returns-then-is_last-clause-yes
 returns-then-is_last-clause-yes g c = λ tells store.
     let near = neighbours_at (g.R.Reads.state c.args.reads.now) c.args.direction c.args.labels.now in
     OnTrue_from c.in_ok-there.there (IsSpreadAt near c.args.levels.now c.args.edges c.args.row)
-    (λ e. last_spreads near c.args.levels.now c.args.row c.args.edges (sym c.is_past.ensures ∙ c.if-is_past.false) (sym c.is_last.ensures ∙ c.if-is_last.true) (sym (c.in_ok-there.ensures.is tells store) ∙ e))
+    (λ e. last_spreads near c.args.levels.now c.args.row c.args.edges (sym c.is_past.ensures ∙ c.if-is_past.false) (sym c.is_last.ensures ∙ c.if-is_last.true)
+    (sym (c.in_ok-there.ensures.is tells store) ∙ e))
 
 pub returns-then-is_last-clause-no : goal.returns-then-is_last-clause-no
 returns-then-is_last-clause-no g c = λ tells store.
@@ -47,7 +48,8 @@ returns-in-Some-clause-no g c = λ tells store.
     let are = rw c.in-Some.is at c.in_ok-found.ensures.some tells store in
     OnFalse_from c.are_held.result (¬ IsSpreadAt near c.args.levels.now c.args.edges c.args.row)
     (λ e. inner_fails near c.args.levels.now c.args.row c.in-Some.ends.items are c.args.edges
-    (λ held. OnFalse_at e c.are_held.ensures.no (subst (λ (ends : List ℕ). AreIn c.args.levels.now c.args.edges c.args.row ends) (sym c.deref.ensures.value) held)))
+    (λ held. OnFalse_at e c.are_held.ensures.no (subst (λ (ends : List ℕ). AreIn c.args.levels.now c.args.edges c.args.row ends) (sym c.deref.ensures.value)
+    held)))
 
 pub returns-in-None-clause-no : goal.returns-in-None-clause-no
 returns-in-None-clause-no g c = λ tells store. λ spread.

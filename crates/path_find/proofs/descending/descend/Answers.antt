@@ -16,7 +16,8 @@ use Rattle.path_find.proofs.descending.descend.Goals as goal
 pub returns-in_err-next-clause-damaged : goal.returns-in_err-next-clause-damaged
 returns-in_err-next-clause-damaged g c = λ tells.
     let p = err_from_is_err_and c.from_residual.result c.from_residual.ensures.1 in
-    rw (p.1, p.2) (broken-read g.R.Reads g.met.R.Reads.onward_shape c.args.space.now c.loop-level.space c.loop-level.invariant.read c.in_err-next.field-0.0 (c.in_err-next.ensures.damaged tells))
+    rw (p.1, p.2) (broken-read g.R.Reads g.met.R.Reads.onward_shape c.args.space.now c.loop-level.space c.loop-level.invariant.read c.in_err-next.field-0.0
+    (c.in_err-next.ensures.damaged tells))
 
 pub loop-level-init : goal.loop-level-init
 loop-level-init g c = record {
@@ -25,7 +26,8 @@ loop-level-init g c = record {
   read = is_read-none g.R.Reads g.met.R.Reads.stays_onward c.args.space.now;
   level = λ tells store can. sym c.level-level.ensures;
   descends = λ tells store can rest long descends.
-      subst (λ (list : List ℕ). IsDescent (neighbours_at (g.R.Reads.state c.args.space.now) c.args.direction c.args.labels.now) c.args.tree.now c.args.row (list ++ rest)) (sym c.new-way.ensures.items) descends;
+      subst (λ (list : List ℕ). IsDescent (neighbours_at (g.R.Reads.state c.args.space.now) c.args.direction c.args.labels.now) c.args.tree.now c.args.row
+      (list ++ rest)) (sym c.new-way.ensures.items) descends;
 }
 
 pub loop-level-preserved : goal.loop-level-preserved

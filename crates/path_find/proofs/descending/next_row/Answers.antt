@@ -18,7 +18,8 @@ returns-in-Some-clause-next g c = λ tells store nearer.
     let are = rw c.in-Some.is at c.in_ok-found.ensures.some tells store in
     let ascend = rw c.in-Some.is at c.in_ok-found.ensures.ascending in
     next_from_first near rows c.args.at c.args.level c.first_at_level.result ends (subst (λ n. AreNeighbours near n ends) c.node-node.ensures are) ascend nearer
-    (subst (λ (list : List ℕ). SomeAtLevel rows c.args.level list → IsFirstAtLevel rows c.args.level list c.first_at_level.result) c.deref.ensures.value c.first_at_level.ensures.is)
+    (subst (λ (list : List ℕ). SomeAtLevel rows c.args.level list → IsFirstAtLevel rows c.args.level list c.first_at_level.result) c.deref.ensures.value
+    c.first_at_level.ensures.is)
 
 pub returns-in-None-clause-next : goal.returns-in-None-clause-next
 returns-in-None-clause-next g c = λ tells store nearer.

@@ -125,7 +125,8 @@ returns-in_err-tree-clause-cause g c =
 
 pub returns-in_err-answer-clause-cause : goal.returns-in_err-answer-clause-cause
 returns-in_err-answer-clause-cause g c =
-    expand_memory_cause _ _ c.from_residual-in_err-answer.result (later_on (later_on c.in_ok-from_there.ensures.cause.later c.in_ok-to_there.ensures.cause.later) c.in_ok-tree.ensures.cause.later) c.from_residual-in_err-answer.ensures.1
+    expand_memory_cause _ _ c.from_residual-in_err-answer.result (later_on (later_on c.in_ok-from_there.ensures.cause.later
+    c.in_ok-to_there.ensures.cause.later) c.in_ok-tree.ensures.cause.later) c.from_residual-in_err-answer.ensures.1
 
 pub returns-in_err-from_there-clause-found : goal.returns-in_err-from_there-clause-found
 returns-in_err-from_there-clause-found g c _ _ _ _ = never_ok c.from_residual.result _ _ c.from_residual.ensures.1
@@ -176,7 +177,8 @@ returns-in_err-to_there-clause-read g c =
 
 pub returns-in_err-tree-clause-read : goal.returns-in_err-tree-clause-read
 returns-in_err-tree-clause-read g c =
-    is_read-on g.R.Reads g.met.R.Reads.further_onward _ _ _ (is_read-on g.R.Reads g.met.R.Reads.further_onward _ _ _ c.is_node.ensures.read c.is_node-2.ensures.read) c.search.ensures.read
+    is_read-on g.R.Reads g.met.R.Reads.further_onward _ _ _ (is_read-on g.R.Reads g.met.R.Reads.further_onward _ _ _ c.is_node.ensures.read
+    c.is_node-2.ensures.read) c.search.ensures.read
 
 pub returns-in_err-answer-clause-damaged : goal.returns-in_err-answer-clause-damaged
 returns-in_err-answer-clause-damaged g c _ = same_has _ c.from_residual-in_err-answer.result _ c.from_residual-in_err-answer.ensures.1 tt

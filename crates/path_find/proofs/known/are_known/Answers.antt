@@ -13,7 +13,8 @@ loop-end-preserved c = λ k lt. elim (cases_lt k c.loop-end.end-index) [
 ]
 
 pub returns-in-None-clause-no : goal.returns-in-None-clause-no
-returns-in-None-clause-no c = λ all. c.in-None.ensures.none (all (get_or c.args.ends.now c.loop-end.end-index 0) (Contains-get_or c.args.ends.now c.loop-end.end-index 0 c.loop-end-test.true))
+returns-in-None-clause-no c = λ all. c.in-None.ensures.none (all (get_or c.args.ends.now c.loop-end.end-index 0)
+    (Contains-get_or c.args.ends.now c.loop-end.end-index 0 c.loop-end-test.true))
 
 pub returns-clause-yes : goal.returns-clause-yes
 returns-clause-yes c = λ end has.

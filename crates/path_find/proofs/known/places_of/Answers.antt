@@ -32,7 +32,8 @@ loop-level-preserved c =
     let fresh = not_true (list_any (nat_eq row.node) places) (sym c.in_ok-is_new.ensures.is_new ∙ c.if-not-is_new.false) in
     let added = c.in_ok-is_new.ensures.added ∙ ap (λ b. cond b (places ++ row.node ∷ []) places) c.if-not-is_new.false in
     subst (λ (nodes : List ℕ). AreSomePlaces levels nodes (index + 1)) (sym added)
-    (places_more levels places index c.loop-level.invariant c.loop-level-test.true row (λ d. get_or_default levels index d (level_of 0 0) c.loop-level-test.true) fresh)
+    (places_more levels places index c.loop-level.invariant c.loop-level-test.true row (λ d. get_or_default levels index d (level_of 0 0)
+    c.loop-level-test.true) fresh)
 
 pub returns-in_err-is_new-clause-some : goal.returns-in_err-is_new-clause-some
 returns-in_err-is_new-clause-some c = never_ok c.from_residual.result _ _ c.from_residual.ensures.1

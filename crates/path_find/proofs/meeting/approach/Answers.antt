@@ -14,7 +14,8 @@ returns-in_ok-grow-clause-apart g c =
     let other = c.args.behind.now.tree in
     let met = c.in_ok-grow.ensures in
     OnFalse_from c.has_shared.result (AreApart old other → AreApart new other) (λ e. λ apart.
-    apart_ahead old new other c.args.ahead.now.done met.grows apart (subst (λ n. AreApartFrom new n (row_count new) other) met.done (OnFalse_at e c.has_shared.ensures.no)))
+    apart_ahead old new other c.args.ahead.now.done met.grows apart (subst (λ n. AreApartFrom new n (row_count new) other) met.done
+    (OnFalse_at e c.has_shared.ensures.no)))
 
 pub returns-in_ok-grow-clause-closer : goal.returns-in_ok-grow-clause-closer
 returns-in_ok-grow-clause-closer g c = λ ahead_depth behind_depth ahead_layers behind_layers.
@@ -47,7 +48,8 @@ returns-in_ok-grow-2-clause-apart g c =
     let new = c.grow-else-width_of.new.reach.tree in
     let met = c.in_ok-grow-2.ensures in
     OnFalse_from c.has_shared-else-width_of.result (AreApart ahead old → AreApart ahead new) (λ e. λ apart.
-    apart_behind ahead old new c.args.behind.now.done met.grows apart (subst (λ n. AreApartFrom new n (row_count new) ahead) met.done (OnFalse_at e c.has_shared-else-width_of.ensures.no)))
+    apart_behind ahead old new c.args.behind.now.done met.grows apart (subst (λ n. AreApartFrom new n (row_count new) ahead) met.done
+    (OnFalse_at e c.has_shared-else-width_of.ensures.no)))
 
 pub returns-in_ok-grow-2-clause-closer : goal.returns-in_ok-grow-2-clause-closer
 returns-in_ok-grow-2-clause-closer g c = λ ahead_depth behind_depth ahead_layers behind_layers.

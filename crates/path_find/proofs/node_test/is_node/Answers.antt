@@ -6,10 +6,12 @@ use Rattle.rec_bytes.proofs.Causes.{never_ok}
 use Rattle.path_find.proofs.node_test.is_node.Goals as goal
 
 pub returns-in-Some-clause-is : goal.returns-in-Some-clause-is
-returns-in-Some-clause-is g c = λ tells store. sym (one_there (g.R.Reads.state c.args.reads.now) c.args.id c.in-Some.field-0 (sym c.in-Some.is ∙ c.in_ok-load.ensures.found tells))
+returns-in-Some-clause-is g c = λ tells store. sym (one_there (g.R.Reads.state c.args.reads.now) c.args.id c.in-Some.field-0
+    (sym c.in-Some.is ∙ c.in_ok-load.ensures.found tells))
 
 pub returns-in-None-clause-is : goal.returns-in-None-clause-is
-returns-in-None-clause-is g c = λ tells store. sym (none_there (g.R.Reads.state c.args.reads.now) c.args.id (sym c.in-None.is ∙ c.in_ok-load.ensures.found tells))
+returns-in-None-clause-is g c = λ tells store. sym (none_there (g.R.Reads.state c.args.reads.now) c.args.id (sym c.in-None.is ∙ c.in_ok-load.ensures.found
+    tells))
 
 pub returns-in-None-clause-row : goal.returns-in-None-clause-row
 returns-in-None-clause-row g c = λ tells. sym (sym c.in-None.is ∙ c.in_ok-load.ensures.found tells)

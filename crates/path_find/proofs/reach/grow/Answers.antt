@@ -21,7 +21,8 @@ clash e = cc
 pub returns-in_err-found-clause-damaged : goal.returns-in_err-found-clause-damaged
 returns-in_err-found-clause-damaged g c = λ tells.
     let p = err_from_is_err_and c.from_residual.result c.from_residual.ensures.1 in
-    rw (p.1, p.2) (broken-read g.R.Reads g.met.R.Reads.onward_shape c.args.space.now c.loop-row.space c.loop-row.invariant.read c.in_err-found.field-0.0 (c.in_err-found.ensures.damaged tells))
+    rw (p.1, p.2) (broken-read g.R.Reads g.met.R.Reads.onward_shape c.args.space.now c.loop-row.space c.loop-row.invariant.read c.in_err-found.field-0.0
+    (c.in_err-found.ensures.damaged tells))
 
 pub loop-row-init : goal.loop-row-init
 loop-row-init g c = record {

@@ -25,7 +25,8 @@ loop-preserved c =
       level = let same = ap (level_at rows) parent in omega (arith, level, up, same);
       end = end;
       way = subst (λ p. way_to rows (level_at rows c.args.row) c.args.row ≡ way_to rows (level_at rows p) p ++ reverse c.push.new.self.items) (sym parent)
-          (way_back rows c.requires.tree.done tree at old.low (way_to rows (level_at rows c.args.row) c.args.row) c.loop.walk.items c.push.new.self.items some old.way pushed);
+          (way_back rows c.requires.tree.done tree at old.low (way_to rows (level_at rows c.args.row) c.args.row) c.loop.walk.items c.push.new.self.items some
+          old.way pushed);
     }
 
 pub returns-in_err-push : goal.returns-in_err-push

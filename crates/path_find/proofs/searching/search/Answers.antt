@@ -50,7 +50,8 @@ returns-clause-spans g c = λ tells store there.
 pub returns-in_err-found-clause-damaged : goal.returns-in_err-found-clause-damaged
 returns-in_err-found-clause-damaged g c = λ tells.
     let p = err_from_is_err_and c.from_residual-in_err-found.result c.from_residual-in_err-found.ensures.1 in
-    rw (p.1, p.2) (broken-read g.R.Reads g.met.R.Reads.onward_shape c.args.space.now c.loop-row.space c.loop-row.invariant.read c.in_err-found.field-0.0 (c.in_err-found.ensures.damaged tells))
+    rw (p.1, p.2) (broken-read g.R.Reads g.met.R.Reads.onward_shape c.args.space.now c.loop-row.space c.loop-row.invariant.read c.in_err-found.field-0.0
+    (c.in_err-found.ensures.damaged tells))
 
 pub loop-row-preserved : goal.loop-row-preserved
 loop-row-preserved g c =

@@ -22,7 +22,8 @@ returns-in-Some-clause-no g c = λ tells store.
     let are = rw c.in-Some.is at c.in_ok-found.ensures.some tells store in
     let near = neighbours_at (g.R.Reads.state c.args.reads.now) c.args.direction c.args.labels.now in
     OnFalse_from c.has_node.result (¬ IsStep near c.args.node c.args.next)
-    (λ e. λ step. OnFalse_at e c.has_node.ensures.no (subst (λ (ends : List ℕ). Contains ends c.args.next) (sym c.deref.ensures.value) (are.all c.args.next step.edge)))
+    (λ e. λ step. OnFalse_at e c.has_node.ensures.no (subst (λ (ends : List ℕ). Contains ends c.args.next) (sym c.deref.ensures.value)
+    (are.all c.args.next step.edge)))
 
 pub returns-in-None-clause-no : goal.returns-in-None-clause-no
 returns-in-None-clause-no g c = λ tells store. λ step.

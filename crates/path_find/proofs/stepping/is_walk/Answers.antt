@@ -21,7 +21,8 @@ some_in n b is none = let not : n ≡ 0 → ⊥ = eqb-false n 0 (sym is ∙ none
 pub returns-then-walk-last-clause-no : goal.returns-then-walk-last-clause-no
 returns-then-walk-last-clause-no g c = λ tells store. λ is.
     let near = neighbours_at (g.R.Reads.state c.args.reads.now) c.args.direction c.args.labels.now in
-    c.if-walk-last.true (last-from_walk near c.args.from c.args.to c.args.walk.now (some_in (length c.args.walk.now) c.is_empty.result c.is_empty.ensures c.if-is_empty.false) is).0
+    c.if-walk-last.true (last-from_walk near c.args.from c.args.to c.args.walk.now (some_in (length c.args.walk.now) c.is_empty.result c.is_empty.ensures
+    c.if-is_empty.false) is).0
 
 pub returns-then-not-steps-clause-no : goal.returns-then-not-steps-clause-no
 returns-then-not-steps-clause-no g c = λ tells store. λ is.

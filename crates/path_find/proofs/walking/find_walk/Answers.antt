@@ -56,7 +56,8 @@ returns-in_err-walk-clause-missing g c = λ tells store.
     let same = same-read g.R.Reads g.met.R.Reads.onward_shape c.args.reads.now c.is_node.new.reads c.is_node.ensures.read in
     let both = ends_there s (g.R.Reads.state c.is_node.new.reads) same store c.args.from c.args.to c.in_ok-from_there.from_there c.in_ok-to_there.to_there
     (c.in_ok-from_there.ensures.is tells store) c.if-not-from_there.false (c.in_ok-to_there.ensures.is tells) c.if-not-to_there.false in
-    rw (p.1, p.2) (search_tells (List ℕ) c.args.from c.args.to (has_node (graph_in s) c.args.from) (has_node (graph_in s) c.args.to) c.in_err-walk.field-0.0 both)
+    rw (p.1, p.2) (search_tells (List ℕ) c.args.from c.args.to (has_node (graph_in s) c.args.from) (has_node (graph_in s) c.args.to) c.in_err-walk.field-0.0
+    both)
 
 pub returns-clause-missing : goal.returns-clause-missing
 returns-clause-missing g c = λ tells store.
@@ -117,4 +118,5 @@ returns-in_err-to_there-clause-read g c =
 
 pub returns-in_err-walk-clause-read : goal.returns-in_err-walk-clause-read
 returns-in_err-walk-clause-read g c =
-    is_read-on g.R.Reads g.met.R.Reads.further_onward _ _ _ (is_read-on g.R.Reads g.met.R.Reads.further_onward _ _ _ c.is_node.ensures.read c.is_node-2.ensures.read) c.meet.ensures.read
+    is_read-on g.R.Reads g.met.R.Reads.further_onward _ _ _ (is_read-on g.R.Reads g.met.R.Reads.further_onward _ _ _ c.is_node.ensures.read
+    c.is_node-2.ensures.read) c.meet.ensures.read

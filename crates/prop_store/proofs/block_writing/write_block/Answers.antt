@@ -15,7 +15,8 @@ use Rattle.prop_store.proofs.block_writing.write_block.Goals as goal
 pub returns-in_err-id-clause-refused : goal.returns-in_err-id-clause-refused
 returns-in_err-id-clause-refused g c tells keeps =
     let p = err_from_is_err_and c.from_residual.result c.from_residual.ensures.1 in
-    rw (p.1, p.2) (cannot_take (g.S.Reads.state c.args.space.now) c.in_err-id.field-0.0 (c.in_err-id.ensures.refused tells) (c.in_err-id.ensures.sound tells) keeps)
+    rw (p.1, p.2) (cannot_take (g.S.Reads.state c.args.space.now) c.in_err-id.field-0.0 (c.in_err-id.ensures.refused tells) (c.in_err-id.ensures.sound tells)
+    keeps)
 
 pub returns-clause-written : goal.returns-clause-written
 returns-clause-written g c tells keeps follows =
@@ -41,7 +42,8 @@ pub returns-clause-touches : goal.returns-clause-touches
 returns-clause-touches g c =
     let took = touches_block_taken (g.S.Reads.state c.args.space.now) (g.S.Reads.state c.take.new.space)
     (record { writes = c.take.ensures.writes; stays = c.take.ensures.stays }) in
-    touches_then [] 0 0 0 1 0 1 _ _ _ (omega arith) (omega arith) took (touches_block (g.S.Reads.state c.take.new.space) (g.S.Reads.state c.put.new.self) c.in_ok-id.id c.block_record.result c.in_ok-put.ensures.ok)
+    touches_then [] 0 0 0 1 0 1 _ _ _ (omega arith) (omega arith) took (touches_block (g.S.Reads.state c.take.new.space) (g.S.Reads.state c.put.new.self)
+    c.in_ok-id.id c.block_record.result c.in_ok-put.ensures.ok)
 
 pub returns-in_err-id-clause-damaged : goal.returns-in_err-id-clause-damaged
 returns-in_err-id-clause-damaged g c tells =

@@ -53,7 +53,8 @@ loop-left-preserved g c =
           let stands = c.loop-left.invariant.stands tells keeps in
           one_written old now (drop (48 * left) text) c.loop-left.first shape stands then (drop (48 * (left - 1)) text) c.piece_at.result.now
           c.in_ok-first.first c.piece_at.ensures (drop-piece (left - 1) left text (omega arith)) size.2
-          (c.in_ok-first.ensures.written tells (keeps_now old now (drop (48 * left) text) c.loop-left.first shape stands) (may_follow old now (drop (48 * left) text) c.loop-left.first shape stands));
+          (c.in_ok-first.ensures.written tells (keeps_now old now (drop (48 * left) text) c.loop-left.first shape stands)
+          (may_follow old now (drop (48 * left) text) c.loop-left.first shape stands));
       few = omega arith;
       beside = λ tells. beside_then strings_file old.records now.records then.records (c.loop-left.invariant.beside tells) (c.in_ok-first.ensures.beside tells);
       harmless = λ tells. harms_none_then old now then strings_file (c.loop-left.invariant.harmless tells) (c.in_ok-first.ensures.harmless tells);

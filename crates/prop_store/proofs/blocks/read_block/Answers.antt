@@ -65,7 +65,8 @@ returns-then-id-eq-NIL-clause-damaged g c tells =
 pub returns-in_err-test_link-clause-damaged : goal.returns-in_err-test_link-clause-damaged
 returns-in_err-test_link-clause-damaged g c tells =
     let p = err_from_is_err_and c.from_residual.result c.from_residual.ensures.1 in
-    rw (p.1, p.2) (block_link (g.R.Reads.state c.args.space.now) c.args.property c.args.from c.args.id c.args.size c.in_err-test_link.field-0.0 c.if-id-eq-NIL.false c.in_err-test_link.ensures.damaged)
+    rw (p.1, p.2) (block_link (g.R.Reads.state c.args.space.now) c.args.property c.args.from c.args.id c.args.size c.in_err-test_link.field-0.0
+    c.if-id-eq-NIL.false c.in_err-test_link.ensures.damaged)
 
 pub returns-in_err-test_link-clause-cause : goal.returns-in_err-test_link-clause-cause
 returns-in_err-test_link-clause-cause g c =
@@ -77,7 +78,8 @@ returns-then-not-is_known-clause-damaged g c tells =
     let s = g.R.Reads.state c.args.space.now in
     subst (IsBlockFault s c.args.property c.args.from c.args.id c.args.size) (sym c.damaged-then-not-is_known.ensures)
     (Unknown (λ k. fails c.is_known.result _ c.is_known.ensures c.if-not-is_known.true
-    (subst IsBlockKind (kind_read s c.args.id c.get_into.new.rec c.in_ok-test_link.ensures.given.low (c.in_ok-get_into.ensures.got tells) ∙ sym c.byte.ensures) k)))
+    (subst IsBlockKind (kind_read s c.args.id c.get_into.new.rec c.in_ok-test_link.ensures.given.low (c.in_ok-get_into.ensures.got tells) ∙ sym c.byte.ensures)
+    k)))
 
 pub returns-then-not-has_form-clause-damaged : goal.returns-then-not-has_form-clause-damaged
 returns-then-not-has_form-clause-damaged g c tells =
@@ -100,7 +102,8 @@ returns-clause-block g c tells =
     let form : HasBlockForm c.get_into.new.rec c.args.size = holds c.has_form.result _ c.has_form.ensures c.if-not-has_form.false in
     record {
       some = c.if-id-eq-NIL.false;
-      used = λ e. absurd (let z : block ≡ free_kind = sym form.kind ∙ sym (kind_read s c.args.id c.get_into.new.rec c.in_ok-test_link.ensures.given.low got) ∙ e in omega arith);
+      used = λ e. absurd (let z : block ≡ free_kind = sym form.kind ∙ sym (kind_read s c.args.id c.get_into.new.rec c.in_ok-test_link.ensures.given.low got)
+          ∙ e in omega arith);
       size_is = ap (λ r. field 1 r block_length) (sym got) ∙ form.length_is;
     }
 

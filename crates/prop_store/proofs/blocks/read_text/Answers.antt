@@ -102,14 +102,16 @@ returns-in_err-read_block-clause-damaged g c tells text =
     let now = g.R.Reads.state c.loop-left.space in
     let reads = c.loop-left.invariant.reads in
     same_has (IsTextFault old c.args.property) c.from_residual.result c.in_err-read_block.field-0.0 c.from_residual.ensures.1
-    (block_fault old now (reads_records _ old now reads) (ap (λ (z : State). z.shape) (reads_same _ old now reads)) c.args.property c.loop-left.from c.loop-left.at c.loop-left.left c.piece_size-piece.result c.in_err-read_block.field-0.0 text.long
+    (block_fault old now (reads_records _ old now reads) (ap (λ (z : State). z.shape) (reads_same _ old now reads)) c.args.property c.loop-left.from
+    c.loop-left.at c.loop-left.left c.piece_size-piece.result c.in_err-read_block.field-0.0 text.long
     (c.loop-left.invariant.reached tells text) (omega (arith, c.loop-left-test.true)) c.piece_size-piece.ensures (c.in_err-read_block.ensures.damaged tells))
 
 pub returns-then-at-clause-damaged : goal.returns-then-at-clause-damaged
 returns-then-at-clause-damaged g c tells text =
     let old = g.R.Reads.state c.args.space.now in
     subst (IsTextFault old c.args.property) (sym c.damaged.ensures)
-    (text_too_long old c.args.property c.loop-left.from c.loop-left.at c.loop-left.left text.long (c.loop-left.invariant.reached tells text) (omega (arith, c.loop-left-test.false)) c.if-at.true)
+    (text_too_long old c.args.property c.loop-left.from c.loop-left.at c.loop-left.left text.long (c.loop-left.invariant.reached tells text)
+    (omega (arith, c.loop-left-test.false)) c.if-at.true)
 
 pub returns-in_err-read_block-clause-met : goal.returns-in_err-read_block-clause-met
 returns-in_err-read_block-clause-met g c _ = never_ok c.from_residual.result _ _ c.from_residual.ensures.1

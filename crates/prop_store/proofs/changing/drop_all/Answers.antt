@@ -37,7 +37,8 @@ drop_chain-requires-clause-first g c tells =
 drops : (g : Over) (c : In_ok-dropped g) → g.S.Reads.tells → (es : List Property) → AreHeld (g.S.Reads.state c.first.new.space) c.in_ok-first.first es
     → DropsProperties (g.S.Reads.state c.args.space.now) (g.S.Reads.state c.drop_chain.new.space) es c.in_ok-dropped.dropped
 drops g c tells es at = drops_read _ _ es c.in_ok-dropped.dropped
-    (subst (λ (z : State). DropsProperties z (g.S.Reads.state c.drop_chain.new.space) es c.in_ok-dropped.dropped) c.first.ensures.state (c.in_ok-dropped.ensures.dropped tells es at))
+    (subst (λ (z : State). DropsProperties z (g.S.Reads.state c.drop_chain.new.space) es c.in_ok-dropped.dropped) c.first.ensures.state
+    (c.in_ok-dropped.ensures.dropped tells es at))
 
 pub returns-in_err-dropped-clause-alone_sound : goal.returns-in_err-dropped-clause-alone_sound
 returns-in_err-dropped-clause-alone_sound g c tells es owns =
@@ -63,7 +64,8 @@ returns-in_ok-set_number-clause-dropped g c tells has =
     let s = g.S.Reads.state c.args.space.now in
     drops_graph s c.args.owner c.requires.owner has (g.S.Reads.state c.set_number.new.space) c.in_ok-dropped.dropped
     (returns-in_ok-set_number-clause-alone g c tells _ (owns_listed s c.args.owner c.requires.owner has))
-    (ap (λ (z : State). z.shape) (c.in_ok-set_number.ensures.ok tells) ∙ g.met.S.Reads.onward_shape _ _ c.drop_chain.ensures.onward ∙ ap (λ (z : State). z.shape) c.first.ensures.state)
+    (ap (λ (z : State). z.shape) (c.in_ok-set_number.ensures.ok tells) ∙ g.met.S.Reads.onward_shape _ _ c.drop_chain.ensures.onward ∙ ap
+    (λ (z : State). z.shape) c.first.ensures.state)
 
 pub returns-else-first-clause-alone : goal.returns-else-first-clause-alone
 returns-else-first-clause-alone g c tells es owns =
@@ -93,7 +95,8 @@ returns-in_err-set_number-clause-at_most g c =
     let dropped = touches_beside (c.args.owner.key ∷ []) 32 704 (g.S.Reads.state c.first.new.space) (g.S.Reads.state c.drop_chain.new.space)
     c.drop_chain.ensures.at_most in
     touches_after _ 32 704 _ _ _ (reads_same 1 _ _ (reads_one 1 _ _ (omega arith) c.first.ensures.state))
-    (touches_then _ 32 704 0 0 32 704 _ _ _ (omega arith) (omega arith) dropped (touches_reads _ 0 0 _ _ (reads_same 1 _ _ (reads_one 1 _ _ (omega arith) c.in_err-set_number.ensures.err))))
+    (touches_then _ 32 704 0 0 32 704 _ _ _ (omega arith) (omega arith) dropped (touches_reads _ 0 0 _ _ (reads_same 1 _ _ (reads_one 1 _ _ (omega arith)
+    c.in_err-set_number.ensures.err))))
 
 pub returns-in_ok-set_number-clause-touches : goal.returns-in_ok-set_number-clause-touches
 returns-in_ok-set_number-clause-touches g c =
@@ -102,7 +105,8 @@ returns-in_ok-set_number-clause-touches g c =
     let dropped = touches_beside (c.args.owner.key ∷ []) n m (g.S.Reads.state c.first.new.space) (g.S.Reads.state c.drop_chain.new.space)
     c.in_ok-dropped.ensures.touches in
     touches_after _ n m _ _ _ (reads_same 1 _ _ (reads_one 1 _ _ (omega arith) c.first.ensures.state))
-    (touches_then _ n m 0 0 n m _ _ _ (omega arith) (omega arith) dropped (touches_owner _ _ c.args.owner.key 4 c.args.owner.field _ c.set_number.ensures.writes c.in_ok-set_number.ensures.ok))
+    (touches_then _ n m 0 0 n m _ _ _ (omega arith) (omega arith) dropped (touches_owner _ _ c.args.owner.key 4 c.args.owner.field _ c.set_number.ensures.writes
+    c.in_ok-set_number.ensures.ok))
 
 pub returns-in_ok-set_number-clause-at_most : goal.returns-in_ok-set_number-clause-at_most
 returns-in_ok-set_number-clause-at_most g c =
@@ -160,7 +164,8 @@ returns-in_err-dropped-clause-unwritten g c =
     let t = g.S.Reads.state c.drop_chain.new.space in
     same_has (λ fault. IfSome (damage_of fault) (λ _. SameButReads s t)) c.from_residual-in_err-dropped.result c.in_err-dropped.field-0.0
     c.from_residual-in_err-dropped.ensures.1
-    (unwritten_after s m t c.in_err-dropped.field-0.0 (reads_same 1 s m (reads_one 1 s m (omega arith) c.first.ensures.state)) c.in_err-dropped.ensures.unwritten)
+    (unwritten_after s m t c.in_err-dropped.field-0.0 (reads_same 1 s m (reads_one 1 s m (omega arith) c.first.ensures.state))
+    c.in_err-dropped.ensures.unwritten)
 
 pub returns-in_err-set_number-clause-unwritten : goal.returns-in_err-set_number-clause-unwritten
 returns-in_err-set_number-clause-unwritten g c =
@@ -191,12 +196,14 @@ returns-in_err-dropped-clause-leaves g c tells = left_after g.S.Reads.tells 32 7
 
 pub returns-in_err-set_number-clause-leaves : goal.returns-in_err-set_number-clause-leaves
 returns-in_err-set_number-clause-leaves g c tells = left_then _ _ _ c.args.owner
-    (left_after g.S.Reads.tells 32 704 _ _ _ c.args.owner c.requires.owner tells (reads_same 1 _ _ (reads_one 1 _ _ (omega arith) c.first.ensures.state)) c.drop_chain.ensures.at_most)
+    (left_after g.S.Reads.tells 32 704 _ _ _ c.args.owner c.requires.owner tells (reads_same 1 _ _ (reads_one 1 _ _ (omega arith) c.first.ensures.state))
+    c.drop_chain.ensures.at_most)
     (left_read _ _ c.args.owner (reads_same 1 _ _ (reads_one 1 _ _ (omega arith) c.in_err-set_number.ensures.err)))
 
 pub returns-in_ok-set_number-clause-leaves : goal.returns-in_ok-set_number-clause-leaves
 returns-in_ok-set_number-clause-leaves g c tells = left_then _ _ _ c.args.owner
-    (left_after g.S.Reads.tells 32 704 _ _ _ c.args.owner c.requires.owner tells (reads_same 1 _ _ (reads_one 1 _ _ (omega arith) c.first.ensures.state)) c.drop_chain.ensures.at_most)
+    (left_after g.S.Reads.tells 32 704 _ _ _ c.args.owner c.requires.owner tells (reads_same 1 _ _ (reads_one 1 _ _ (omega arith) c.first.ensures.state))
+    c.drop_chain.ensures.at_most)
     (left_set _ _ c.args.owner _ (c.in_ok-set_number.ensures.ok tells))
 
 pub returns-else-first-clause-leaves : goal.returns-else-first-clause-leaves

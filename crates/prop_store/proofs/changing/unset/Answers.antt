@@ -96,7 +96,8 @@ returns-in_ok-set_number-in-Found-clause-unset g c tells has =
     let s = g.S.Reads.state c.args.space.now in
     removes_graph s c.args.owner c.requires.owner has.element (g.S.Reads.state c.set_number.new.space) c.args.key c.in_ok-released-in-Found.released
     (returns-in_ok-set_number-in-Found-clause-alone g c tells _ (owns_listed s c.args.owner c.requires.owner has.element))
-    (ap (λ (z : State). z.shape) (c.in_ok-set_number-in-Found.ensures.ok tells) ∙ g.met.S.Reads.onward_shape _ _ c.drop_property.ensures.onward ∙ ap (λ (z : State). z.shape) (reads_same 33 _ _ c.find.ensures.at_most))
+    (ap (λ (z : State). z.shape) (c.in_ok-set_number-in-Found.ensures.ok tells) ∙ g.met.S.Reads.onward_shape _ _ c.drop_property.ensures.onward ∙ ap
+    (λ (z : State). z.shape) (reads_same 33 _ _ c.find.ensures.at_most))
 
 pub returns-in_ok-set_number-in-Found-clause-writes : goal.returns-in_ok-set_number-in-Found-clause-writes
 returns-in_ok-set_number-in-Found-clause-writes g c =
@@ -107,7 +108,8 @@ returns-in_ok-set_number-in-Found-clause-writes g c =
     let n = c.in_ok-released-in-Found.released in
     let placed = subst (IsPlaced c.args.owner c.args.key c.find.new.row) c.in-Found.is c.in_ok-find.ensures.placed in
     at_most_then (1 + n) 1 (2 + n) s m t (omega arith)
-    (at_most_then 0 (1 + n) (1 + n) s r m (omega arith) (reads_write 0 s r (reads_same 33 _ _ c.find.ensures.at_most)) (touched_count 1 n (1 + n) r m (omega arith) c.in_ok-released-in-Found.ensures.touches))
+    (at_most_then 0 (1 + n) (1 + n) s r m (omega arith) (reads_write 0 s r (reads_same 33 _ _ c.find.ensures.at_most)) (touched_count 1 n (1 + n) r m
+    (omega arith) c.in_ok-released-in-Found.ensures.touches))
     (one_writes m t c.in-Found.link.key placed.links.own c.set_number.ensures.writes)
 
 pub returns-in_err-find-clause-at_most : goal.returns-in_err-find-clause-at_most
@@ -121,14 +123,16 @@ returns-in-Absent-clause-at_most g c = touches_reads _ 2 22 _ _ (reads_same 33 _
 
 pub returns-in_err-released-in-Found-clause-at_most : goal.returns-in_err-released-in-Found-clause-at_most
 returns-in_err-released-in-Found-clause-at_most g c =
-    touches_more _ 1 22 2 22 _ _ (omega arith) (omega arith) (touches_after _ 1 22 _ _ _ (reads_same 33 _ _ c.find.ensures.at_most) (touches_beside _ 1 22 _ _ c.drop_property.ensures.at_most))
+    touches_more _ 1 22 2 22 _ _ (omega arith) (omega arith) (touches_after _ 1 22 _ _ _ (reads_same 33 _ _ c.find.ensures.at_most)
+    (touches_beside _ 1 22 _ _ c.drop_property.ensures.at_most))
 
 pub returns-in_err-set_number-in-Found-clause-at_most : goal.returns-in_err-set_number-in-Found-clause-at_most
 returns-in_err-set_number-in-Found-clause-at_most g c =
     let dropped = touches_beside (c.args.owner.key ∷ []) 1 22 (g.S.Reads.state c.find.new.space) (g.S.Reads.state c.drop_property.new.space)
     c.drop_property.ensures.at_most in
     touches_after _ 2 22 _ _ _ (reads_same 33 _ _ c.find.ensures.at_most)
-    (touches_then _ 1 22 0 0 2 22 _ _ _ (omega arith) (omega arith) dropped (touches_reads _ 0 0 _ _ (reads_same 1 _ _ (reads_one 1 _ _ (omega arith) c.in_err-set_number-in-Found.ensures.err))))
+    (touches_then _ 1 22 0 0 2 22 _ _ _ (omega arith) (omega arith) dropped (touches_reads _ 0 0 _ _ (reads_same 1 _ _ (reads_one 1 _ _ (omega arith)
+    c.in_err-set_number-in-Found.ensures.err))))
 
 pub returns-in_ok-set_number-in-Found-clause-touches : goal.returns-in_ok-set_number-in-Found-clause-touches
 returns-in_ok-set_number-in-Found-clause-touches g c =
@@ -138,7 +142,8 @@ returns-in_ok-set_number-in-Found-clause-touches g c =
     let placed = subst (IsPlaced c.args.owner c.args.key c.find.new.row) c.in-Found.is c.in_ok-find.ensures.placed in
     touches_after _ 2 n _ _ _ (reads_same 33 _ _ c.find.ensures.at_most)
     (touches_then _ 1 n 1 0 2 n _ _ _ (omega arith) (omega arith) dropped
-    (touches_link c.args.owner c.in-Found.link _ _ 4 c.in-Found.link.field c.number-next.result placed.from c.set_number.ensures.writes c.in_ok-set_number-in-Found.ensures.ok))
+    (touches_link c.args.owner c.in-Found.link _ _ 4 c.in-Found.link.field c.number-next.result placed.from c.set_number.ensures.writes
+    c.in_ok-set_number-in-Found.ensures.ok))
 
 pub returns-in_ok-set_number-in-Found-clause-at_most : goal.returns-in_ok-set_number-in-Found-clause-at_most
 returns-in_ok-set_number-in-Found-clause-at_most g c =
@@ -165,7 +170,8 @@ returns-in_err-set_number-in-Found-clause-few_writes g c =
     let r = g.S.Reads.state c.find.new.space in
     let m = g.S.Reads.state c.drop_property.new.space in
     at_most_then 0 23 24 _ r _ (omega arith) (reads_write 0 _ r (reads_same 33 _ _ c.find.ensures.at_most))
-    (at_most_then 23 0 23 r m _ (omega arith) (touched_count 1 22 23 r m (omega arith) c.drop_property.ensures.at_most) (reads_write 0 m _ (reads_same 1 _ _ (reads_one 1 _ _ (omega arith) c.in_err-set_number-in-Found.ensures.err))))
+    (at_most_then 23 0 23 r m _ (omega arith) (touched_count 1 22 23 r m (omega arith) c.drop_property.ensures.at_most)
+    (reads_write 0 m _ (reads_same 1 _ _ (reads_one 1 _ _ (omega arith) c.in_err-set_number-in-Found.ensures.err))))
 
 pub returns-in_ok-set_number-in-Found-clause-few_writes : goal.returns-in_ok-set_number-in-Found-clause-few_writes
 returns-in_ok-set_number-in-Found-clause-few_writes g c =
@@ -174,7 +180,8 @@ returns-in_ok-set_number-in-Found-clause-few_writes g c =
     let t = g.S.Reads.state c.set_number.new.space in
     let placed = subst (IsPlaced c.args.owner c.args.key c.find.new.row) c.in-Found.is c.in_ok-find.ensures.placed in
     at_most_then 23 1 24 _ m t (omega arith)
-    (at_most_then 0 23 23 _ r m (omega arith) (reads_write 0 _ r (reads_same 33 _ _ c.find.ensures.at_most)) (touched_count 1 22 23 r m (omega arith) c.drop_property.ensures.at_most))
+    (at_most_then 0 23 23 _ r m (omega arith) (reads_write 0 _ r (reads_same 33 _ _ c.find.ensures.at_most)) (touched_count 1 22 23 r m (omega arith)
+    c.drop_property.ensures.at_most))
     (one_writes m t c.in-Found.link.key placed.links.own c.set_number.ensures.writes)
 
 -- ---- which record is blamed
@@ -195,7 +202,8 @@ returns-in_err-released-in-Found-clause-damaged g c tells used =
     same_has (BlamesBroken s.records s.shape) c.from_residual-in_err-released-in-Found.result c.in_err-released-in-Found.field-0.0
     c.from_residual-in_err-released-in-Found.ensures.1
     (text_blames s c.find.new.row.id c.in_err-released-in-Found.field-0.0
-    (text_fault_same s r (reads_records 33 s r reads) (ap (λ (z : State). z.shape) (reads_same 33 s r reads)) c.find.new.row.id c.in_err-released-in-Found.field-0.0 (c.in_err-released-in-Found.ensures.damaged tells read)))
+    (text_fault_same s r (reads_records 33 s r reads) (ap (λ (z : State). z.shape) (reads_same 33 s r reads)) c.find.new.row.id
+    c.in_err-released-in-Found.field-0.0 (c.in_err-released-in-Found.ensures.damaged tells read)))
 
 pub returns-in_err-set_number-in-Found-clause-damaged : goal.returns-in_err-set_number-in-Found-clause-damaged
 returns-in_err-set_number-in-Found-clause-damaged g c tells used =

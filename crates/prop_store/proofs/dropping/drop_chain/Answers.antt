@@ -68,7 +68,8 @@ returns-in_err-release_properties-clause-at_most g c =
     let few = c.as_slice-ids.ensures.fits in
     let few_blocks = c.as_slice-blocks.ensures.fits in
     touches_more [] (length c.as_slice-ids.result.now) (length c.as_slice-blocks.result.now) 32 704 _ _ (omega arith) (omega arith)
-    (touches_all _ _ _ _ c.as_slice-ids.result.now c.as_slice-blocks.result.now (reads_same 736 _ _ c.find_held.ensures.at_most) c.release.ensures.touches c.release_properties.ensures.touches)
+    (touches_all _ _ _ _ c.as_slice-ids.result.now c.as_slice-blocks.result.now (reads_same 736 _ _ c.find_held.ensures.at_most) c.release.ensures.touches
+    c.release_properties.ensures.touches)
 
 pub returns-clause-touches : goal.returns-clause-touches
 returns-clause-touches g c =

@@ -51,7 +51,8 @@ pub returns-in_err-give-clause-at_most : goal.returns-in_err-give-clause-at_most
 returns-in_err-give-clause-at_most g c =
     let few = c.as_slice-ids.ensures.few in
     touches_more [] 1 (length c.as_slice-ids.result.now) 1 22 _ _ (omega arith) (omega arith)
-    (touches_dropped _ _ _ _ c.args.row.now.id c.as_slice-ids.result.now (reads_same 22 _ _ c.value_blocks.ensures.at_most) c.release.ensures.touches (record { writes = c.give.ensures.writes; stays = c.give.ensures.stays }))
+    (touches_dropped _ _ _ _ c.args.row.now.id c.as_slice-ids.result.now (reads_same 22 _ _ c.value_blocks.ensures.at_most) c.release.ensures.touches
+    (record { writes = c.give.ensures.writes; stays = c.give.ensures.stays }))
 
 pub returns-clause-touches : goal.returns-clause-touches
 returns-clause-touches g c =

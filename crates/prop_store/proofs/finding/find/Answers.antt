@@ -36,7 +36,8 @@ returns-clause-damaged g c = rw c.in_ok-first.ensures.state at c.find_from.ensur
 pub returns-clause-cost : goal.returns-clause-cost
 returns-clause-cost g c = λ tells es are.
     costs_after (λ search. length es) (λ search. 1 + length es) _ _ _ c.find_from.result (λ search. omega arith) c.in_ok-first.ensures.state
-    (c.find_from.ensures.cost tells es (subst (λ (s : State). AreProperties (property_records s.records) (first_of s.records c.args.owner) es) (sym c.in_ok-first.ensures.state) are))
+    (c.find_from.ensures.cost tells es (subst (λ (s : State). AreProperties (property_records s.records) (first_of s.records c.args.owner) es)
+    (sym c.in_ok-first.ensures.state) are))
 
 pub returns-clause-at_most : goal.returns-clause-at_most
 returns-clause-at_most g c = reads_after 32 33 _ _ _ (omega arith) c.in_ok-first.ensures.state c.find_from.ensures.at_most

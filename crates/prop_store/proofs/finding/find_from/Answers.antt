@@ -29,7 +29,12 @@ loop-count-init g c = record {
   passed = λ tells. zero-add _ ∙ ap (λ z. length (ahead (g.R.Reads.state c.args.space.now).records z 0)) (c.requires.first tells);
   reached = λ tells. reached_first (g.R.Reads.state c.args.space.now).records c.args.owner c.of-link.result.key c.args.first
       (ap (λ (z : Link). z.key) c.of-link.ensures) (c.requires.first tells);
-  link = subst IsLink (sym c.of-link.ensures) (record { key = c.requires.owner.key; own = meta_of_element c.args.owner.key.file c.requires.owner.file; place = place_within c.args.owner c.requires.owner });
+  link = subst IsLink (sym c.of-link.ensures) (record {
+    key = c.requires.owner.key;
+    own = meta_of_element c.args.owner.key.file c.requires.owner.file;
+    place =
+        place_within c.args.owner c.requires.owner;
+  });
   from = subst (IsLinkOf c.args.owner) (sym c.of-link.ensures) (inl refl);
   reads = reads_none _ _;
   onward = g.met.R.Reads.stays_onward _;
@@ -39,8 +44,11 @@ loop-count-init g c = record {
 pub returns-then-at-clause-met : goal.returns-then-at-clause-met
 returns-then-at-clause-met g c tells =
     let old = g.R.Reads.state c.args.space.now in
-    let none = ahead_none old.records c.loop-count.at c.loop-count.count c.if-at.true in
-    (sym (c.loop-count.invariant.met tells) ∙ ap (λ es. property_of es c.args.key) none, all_passed c.loop-count.count (ahead old.records c.loop-count.at c.loop-count.count) none ∙ c.loop-count.invariant.passed tells)
+    let none = ahead_none old.records c.loop-count.at c.loop-count.count c.if-at.true in (
+      sym (c.loop-count.invariant.met tells) ∙ ap (λ es. property_of es c.args.key) none,
+      all_passed c.loop-count.count (ahead old.records c.loop-count.at
+          c.loop-count.count) none ∙ c.loop-count.invariant.passed tells,
+    )
 
 pub returns-then-at-clause-found : goal.returns-then-at-clause-found
 returns-then-at-clause-found g c tells es are =
@@ -100,8 +108,11 @@ loop-count-preserved g c =
           let its : here.property.key ≡ field 4 c.property_at.new.row.rec property_key = sym here.is.key
           ∙ ap (λ r. field 4 r property_key) (ap (rec_at old.records properties_file) (sym here.at_is) ∙ sym rec_is) in
           walk_after (property_records old.records) es c.loop-count.at c.loop-count.count _ _ here c.property_at.new.row.rec c.number-at.result rec_is
-          c.number-at.ensures
-          (c.after-link.ensures ∙ ap next_link here.at_is ∙ sym (link_after-one (link_of c.args.owner) here.passed here.property), keys_passed here.passed here.property c.args.key here.kept.1 (λ e. c.if-number-key.false (c.number.ensures ∙ sym its ∙ e)));
+          c.number-at.ensures (
+            c.after-link.ensures ∙ ap next_link here.at_is ∙ sym (link_after-one (link_of c.args.owner) here.passed here.property),
+            keys_passed here.passed
+                here.property c.args.key here.kept.1 (λ e. c.if-number-key.false (c.number.ensures ∙ sym its ∙ e)),
+          );
       met = λ tells.
           passed_by old.records c.args.key c.loop-count.at c.loop-count.count c.number-at.result c.property_at.new.row.rec _ c.if-at.false (omega arith)
           (c.in_ok-property_at.ensures.got tells ∙ ap (λ r. rec_at r properties_file c.loop-count.at) (reads_records _ old now c.loop-count.invariant.reads))
@@ -116,9 +127,18 @@ loop-count-preserved g c =
           let rec_is = c.in_ok-property_at.ensures.got tells ∙ ap (λ r. rec_at r properties_file c.loop-count.at) same in
           reached_next old.records c.args.owner c.loop-count.link.key c.after-link.result.key c.loop-count.at c.loop-count.count c.number-at.result
           (c.loop-count.invariant.reached tells) c.if-at.false
-          (subst (λ (z : ℕ). kind_at old.records properties_file z ≢ free_kind) c.in_ok-property_at.ensures.row.id_is (subst (λ (r : Records). kind_at r properties_file c.property_at.new.row.id ≢ free_kind) same (c.in_ok-property_at.ensures.read tells).used))
+          (subst (λ (z : ℕ). kind_at old.records properties_file z ≢ free_kind) c.in_ok-property_at.ensures.row.id_is
+          (subst (λ (r : Records). kind_at r properties_file c.property_at.new.row.id ≢ free_kind) same (c.in_ok-property_at.ensures.read tells).used))
           (c.number-at.ensures ∙ ap (λ r. field 4 r property_next) rec_is) (ap (λ (z : Link). z.key) c.after-link.ensures);
-      link = subst IsLink (sym c.after-link.ensures) (record { key = record { file = refl; id = subst (λ z. z < most_ids) c.in_ok-property_at.ensures.row.id_is c.in_ok-property_at.ensures.row.small }; own = refl; place = omega arith });
+      link = subst IsLink (sym c.after-link.ensures) (record {
+        key = record {
+          file = refl;
+          id = subst (λ z. z < most_ids) c.in_ok-property_at.ensures.row.id_is
+              c.in_ok-property_at.ensures.row.small;
+        };
+        own = refl;
+        place = omega arith;
+      });
       from = subst (IsLinkOf c.args.owner) (sym c.after-link.ensures) (inr refl);
       reads = reads_then _ 1 _ _ _ _ (omega arith) c.loop-count.invariant.reads c.in_ok-property_at.ensures.at_most;
       onward = g.met.R.Reads.further_onward _ _ _ c.loop-count.invariant.onward c.in_ok-property_at.ensures.onward;
@@ -136,8 +156,11 @@ pub returns-clause-met : goal.returns-clause-met
 returns-clause-met g c tells =
     let old = g.R.Reads.state c.args.space.now in
     let none = ahead_over old.records c.loop-count.at c.loop-count.count (omega arith) in
-    let all : 32 ≡ c.loop-count.count = omega (arith, c.loop-count.auto.count-end) in
-    (sym (c.loop-count.invariant.met tells) ∙ ap (λ es. property_of es c.args.key) none, all ∙ all_passed c.loop-count.count (ahead old.records c.loop-count.at c.loop-count.count) none ∙ c.loop-count.invariant.passed tells)
+    let all : 32 ≡ c.loop-count.count = omega (arith, c.loop-count.auto.count-end) in (
+      sym (c.loop-count.invariant.met tells) ∙ ap (λ es. property_of es c.args.key) none,
+      all ∙ all_passed c.loop-count.count (ahead old.records c.loop-count.at
+          c.loop-count.count) none ∙ c.loop-count.invariant.passed tells,
+    )
 
 -- ---- which record is blamed
 
@@ -147,18 +170,22 @@ returns-in_err-property_at-clause-damaged g c tells used =
     let now = g.R.Reads.state c.loop-count.space in
     let reads = c.loop-count.invariant.reads in
     same_has (BlamesBroken old.records old.shape) c.from_residual.result c.in_err-property_at.field-0.0 c.from_residual.ensures.1
-    (row_blames old c.args.owner c.requires.owner used c.loop-count.link.key c.loop-count.at c.loop-count.count (c.loop-count.invariant.reached tells) c.if-at.false c.in_err-property_at.field-0.0
-    (row_fault_same old now (reads_records _ old now reads) (ap (λ (z : State). z.shape) (reads_same _ old now reads)) c.args.owner.key c.loop-count.link.key c.loop-count.at c.in_err-property_at.field-0.0 (c.in_err-property_at.ensures.damaged tells)))
+    (row_blames old c.args.owner c.requires.owner used c.loop-count.link.key c.loop-count.at c.loop-count.count (c.loop-count.invariant.reached tells)
+    c.if-at.false c.in_err-property_at.field-0.0
+    (row_fault_same old now (reads_records _ old now reads) (ap (λ (z : State). z.shape) (reads_same _ old now reads)) c.args.owner.key c.loop-count.link.key
+    c.loop-count.at c.in_err-property_at.field-0.0 (c.in_err-property_at.ensures.damaged tells)))
 
 pub returns-then-number-key-clause-read : goal.returns-then-number-key-clause-read
 returns-then-number-key-clause-read g c tells =
-    subst (λ (r : Records). IsReadRow r c.property_at.new.row) (reads_records _ (g.R.Reads.state c.args.space.now) (g.R.Reads.state c.loop-count.space) c.loop-count.invariant.reads) (c.in_ok-property_at.ensures.read tells)
+    subst (λ (r : Records). IsReadRow r c.property_at.new.row) (reads_records _ (g.R.Reads.state c.args.space.now) (g.R.Reads.state c.loop-count.space)
+    c.loop-count.invariant.reads) (c.in_ok-property_at.ensures.read tells)
 
 pub returns-then-at-2-clause-damaged : goal.returns-then-at-2-clause-damaged
 returns-then-at-2-clause-damaged g c tells used =
     let old = g.R.Reads.state c.args.space.now in
     subst (BlamesBroken old.records old.shape) (sym c.damaged.ensures)
-    (too_many old c.args.owner c.requires.owner used c.loop-count.link.key c.loop-count.at c.loop-count.count (c.loop-count.invariant.reached tells) c.if-at-2.true (omega arith))
+    (too_many old c.args.owner c.requires.owner used c.loop-count.link.key c.loop-count.at c.loop-count.count (c.loop-count.invariant.reached tells)
+    c.if-at-2.true (omega arith))
 
 pub returns-in_err-property_at-clause-cause : goal.returns-in_err-property_at-clause-cause
 returns-in_err-property_at-clause-cause g c =

@@ -16,7 +16,8 @@ invariant-loop-count g l =
     let old = g.R.Reads.state l.fn.space in
     record {
       told : g.R.Reads.tells → (es : List Property) → AreProperties (property_records old.records) (first_of old.records l.fn.owner) es
-          → Walked (property_records old.records) es l.at l.count (λ passed. (l.link ≡ link_after (link_of l.fn.owner) passed) × (In l.fn.key (keys_of passed) → ⊥));
+          → Walked (property_records old.records) es l.at l.count (λ passed. (l.link ≡ link_after (link_of l.fn.owner) passed) × (In l.fn.key (keys_of passed)
+          → ⊥));
       met : g.R.Reads.tells → property_of (ahead old.records l.at l.count) l.fn.key ≡ property_of (properties_met old.records l.fn.owner) l.fn.key;
       passed : g.R.Reads.tells → l.count + length (ahead old.records l.at l.count) ≡ length (properties_met old.records l.fn.owner);
       reached : g.R.Reads.tells → Reached old.records l.fn.owner l.link.key l.at l.count;

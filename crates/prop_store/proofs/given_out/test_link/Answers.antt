@@ -27,4 +27,5 @@ pub returns-then-id-ge-MOST_IDS-clause-damaged : goal.returns-then-id-ge-MOST_ID
 returns-then-id-ge-MOST_IDS-clause-damaged g c =
     let s = g.R.Reads.state c.args.space.now in
     subst (IsLinkFault s c.args.from c.args.file c.args.id) (sym c.damaged-then-id-ge-MOST_IDS.ensures)
-    (high_mark s c.args.from c.args.file c.args.id c.meta.result.high c.shape-shape.result (ap (λ (m : Meta). m.high) c.meta.ensures) c.shape-shape.ensures.is c.shape-shape.ensures.allowed (omega (arith, c.if-id-meta.false)) (omega (arith, c.if-id-ge-MOST_IDS.true)))
+    (high_mark s c.args.from c.args.file c.args.id c.meta.result.high c.shape-shape.result (ap (λ (m : Meta). m.high) c.meta.ensures) c.shape-shape.ensures.is
+    c.shape-shape.ensures.allowed (omega (arith, c.if-id-meta.false)) (omega (arith, c.if-id-ge-MOST_IDS.true)))

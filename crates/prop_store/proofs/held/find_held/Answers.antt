@@ -72,7 +72,8 @@ loop-at-preserved g c =
     let there : g.R.Reads.tells → IsThere old.records at = λ tells. record
     { some = c.loop-at-test.true; used = subst (λ z. kind_at old.records properties_file z ≢ free_kind) id_is (its tells).used } in
     let has : g.R.Reads.tells → HasBlocks old.records at own = λ tells.
-    subst (HasBlocks old.records at) (sym c.as_slice-own.ensures.is) (subst (λ z. HasBlocks old.records z c.in_ok-blocks.blocks) id_is (subst (λ (r : Records). HasBlocks r row.id c.in_ok-blocks.blocks) same_read
+    subst (HasBlocks old.records at) (sym c.as_slice-own.ensures.is) (subst (λ z. HasBlocks old.records z c.in_ok-blocks.blocks) id_is
+    (subst (λ (r : Records). HasBlocks r row.id c.in_ok-blocks.blocks) same_read
     (c.in_ok-blocks.ensures.has tells (subst (λ (r : Records). IsReadRow r row) (sym same_read) (its tells))))) in
     record {
       told = λ tells es has.
@@ -81,11 +82,14 @@ loop-at-preserved g c =
           (got tells ∙ ap (rec_at old.records properties_file) here.at_is) in
           let own_is = c.as_slice-own.ensures.is ∙ c.in_ok-blocks.ensures.followed tells here.property.value here.property.blocks value in
           subst (λ n. Walked (property_records old.records) es c.number-at.result n (Told pushed all c.shared_block-shared.result)) (sym more)
-          (walk_after (property_records old.records) es at (length ids) _ (Told pushed all c.shared_block-shared.result) here row.rec c.number-at.result (got tells) c.number-at.ensures
-          (told_more es here.passed here.property here.later here.all has.are.blocks_once ids blocks pushed all own at c.loop-at.shared c.shared_block-shared.result c.push.ensures.ids c.push.ensures.blocks here.at_is own_is
+          (walk_after (property_records old.records) es at (length ids) _ (Told pushed all c.shared_block-shared.result) here row.rec c.number-at.result
+          (got tells) c.number-at.ensures
+          (told_more es here.passed here.property here.later here.all has.are.blocks_once ids blocks pushed all own at c.loop-at.shared
+          c.shared_block-shared.result c.push.ensures.ids c.push.ensures.blocks here.at_is own_is
           found here.kept));
       past = λ tells. subst (λ z. ArePast old.records c.args.first z c.number-at.result) (sym c.push.ensures.ids)
-          (past_more old.records c.args.first ids at c.number-at.result (i.past tells) (there tells) (c.number-at.ensures ∙ ap (λ r. field 4 r property_next) (got tells)));
+          (past_more old.records c.args.first ids at c.number-at.result (i.past tells) (there tells) (c.number-at.ensures ∙ ap (λ r. field 4 r property_next)
+          (got tells)));
       from = sym (ap (holder_of properties_file c.args.owner.key) c.push.ensures.ids ∙ holder_more properties_file c.args.owner.key ids at);
       owned = λ tells. owned_more old.records ids pushed blocks all own at c.push.ensures.ids c.push.ensures.blocks (i.owned tells) (has tells);
       twice = λ tells. twice_more old.records ids pushed blocks all own at c.push.ensures.ids c.push.ensures.blocks (i.owned tells) (has tells) c.loop-at.shared
@@ -96,7 +100,8 @@ loop-at-preserved g c =
       few_blocks = let few = i.few_blocks in let less = c.as_slice-own.ensures.few in omega (arith, more, total, few, less);
       reads = reads_then (23 * length ids) 23 _ old now _ (omega (arith, more)) i.reads
           (reads_then 1 22 23 now read _ (omega arith) c.property_at.ensures.at_most c.value_blocks.ensures.at_most);
-      onward = g.met.R.Reads.further_onward _ _ _ i.onward (g.met.R.Reads.further_onward _ _ _ c.in_ok-property_at.ensures.onward c.in_ok-blocks.ensures.onward);
+      onward = g.met.R.Reads.further_onward _ _ _ i.onward (g.met.R.Reads.further_onward _ _ _ c.in_ok-property_at.ensures.onward
+          c.in_ok-blocks.ensures.onward);
       later = omega (arith, i.later, c.in_ok-property_at.ensures.cause.later, c.in_ok-blocks.ensures.cause.later);
     }
 
@@ -127,7 +132,8 @@ returns-in_err-blocks-clause-sound g c tells es has =
     let rec_is = c.in_ok-property_at.ensures.got tells ∙ ap (λ r. rec_at r properties_file c.loop-at.at) same
     ∙ ap (rec_at old.records properties_file) here.at_is in
     let value = has_value old.records then.records here.property (first_property here.later) c.property_at.new.row.rec same_then here.is rec_is in
-    rw (p.1, p.2) (c.in_err-blocks.ensures.sound tells here.property.value here.property.blocks value (blocks_given old.records then.records c.args.owner es here.passed here.property here.later same_then has here.all here.is.blocks))
+    rw (p.1, p.2) (c.in_err-blocks.ensures.sound tells here.property.value here.property.blocks value (blocks_given old.records then.records c.args.owner es
+    here.passed here.property here.later same_then has here.all here.is.blocks))
 
 pub returns-in-Some-clause-sound : goal.returns-in-Some-clause-sound
 returns-in-Some-clause-sound g c tells es has =
@@ -152,7 +158,8 @@ returns-then-count-clause-damaged g c tells used =
     let old = g.R.Reads.state c.args.space.now in
     subst (BlamesBroken old.records old.shape) (sym c.damaged.ensures)
     (too_many old c.args.owner c.requires.owner used c.loop-at.from c.loop-at.at _
-    (reached old.records c.args.owner c.loop-at.from c.args.first c.loop-at.at c.loop-at.held.ids.items (c.requires.first tells) (c.loop-at.invariant.past tells) c.loop-at.invariant.from) c.loop-at-test.true (omega (arith, c.if-count.true)))
+    (reached old.records c.args.owner c.loop-at.from c.args.first c.loop-at.at c.loop-at.held.ids.items (c.requires.first tells)
+    (c.loop-at.invariant.past tells) c.loop-at.invariant.from) c.loop-at-test.true (omega (arith, c.if-count.true)))
 
 pub returns-in_err-property_at-clause-damaged : goal.returns-in_err-property_at-clause-damaged
 returns-in_err-property_at-clause-damaged g c tells used =
@@ -161,8 +168,10 @@ returns-in_err-property_at-clause-damaged g c tells used =
     let reads = c.loop-at.invariant.reads in
     same_has (BlamesBroken old.records old.shape) c.from_residual.result c.in_err-property_at.field-0.0 c.from_residual.ensures.1
     (row_blames old c.args.owner c.requires.owner used c.loop-at.from c.loop-at.at _
-    (reached old.records c.args.owner c.loop-at.from c.args.first c.loop-at.at c.loop-at.held.ids.items (c.requires.first tells) (c.loop-at.invariant.past tells) c.loop-at.invariant.from) c.loop-at-test.true c.in_err-property_at.field-0.0
-    (row_fault_same old now (reads_records _ old now reads) (ap (λ (z : State). z.shape) (reads_same _ old now reads)) c.args.owner.key c.loop-at.from c.loop-at.at c.in_err-property_at.field-0.0 (c.in_err-property_at.ensures.damaged tells)))
+    (reached old.records c.args.owner c.loop-at.from c.args.first c.loop-at.at c.loop-at.held.ids.items (c.requires.first tells)
+    (c.loop-at.invariant.past tells) c.loop-at.invariant.from) c.loop-at-test.true c.in_err-property_at.field-0.0
+    (row_fault_same old now (reads_records _ old now reads) (ap (λ (z : State). z.shape) (reads_same _ old now reads)) c.args.owner.key c.loop-at.from
+    c.loop-at.at c.in_err-property_at.field-0.0 (c.in_err-property_at.ensures.damaged tells)))
 
 pub returns-in_err-blocks-clause-damaged : goal.returns-in_err-blocks-clause-damaged
 returns-in_err-blocks-clause-damaged g c tells used =
@@ -174,7 +183,8 @@ returns-in_err-blocks-clause-damaged g c tells used =
     (c.in_ok-property_at.ensures.read tells) in
     same_has (BlamesBroken old.records old.shape) c.from_residual-in_err-blocks.result c.in_err-blocks.field-0.0 c.from_residual-in_err-blocks.ensures.1
     (text_blames old c.property_at.new.row.id c.in_err-blocks.field-0.0
-    (text_fault_same old then (reads_records _ old then reads) (ap (λ (z : State). z.shape) (reads_same _ old then reads)) c.property_at.new.row.id c.in_err-blocks.field-0.0 (c.in_err-blocks.ensures.damaged tells read)))
+    (text_fault_same old then (reads_records _ old then reads) (ap (λ (z : State). z.shape) (reads_same _ old then reads)) c.property_at.new.row.id
+    c.in_err-blocks.field-0.0 (c.in_err-blocks.ensures.damaged tells read)))
 
 pub returns-in-Some-clause-damaged : goal.returns-in-Some-clause-damaged
 returns-in-Some-clause-damaged g c tells used =

@@ -49,7 +49,8 @@ kind_read s id rec lt is = kind_low (high s.records properties_file) (rec_at s.r
 pub returns-in_err-test_link-clause-damaged : goal.returns-in_err-test_link-clause-damaged
 returns-in_err-test_link-clause-damaged g c tells =
     let p = err_from_is_err_and c.from_residual.result c.from_residual.ensures.1 in
-    rw (p.1, p.2) (row_link (g.R.Reads.state c.args.space.now) c.args.element c.args.from c.args.id c.in_err-test_link.field-0.0 c.in_err-test_link.ensures.damaged)
+    rw (p.1, p.2) (row_link (g.R.Reads.state c.args.space.now) c.args.element c.args.from c.args.id c.in_err-test_link.field-0.0
+    c.in_err-test_link.ensures.damaged)
 
 pub returns-in_err-test_link-clause-cause : goal.returns-in_err-test_link-clause-cause
 returns-in_err-test_link-clause-cause g c =
@@ -60,20 +61,25 @@ pub returns-then-byte-eq-FREE-clause-damaged : goal.returns-then-byte-eq-FREE-cl
 returns-then-byte-eq-FREE-clause-damaged g c tells =
     let s = g.R.Reads.state c.args.space.now in
     subst (IsRowFault s c.args.element c.args.from c.args.id) (sym c.damaged.ensures)
-    (Unused (kind_read s c.args.id c.get_into.new.rec c.in_ok-test_link.ensures.given.low (c.in_ok-get_into.ensures.got tells) ∙ sym c.byte.ensures ∙ c.if-byte-eq-FREE.true))
+    (Unused (kind_read s c.args.id c.get_into.new.rec c.in_ok-test_link.ensures.given.low (c.in_ok-get_into.ensures.got tells) ∙ sym c.byte.ensures
+    ∙ c.if-byte-eq-FREE.true))
 
 pub returns-in-None-clause-damaged : goal.returns-in-None-clause-damaged
 returns-in-None-clause-damaged g c tells =
     let s = g.R.Reads.state c.args.space.now in
     subst (IsRowFault s c.args.element c.args.from c.args.id) (sym c.damaged-in-None.ensures)
-    (Unknown (λ e. c.if-byte-eq-FREE.false (c.byte.ensures ∙ sym (kind_read s c.args.id c.get_into.new.rec c.in_ok-test_link.ensures.given.low (c.in_ok-get_into.ensures.got tells)) ∙ e))
+    (Unknown (λ e. c.if-byte-eq-FREE.false (c.byte.ensures ∙ sym (kind_read s c.args.id c.get_into.new.rec c.in_ok-test_link.ensures.given.low
+    (c.in_ok-get_into.ensures.got tells)) ∙ e))
     (λ has. no_form c.get_into.new.rec (subst HasContent (sym (c.in_ok-get_into.ensures.got tells)) has) (sym c.form_of.ensures.is ∙ c.in-None.is)))
 
 pub returns-in-Some-clause-read : goal.returns-in-Some-clause-read
 returns-in-Some-clause-read g c tells =
     let s = g.R.Reads.state c.args.space.now in
     let got = c.in_ok-get_into.ensures.got tells in
-    record { used = λ e. c.if-byte-eq-FREE.false (c.byte.ensures ∙ sym (kind_read s c.args.id c.get_into.new.rec c.in_ok-test_link.ensures.given.low got) ∙ e); rec_is = got }
+    record {
+      used = λ e. c.if-byte-eq-FREE.false (c.byte.ensures ∙ sym (kind_read s c.args.id c.get_into.new.rec c.in_ok-test_link.ensures.given.low got) ∙ e);
+      rec_is = got;
+    }
 
 pub returns-in_err-test_link-clause-row : goal.returns-in_err-test_link-clause-row
 returns-in_err-test_link-clause-row g c = never_ok c.from_residual.result _ _ c.from_residual.ensures.1

@@ -73,17 +73,20 @@ returns-in_err-value-clause-sound g c tells es has =
     let rec_is = c.in_ok-property_at.ensures.got tells ∙ ap (λ r. rec_at r properties_file c.loop.at) same
     ∙ ap (rec_at old.records properties_file) here.at_is in
     let value = has_value old.records then.records here.property (first_property here.later) c.property_at.new.row.rec same_then here.is rec_is in
-    rw (p.1, p.2) (c.in_err-value.ensures.sound tells here.property.value here.property.blocks value (blocks_given old.records then.records c.args.owner es here.passed here.property here.later same_then has here.all here.is.blocks))
+    rw (p.1, p.2) (c.in_err-value.ensures.sound tells here.property.value here.property.blocks value (blocks_given old.records then.records c.args.owner es
+    here.passed here.property here.later same_then has here.all here.is.blocks))
 
 pub returns-in_err-value-clause-at_most : goal.returns-in_err-value-clause-at_most
 returns-in_err-value-clause-at_most g c =
     reads_then (1 + length c.loop.props.items + block_total c.loop.props.items) 22 736 _ _ _ (omega (arith, c.loop.invariant.few, c.loop.invariant.count))
-    (reads_then _ 1 (1 + length c.loop.props.items + block_total c.loop.props.items) _ _ _ (omega arith) c.loop.invariant.reads c.in_ok-property_at.ensures.at_most) c.in_err-value.ensures.at_most
+    (reads_then _ 1 (1 + length c.loop.props.items + block_total c.loop.props.items) _ _ _ (omega arith) c.loop.invariant.reads
+    c.in_ok-property_at.ensures.at_most) c.in_err-value.ensures.at_most
 
 pub returns-in_err-push-clause-at_most : goal.returns-in_err-push-clause-at_most
 returns-in_err-push-clause-at_most g c =
     reads_then (1 + length c.loop.props.items + block_total c.loop.props.items) 22 736 _ _ _ (omega (arith, c.loop.invariant.few, c.loop.invariant.count))
-    (reads_then _ 1 (1 + length c.loop.props.items + block_total c.loop.props.items) _ _ _ (omega arith) c.loop.invariant.reads c.in_ok-property_at.ensures.at_most) c.in_ok-value.ensures.at_most
+    (reads_then _ 1 (1 + length c.loop.props.items + block_total c.loop.props.items) _ _ _ (omega arith) c.loop.invariant.reads
+    c.in_ok-property_at.ensures.at_most) c.in_ok-value.ensures.at_most
 
 pub loop-preserved : goal.loop-preserved
 loop-preserved g c =
@@ -107,17 +110,21 @@ loop-preserved g c =
           answered_one old.records props c.push.new.self.items _ c.loop.at c.loop.counter c.number-at.result c.number-key.result c.property_at.new.row.rec
           c.in_ok-value.value pushed c.if-at.false (omega arith)
           (c.in_ok-property_at.ensures.got tells ∙ ap (λ r. rec_at r properties_file c.loop.at) same) c.number-at.ensures c.number-key.ensures
-          (c.in_ok-value.ensures.met tells ∙ ap (λ r. value_from (rec_at r strings_file) (content_of c.property_at.new.row.rec)) (reads_records 1 now then c.in_ok-property_at.ensures.at_most ∙ same)) (c.loop.invariant.met tells);
+          (c.in_ok-value.ensures.met tells ∙ ap (λ r. value_from (rec_at r strings_file) (content_of c.property_at.new.row.rec))
+          (reads_records 1 now then c.in_ok-property_at.ensures.at_most ∙ same)) (c.loop.invariant.met tells);
       reached = λ tells.
           let got = c.in_ok-property_at.ensures.got tells ∙ ap (λ r. rec_at r properties_file c.loop.at) same in
           reached_next old.records c.args.owner c.loop.from _ c.loop.at c.loop.counter c.number-at.result (c.loop.invariant.reached tells) c.if-at.false
-          (subst (λ (z : ℕ). kind_at old.records properties_file z ≢ free_kind) c.in_ok-property_at.ensures.row.id_is (subst (λ (r : Records). kind_at r properties_file c.property_at.new.row.id ≢ free_kind) same (c.in_ok-property_at.ensures.read tells).used))
+          (subst (λ (z : ℕ). kind_at old.records properties_file z ≢ free_kind) c.in_ok-property_at.ensures.row.id_is
+          (subst (λ (r : Records). kind_at r properties_file c.property_at.new.row.id ≢ free_kind) same (c.in_ok-property_at.ensures.read tells).used))
           (c.number-at.ensures ∙ ap (λ r. field 4 r property_next) got) refl;
       count = omega (arith, more, c.loop.invariant.count);
       few = omega (arith, total, few, c.loop.invariant.few);
-      kept = subst (All (λ (p : Prop). IsKept p.value)) (sym pushed) (All-push (λ (p : Prop). IsKept p.value) props prop c.loop.invariant.kept c.in_ok-value.ensures.kept);
+      kept = subst (All (λ (p : Prop). IsKept p.value)) (sym pushed) (All-push (λ (p : Prop). IsKept p.value) props prop c.loop.invariant.kept
+          c.in_ok-value.ensures.kept);
       reads = reads_then (1 + length props + block_total props) (blocks_of c.in_ok-value.value) _ _ _ _ (omega (arith, more, total))
-          (reads_then _ 1 (1 + length c.loop.props.items + block_total c.loop.props.items) _ _ _ (omega arith) c.loop.invariant.reads c.in_ok-property_at.ensures.at_most) c.in_ok-value.ensures.reads;
+          (reads_then _ 1 (1 + length c.loop.props.items + block_total c.loop.props.items) _ _ _ (omega arith) c.loop.invariant.reads
+          c.in_ok-property_at.ensures.at_most) c.in_ok-value.ensures.reads;
       onward = g.met.R.Reads.further_onward _ _ _ (g.met.R.Reads.further_onward _ _ _ c.loop.invariant.onward c.in_ok-property_at.ensures.onward)
           c.in_ok-value.ensures.onward;
       later = omega (arith, c.loop.invariant.later, c.in_ok-property_at.ensures.cause.later, c.in_ok-value.ensures.cause.later);
@@ -147,8 +154,10 @@ returns-in_err-property_at-clause-damaged g c tells used =
     let now = g.R.Reads.state c.loop.space in
     let reads = c.loop.invariant.reads in
     same_has (BlamesBroken old.records old.shape) c.from_residual.result c.in_err-property_at.field-0.0 c.from_residual.ensures.1
-    (row_blames old c.args.owner c.requires.owner used c.loop.from c.loop.at c.loop.counter (c.loop.invariant.reached tells) c.if-at.false c.in_err-property_at.field-0.0
-    (row_fault_same old now (reads_records _ old now reads) (ap (λ (z : State). z.shape) (reads_same _ old now reads)) c.args.owner.key c.loop.from c.loop.at c.in_err-property_at.field-0.0 (c.in_err-property_at.ensures.damaged tells)))
+    (row_blames old c.args.owner c.requires.owner used c.loop.from c.loop.at c.loop.counter (c.loop.invariant.reached tells) c.if-at.false
+    c.in_err-property_at.field-0.0
+    (row_fault_same old now (reads_records _ old now reads) (ap (λ (z : State). z.shape) (reads_same _ old now reads)) c.args.owner.key c.loop.from c.loop.at
+    c.in_err-property_at.field-0.0 (c.in_err-property_at.ensures.damaged tells)))
 
 pub returns-in_err-value-clause-damaged : goal.returns-in_err-value-clause-damaged
 returns-in_err-value-clause-damaged g c tells used =
@@ -161,7 +170,8 @@ returns-in_err-value-clause-damaged g c tells used =
     (c.in_ok-property_at.ensures.read tells) in
     same_has (BlamesBroken old.records old.shape) c.from_residual-in_err-value.result c.in_err-value.field-0.0 c.from_residual-in_err-value.ensures.1
     (text_blames old c.property_at.new.row.id c.in_err-value.field-0.0
-    (text_fault_same old then (reads_records _ old then reads) (ap (λ (z : State). z.shape) (reads_same _ old then reads)) c.property_at.new.row.id c.in_err-value.field-0.0 (c.in_err-value.ensures.damaged tells read)))
+    (text_fault_same old then (reads_records _ old then reads) (ap (λ (z : State). z.shape) (reads_same _ old then reads)) c.property_at.new.row.id
+    c.in_err-value.field-0.0 (c.in_err-value.ensures.damaged tells read)))
 
 pub returns-then-at-2-clause-damaged : goal.returns-then-at-2-clause-damaged
 returns-then-at-2-clause-damaged g c tells used =

@@ -33,7 +33,8 @@ pub returns-clause-cost : goal.returns-clause-cost
 returns-clause-cost g c = λ tells es are.
     costs_after (λ value. length es + blocks_if value) (λ value. 1 + length es + blocks_if value) _ _ _ c.read_key_from.result (λ value. omega arith)
     c.in_ok-first.ensures.state
-    (c.read_key_from.ensures.cost tells es (subst (λ (s : State). AreProperties (property_records s.records) (first_of s.records c.args.owner) es) (sym c.in_ok-first.ensures.state) are))
+    (c.read_key_from.ensures.cost tells es (subst (λ (s : State). AreProperties (property_records s.records) (first_of s.records c.args.owner) es)
+    (sym c.in_ok-first.ensures.state) are))
 
 pub returns-clause-reads : goal.returns-clause-reads
 returns-clause-reads g c =

@@ -30,7 +30,8 @@ returns-in_err-value-in-Found-clause-sound g c tells es has =
     let f = subst (IsSought old.records c.args.owner es c.args.key c.find_from.new.row) c.in-Found.is (c.in_ok-find_from.ensures.found tells es has.are) in
     let same = reads_records 32 old now c.in_ok-find_from.ensures.at_most in
     let value = has_value old.records now.records f.property (first_property f.after) c.find_from.new.row.rec same f.is f.rec_is in
-    rw (p.1, p.2) (c.in_err-value-in-Found.ensures.sound tells f.property.value f.property.blocks value (blocks_given old.records now.records c.args.owner es f.before f.property f.after same has f.all f.is.blocks))
+    rw (p.1, p.2) (c.in_err-value-in-Found.ensures.sound tells f.property.value f.property.blocks value (blocks_given old.records now.records c.args.owner es
+    f.before f.property f.after same has f.all f.is.blocks))
 
 pub returns-in_err-value-in-Found-clause-at_most : goal.returns-in_err-value-in-Found-clause-at_most
 returns-in_err-value-in-Found-clause-at_most g c = reads_then 32 22 54 _ _ _ (omega arith) c.in_ok-find_from.ensures.at_most
@@ -78,7 +79,8 @@ returns-in_err-value-in-Found-clause-damaged g c tells used =
     same_has (BlamesBroken old.records old.shape) c.from_residual-in_err-value-in-Found.result c.in_err-value-in-Found.field-0.0
     c.from_residual-in_err-value-in-Found.ensures.1
     (text_blames old c.find_from.new.row.id c.in_err-value-in-Found.field-0.0
-    (text_fault_same old now (reads_records 32 old now reads) (ap (λ (z : State). z.shape) (reads_same 32 old now reads)) c.find_from.new.row.id c.in_err-value-in-Found.field-0.0 (c.in_err-value-in-Found.ensures.damaged tells read)))
+    (text_fault_same old now (reads_records 32 old now reads) (ap (λ (z : State). z.shape) (reads_same 32 old now reads)) c.find_from.new.row.id
+    c.in_err-value-in-Found.field-0.0 (c.in_err-value-in-Found.ensures.damaged tells read)))
 
 pub returns-in_err-value-in-Found-clause-cause : goal.returns-in_err-value-in-Found-clause-cause
 returns-in_err-value-in-Found-clause-cause g c =

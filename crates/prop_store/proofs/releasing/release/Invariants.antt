@@ -20,7 +20,8 @@ invariant-loop-id g l =
     record {
       released : g.S.Reads.tells → AreOnce l.fn.blocks → ChangesFile old.records old.records old.shape strings_file l.fn.blocks l.fn.blocks
           → HasLeft old.records now.records old.shape strings_file l.fn.blocks (drop l.id-index l.fn.blocks) l.id-index;
-      harmless : g.S.Reads.tells → AreUsedOnce old.records l.fn.blocks → (0 < length l.fn.blocks → IsLinkBelow (meta_of old strings_file).free (meta_of old strings_file).high) → LeavesLinked old now l.fn.blocks (drop l.id-index l.fn.blocks);
+      harmless : g.S.Reads.tells → AreUsedOnce old.records l.fn.blocks → (0 < length l.fn.blocks → IsLinkBelow (meta_of old strings_file).free
+          (meta_of old strings_file).high) → LeavesLinked old now l.fn.blocks (drop l.id-index l.fn.blocks);
       beside : g.S.Reads.tells → IsSameBeside strings_file old.records now.records;
       touches : TouchesOnly g.S.Reads.tells old now (meta_key_of strings_file ∷ map (key_in strings_file) l.fn.blocks);
       onward : g.S.Reads.onward l.fn.space l.space;

@@ -9,7 +9,11 @@ use Rattle.rec_bytes.specs.declared.space.SpaceFault.TheVariants as spaces
 use Rattle.prop_store.proofs.releasing.release_properties.Goals as goal
 
 pub give-requires-clause-key : goal.give-requires-clause-key
-give-requires-clause-key g c = record { file = refl; id = c.requires (get_or c.args.ids.now c.loop-id.id-index 0) (in_at c.args.ids.now c.loop-id.id-index (omega arith)) }
+give-requires-clause-key g c = record {
+  file = refl;
+  id = c.requires (get_or c.args.ids.now c.loop-id.id-index 0) (in_at c.args.ids.now c.loop-id.id-index
+      (omega arith));
+}
 
 pub returns-in_err-give-clause-touches : goal.returns-in_err-give-clause-touches
 returns-in_err-give-clause-touches g c =

@@ -60,7 +60,8 @@ returns-in_err-id-clause-alone_refused g c tells es owns known lacks few =
     let room : (meta_of s properties_file).live ≢ room_of s.shape properties_file = λ full.
     c.if-meta-room_of.false (ap (λ (m : Meta). m.live) c.meta-meta.ensures ∙ full ∙ sym (c.room_of.ensures ∙ ap (λ (y : Shape). y.limit) c.shape.ensures.is)) in
     let put : IsPutFault s 0 (blocks_of c.args.value.now) c.in_err-id.field-0.0 =
-    subst (λ (y : State). KeepsFile y strings_file → KeepsFile y properties_file → (meta_of y properties_file).live ≢ room_of y.shape properties_file → IsPutFault y 0 (blocks_of c.args.value.now) c.in_err-id.field-0.0) e
+    subst (λ (y : State). KeepsFile y strings_file → KeepsFile y properties_file → (meta_of y properties_file).live ≢ room_of y.shape properties_file
+    → IsPutFault y 0 (blocks_of c.args.value.now) c.in_err-id.field-0.0) e
     (c.in_err-id.ensures.refused tells) (keeps_strings s c.args.owner es owns) (keeps_properties s c.args.owner es owns) room in
     rw (p.1, p.2) (no_new_blocks s c.args.owner es owns c.args.key c.args.value.now c.in_err-id.field-0.0 lacks few room put)
 
@@ -96,8 +97,10 @@ returns-clause-added g c tells has none few =
     let owner = c.args.owner in
     let is = c.requires.owner in
     sets_graph s owner is has.element c.args.key has.known (g.S.Reads.state c.set_number.new.space) c.args.value.now 0
-    (returns-clause-alone g c tells _ (owns_listed s owner is has.element) has.known (lacks_key s owner is has.element c.args.key none) (few_listed s owner is c.args.key has few))
-    (ap (λ (y : State). y.shape) (c.in_ok-set_number.ensures.ok tells) ∙ g.met.S.Reads.onward_shape _ _ c.in_ok-id.ensures.onward ∙ ap (λ (y : State). y.shape) c.first.ensures.state)
+    (returns-clause-alone g c tells _ (owns_listed s owner is has.element) has.known (lacks_key s owner is has.element c.args.key none)
+    (few_listed s owner is c.args.key has few))
+    (ap (λ (y : State). y.shape) (c.in_ok-set_number.ensures.ok tells) ∙ g.met.S.Reads.onward_shape _ _ c.in_ok-id.ensures.onward ∙ ap (λ (y : State). y.shape)
+    c.first.ensures.state)
 
 pub returns-then-meta-room_of-clause-touches : goal.returns-then-meta-room_of-clause-touches
 returns-then-meta-room_of-clause-touches g c = touches_reads _ 1 _ _ _ refl
@@ -114,7 +117,8 @@ returns-in_err-set_number-clause-touches g c =
     let put = touches_beside (c.args.owner.key ∷ []) 1 (blocks_of c.args.value.now) (g.S.Reads.state c.first.new.space) (g.S.Reads.state c.put_new.new.space)
     c.put_new.ensures.touches in
     touches_after _ 1 _ _ _ _ (reads_same 1 _ _ (reads_one 1 _ _ (omega arith) c.first.ensures.state))
-    (touches_then _ 1 (blocks_of c.args.value.now) 0 0 1 (blocks_of c.args.value.now) _ _ _ (omega arith) (omega arith) put (touches_reads _ 0 0 _ _ (reads_same 1 _ _ (reads_one 1 _ _ (omega arith) c.in_err-set_number.ensures.err))))
+    (touches_then _ 1 (blocks_of c.args.value.now) 0 0 1 (blocks_of c.args.value.now) _ _ _ (omega arith) (omega arith) put (touches_reads _ 0 0 _ _
+    (reads_same 1 _ _ (reads_one 1 _ _ (omega arith) c.in_err-set_number.ensures.err))))
 
 pub returns-clause-touches : goal.returns-clause-touches
 returns-clause-touches g c =
@@ -174,7 +178,8 @@ returns-clause-harmless g c tells =
     let z = g.S.Reads.state c.first.new.space in
     let t = g.S.Reads.state c.put_new.new.space in
     read_harms_no_lists s z (g.S.Reads.state c.set_number.new.space) (reads_same 1 s z (reads_one 1 s z (omega arith) c.first.ensures.state))
-    (led_harms_no_lists z t (g.S.Reads.state c.set_number.new.space) c.args.owner c.in_ok-id.id c.requires.owner (c.in_ok-id.ensures.harmless tells) (c.in_ok-set_number.ensures.ok tells))
+    (led_harms_no_lists z t (g.S.Reads.state c.set_number.new.space) c.args.owner c.in_ok-id.id c.requires.owner (c.in_ok-id.ensures.harmless tells)
+    (c.in_ok-set_number.ensures.ok tells))
 
 pub returns-in_err-next-clause-harmless : goal.returns-in_err-next-clause-harmless
 returns-in_err-next-clause-harmless g c _ = never_ok c.from_residual.result _ _ c.from_residual.ensures.1
@@ -188,8 +193,14 @@ returns-in_err-set_number-clause-harmless g c _ = never_ok c.from_residual-in_er
 -- ---- what a refusal carries
 
 pub returns-then-meta-room_of-clause-caused : goal.returns-then-meta-room_of-clause-caused
-returns-then-meta-room_of-clause-caused g c tells =
-    ((ap (λ (m : Meta). m.live) c.meta-meta.ensures, c.if-meta-room_of.true ∙ c.room_of.ensures ∙ ap (λ (h : Shape). room_of h properties_file) c.shape.ensures.is), inl (refl, refl))
+returns-then-meta-room_of-clause-caused g c tells = (
+  (
+    ap (λ (m : Meta). m.live) c.meta-meta.ensures,
+    c.if-meta-room_of.true ∙ c.room_of.ensures ∙ ap (λ (h : Shape). room_of h properties_file)
+        c.shape.ensures.is,
+  ),
+  inl (refl, refl),
+)
 
 pub returns-in_err-next-clause-caused : goal.returns-in_err-next-clause-caused
 returns-in_err-next-clause-caused g c tells =
@@ -207,7 +218,8 @@ returns-in_err-id-clause-caused g c tells =
     let n = blocks_of c.args.value.now in
     let fault = c.in_err-id.field-0.0 in
     let full = (meta_of z properties_file).live ≡ room_of z.shape properties_file in
-    let none : full → ⊥ = λ is. c.if-meta-room_of.false (ap (λ (m : Meta). m.live) c.meta-meta.ensures ∙ subst (λ (y : State). (meta_of y properties_file).live ≡ room_of y.shape properties_file) (c.first.ensures.state) is ∙ sym (c.room_of.ensures ∙ ap (λ (y : Shape). y.limit) c.shape.ensures.is)) in
+    let none : full → ⊥ = λ is. c.if-meta-room_of.false (ap (λ (m : Meta). m.live) c.meta-meta.ensures ∙ subst (λ (y : State). (meta_of y properties_file).live
+    ≡ room_of y.shape properties_file) (c.first.ensures.state) is ∙ sym (c.room_of.ensures ∙ ap (λ (y : Shape). y.limit) c.shape.ensures.is)) in
     set_has (IsSetCause ⊥ (SameButReads s t) n t) c.from_residual-in_err-id.result _ c.from_residual-in_err-id.ensures.1
     (set_caused_more ⊥ full (SameButReads s t) (λ is. absurd (none is)) t n fault (c.in_err-id.ensures.caused tells))
 

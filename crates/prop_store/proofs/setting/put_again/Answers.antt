@@ -30,7 +30,8 @@ pub returns-in_err-blocks-clause-refused : goal.returns-in_err-blocks-clause-ref
 returns-in_err-blocks-clause-refused g c tells e held =
     let p = err_from_is_err_and c.from_residual.result c.from_residual.ensures.1 in
     let s = g.S.Reads.state c.args.space.now in
-    rw (p.1, p.2) (read_put_fault s (length e.blocks) (blocks_of c.args.value.now) c.in_err-blocks.field-0.0 (c.in_err-blocks.ensures.sound tells e.value e.blocks held.value (blocks_given_out s.records s.shape _ e.blocks held.strings held.value.are)))
+    rw (p.1, p.2) (read_put_fault s (length e.blocks) (blocks_of c.args.value.now) c.in_err-blocks.field-0.0 (c.in_err-blocks.ensures.sound tells e.value
+    e.blocks held.value (blocks_given_out s.records s.shape _ e.blocks held.strings held.value.are)))
 
 pub returns-in_err-release-clause-refused : goal.returns-in_err-release-clause-refused
 returns-in_err-release-clause-refused g c tells e held =
@@ -43,7 +44,8 @@ returns-in_err-first-clause-refused g c tells e held =
     let s = g.S.Reads.state c.args.space.now in
     let a = g.S.Reads.state c.value_blocks.new.space in
     let b = g.S.Reads.state c.release.new.space in
-    rw (p.1, p.2) (again_text_fault s a b c.args.row.now e c.as_slice-ids.result.now held (reads_same 22 s a c.value_blocks.ensures.at_most) (c.as_slice-ids.ensures.is ∙ c.in_ok-blocks.ensures.followed tells e.value e.blocks held.value)
+    rw (p.1, p.2) (again_text_fault s a b c.args.row.now e c.as_slice-ids.result.now held (reads_same 22 s a c.value_blocks.ensures.at_most)
+    (c.as_slice-ids.ensures.is ∙ c.in_ok-blocks.ensures.followed tells e.value e.blocks held.value)
     (c.in_ok-release.ensures.released tells) (c.in_ok-release.ensures.beside tells) (g.met.S.Reads.onward_shape _ _ c.release.ensures.onward) c.args.value.now
     c.long_bytes.result.now c.long_bytes.ensures.is c.in_err-first.field-0.0 (c.in_err-first.ensures.refused tells))
 
@@ -78,19 +80,22 @@ pub returns-in_err-first-clause-at_most : goal.returns-in_err-first-clause-at_mo
 returns-in_err-first-clause-at_most g c =
     let few = c.as_slice-ids.ensures.few in
     touches_more [] 0 (blocks_of c.args.value.now + length c.as_slice-ids.result.now) 1 (22 + blocks_of c.args.value.now) _ _ (omega arith) (omega arith)
-    (touches_texts _ _ _ _ c.args.value.now c.as_slice-ids.result.now c.long_bytes.result.now c.long_bytes.ensures.is (reads_same 22 _ _ c.value_blocks.ensures.at_most) c.release.ensures.touches c.write_text.ensures.touches)
+    (touches_texts _ _ _ _ c.args.value.now c.as_slice-ids.result.now c.long_bytes.result.now c.long_bytes.ensures.is
+    (reads_same 22 _ _ c.value_blocks.ensures.at_most) c.release.ensures.touches c.write_text.ensures.touches)
 
 pub returns-in_err-put-clause-at_most : goal.returns-in_err-put-clause-at_most
 returns-in_err-put-clause-at_most g c =
     let few = c.as_slice-ids.ensures.few in
     touches_same [] 0 (blocks_of c.args.value.now + length c.as_slice-ids.result.now) 1 (22 + blocks_of c.args.value.now) _ _ _ (omega arith) (omega arith)
     c.in_err-put.ensures.err
-    (touches_texts _ _ _ _ c.args.value.now c.as_slice-ids.result.now c.long_bytes.result.now c.long_bytes.ensures.is (reads_same 22 _ _ c.value_blocks.ensures.at_most) c.release.ensures.touches c.write_text.ensures.touches)
+    (touches_texts _ _ _ _ c.args.value.now c.as_slice-ids.result.now c.long_bytes.result.now c.long_bytes.ensures.is
+    (reads_same 22 _ _ c.value_blocks.ensures.at_most) c.release.ensures.touches c.write_text.ensures.touches)
 
 pub returns-clause-touches : goal.returns-clause-touches
 returns-clause-touches g c =
     touches_new 0 (blocks_of c.args.value.now + length c.as_slice-ids.result.now) _ _ _ c.args.row.now.id c.property_record.result
-    (touches_texts _ _ _ _ c.args.value.now c.as_slice-ids.result.now c.long_bytes.result.now c.long_bytes.ensures.is (reads_same 22 _ _ c.value_blocks.ensures.at_most) c.release.ensures.touches c.write_text.ensures.touches) c.in_ok-put.ensures.ok
+    (touches_texts _ _ _ _ c.args.value.now c.as_slice-ids.result.now c.long_bytes.result.now c.long_bytes.ensures.is
+    (reads_same 22 _ _ c.value_blocks.ensures.at_most) c.release.ensures.touches c.write_text.ensures.touches) c.in_ok-put.ensures.ok
 
 pub returns-clause-at_most : goal.returns-clause-at_most
 returns-clause-at_most g c = let few = c.as_slice-ids.ensures.few in touches_more [] 1 _ 1 (22 + blocks_of c.args.value.now) _ _ (omega arith) (omega arith)
@@ -102,7 +107,8 @@ pub returns-in_err-blocks-clause-damaged : goal.returns-in_err-blocks-clause-dam
 returns-in_err-blocks-clause-damaged g c tells read =
     let s = g.S.Reads.state c.args.space.now in
     set_has (SetBlamesBroken s) c.from_residual.result _ c.from_residual.ensures.1
-    (set_still_fault s s c.in_err-blocks.field-0.0 (text_blames s c.args.row.now.id c.in_err-blocks.field-0.0 (c.in_err-blocks.ensures.damaged tells read)) refl)
+    (set_still_fault s s c.in_err-blocks.field-0.0 (text_blames s c.args.row.now.id c.in_err-blocks.field-0.0 (c.in_err-blocks.ensures.damaged tells read))
+    refl)
 
 pub returns-in_err-release-clause-damaged : goal.returns-in_err-release-clause-damaged
 returns-in_err-release-clause-damaged g c tells read =
@@ -149,7 +155,8 @@ returns-in_err-first-clause-caused g c tells =
     let n = blocks_of c.args.value.now in
     let fault = c.in_err-first.field-0.0 in
     set_has (IsSetCause ⊥ ⊥ n t) c.from_residual-in_err-first.result _ c.from_residual-in_err-first.ensures.1
-    (set_caused_text ⊥ ⊥ t n fault (subst (λ m. IsTextCause t m fault) (blocks_needed c.args.value.now c.long_bytes.result.now c.long_bytes.ensures.is) (c.in_err-first.ensures.caused tells)))
+    (set_caused_text ⊥ ⊥ t n fault (subst (λ m. IsTextCause t m fault) (blocks_needed c.args.value.now c.long_bytes.result.now c.long_bytes.ensures.is)
+    (c.in_err-first.ensures.caused tells)))
 
 pub returns-in_err-put-clause-caused : goal.returns-in_err-put-clause-caused
 returns-in_err-put-clause-caused g c tells =
@@ -165,14 +172,16 @@ returns-in_err-blocks-clause-still g c tells read =
     let t = g.S.Reads.state c.value_blocks.new.space in
     let fault = c.in_err-blocks.field-0.0 in
     set_has (SetBlamesBroken t) c.from_residual.result _ c.from_residual.ensures.1
-    (set_still_fault s t fault (text_blames s c.args.row.now.id fault (c.in_err-blocks.ensures.damaged tells read)) (reads_same 22 s t c.value_blocks.ensures.at_most))
+    (set_still_fault s t fault (text_blames s c.args.row.now.id fault (c.in_err-blocks.ensures.damaged tells read))
+    (reads_same 22 s t c.value_blocks.ensures.at_most))
 
 pub returns-in_err-test_free-clause-still : goal.returns-in_err-test_free-clause-still
 returns-in_err-test_free-clause-still g c tells read =
     let t = g.S.Reads.state c.value_blocks.new.space in
     let fault = c.in_err-test_free.field-0.0 in
     set_has (SetBlamesBroken t) c.from_residual-in_err-test_free.result _ c.from_residual-in_err-test_free.ensures.1
-    (set_still_fault t t fault (subst (BlamesBroken t.records t.shape) (sym c.in_err-test_free.ensures.named) (strings_free t c.in_err-test_free.ensures.broken)) refl)
+    (set_still_fault t t fault (subst (BlamesBroken t.records t.shape) (sym c.in_err-test_free.ensures.named)
+    (strings_free t c.in_err-test_free.ensures.broken)) refl)
 
 pub returns-in_err-release-clause-still : goal.returns-in_err-release-clause-still
 returns-in_err-release-clause-still g c tells read =
@@ -310,12 +319,14 @@ returns-in_err-first-clause-onward g c =
 pub returns-in_err-put-clause-onward : goal.returns-in_err-put-clause-onward
 returns-in_err-put-clause-onward g c =
     g.met.S.Reads.further_onward _ _ _
-    (g.met.S.Reads.further_onward _ _ _ (g.met.S.Reads.further_onward _ _ _ c.in_ok-blocks.ensures.onward c.in_ok-release.ensures.onward) c.in_ok-first.ensures.onward) c.in_err-put.ensures.onward
+    (g.met.S.Reads.further_onward _ _ _ (g.met.S.Reads.further_onward _ _ _ c.in_ok-blocks.ensures.onward c.in_ok-release.ensures.onward)
+    c.in_ok-first.ensures.onward) c.in_err-put.ensures.onward
 
 pub returns-clause-onward : goal.returns-clause-onward
 returns-clause-onward g c =
     g.met.S.Reads.further_onward _ _ _
-    (g.met.S.Reads.further_onward _ _ _ (g.met.S.Reads.further_onward _ _ _ c.in_ok-blocks.ensures.onward c.in_ok-release.ensures.onward) c.in_ok-first.ensures.onward) c.in_ok-put.ensures.onward
+    (g.met.S.Reads.further_onward _ _ _ (g.met.S.Reads.further_onward _ _ _ c.in_ok-blocks.ensures.onward c.in_ok-release.ensures.onward)
+    c.in_ok-first.ensures.onward) c.in_ok-put.ensures.onward
 
 pub returns-in_err-put-clause-refused : goal.returns-in_err-put-clause-refused
 returns-in_err-put-clause-refused g c tells e held =

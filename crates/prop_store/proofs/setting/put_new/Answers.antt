@@ -23,7 +23,8 @@ returns-in_err-id-clause-refused g c tells strings properties room =
     let p = err_from_is_err_and c.from_residual-in_err-id.result c.from_residual-in_err-id.ensures.1 in
     let s = g.S.Reads.state c.args.space.now in
     let a = g.S.Reads.state c.write_text.new.space in
-    rw (p.1, p.2) (take_put_fault s a c.long_bytes.result.now c.in_ok-first.first (blocks_of c.args.value.now) c.in_err-id.field-0.0 (c.in_ok-first.ensures.written tells strings) (c.in_ok-first.ensures.beside tells) (g.met.S.Reads.onward_shape _ _ c.in_ok-first.ensures.onward)
+    rw (p.1, p.2) (take_put_fault s a c.long_bytes.result.now c.in_ok-first.first (blocks_of c.args.value.now) c.in_err-id.field-0.0
+    (c.in_ok-first.ensures.written tells strings) (c.in_ok-first.ensures.beside tells) (g.met.S.Reads.onward_shape _ _ c.in_ok-first.ensures.onward)
     (c.in_err-id.ensures.refused tells) (c.in_err-id.ensures.sound tells) properties room)
 
 pub returns-clause-put : goal.returns-clause-put
@@ -42,17 +43,20 @@ returns-in_err-first-clause-touches g c =
 pub returns-in_err-id-clause-touches : goal.returns-in_err-id-clause-touches
 returns-in_err-id-clause-touches g c =
     touches_more [] 0 (blocks_of c.args.value.now) 1 (blocks_of c.args.value.now) _ _ (omega arith) (omega arith)
-    (touches_text_taken _ (g.S.Reads.state c.write_text.new.space) _ c.args.value.now c.long_bytes.result.now c.long_bytes.ensures.is c.write_text.ensures.touches (record { writes = c.take.ensures.writes; stays = c.take.ensures.stays }))
+    (touches_text_taken _ (g.S.Reads.state c.write_text.new.space) _ c.args.value.now c.long_bytes.result.now c.long_bytes.ensures.is
+    c.write_text.ensures.touches (record { writes = c.take.ensures.writes; stays = c.take.ensures.stays }))
 
 pub returns-in_err-put-clause-touches : goal.returns-in_err-put-clause-touches
 returns-in_err-put-clause-touches g c =
     touches_same [] 0 (blocks_of c.args.value.now) 1 (blocks_of c.args.value.now) _ _ _ (omega arith) (omega arith) c.in_err-put.ensures.err
-    (touches_text_taken _ (g.S.Reads.state c.write_text.new.space) _ c.args.value.now c.long_bytes.result.now c.long_bytes.ensures.is c.write_text.ensures.touches (record { writes = c.take.ensures.writes; stays = c.take.ensures.stays }))
+    (touches_text_taken _ (g.S.Reads.state c.write_text.new.space) _ c.args.value.now c.long_bytes.result.now c.long_bytes.ensures.is
+    c.write_text.ensures.touches (record { writes = c.take.ensures.writes; stays = c.take.ensures.stays }))
 
 pub returns-clause-touches : goal.returns-clause-touches
 returns-clause-touches g c =
     touches_new 0 (blocks_of c.args.value.now) _ _ _ c.in_ok-id.id c.property_record.result
-    (touches_text_taken _ (g.S.Reads.state c.write_text.new.space) _ c.args.value.now c.long_bytes.result.now c.long_bytes.ensures.is c.write_text.ensures.touches (record { writes = c.take.ensures.writes; stays = c.take.ensures.stays }))
+    (touches_text_taken _ (g.S.Reads.state c.write_text.new.space) _ c.args.value.now c.long_bytes.result.now c.long_bytes.ensures.is
+    c.write_text.ensures.touches (record { writes = c.take.ensures.writes; stays = c.take.ensures.stays }))
     c.in_ok-put.ensures.ok
 
 -- ---- which record is blamed
@@ -67,7 +71,8 @@ returns-in_err-id-clause-damaged g c tells =
     let s = g.S.Reads.state c.args.space.now in
     let a = g.S.Reads.state c.write_text.new.space in
     set_has (BlamesLists s) c.from_residual-in_err-id.result _ c.from_residual-in_err-id.ensures.1
-    (property_take s a (c.in_ok-first.ensures.beside tells) (g.met.S.Reads.onward_shape _ _ c.in_ok-first.ensures.onward) c.in_err-id.field-0.0 (c.in_err-id.ensures.refused tells))
+    (property_take s a (c.in_ok-first.ensures.beside tells) (g.met.S.Reads.onward_shape _ _ c.in_ok-first.ensures.onward) c.in_err-id.field-0.0
+    (c.in_err-id.ensures.refused tells))
 
 pub returns-in_err-put-clause-damaged : goal.returns-in_err-put-clause-damaged
 returns-in_err-put-clause-damaged g c tells =
@@ -105,7 +110,8 @@ returns-in_err-first-clause-caused g c tells =
     let fault = c.in_err-first.field-0.0 in
     let full = (meta_of s properties_file).live ≡ room_of s.shape properties_file in
     set_has (IsSetCause ⊥ full n t) c.from_residual.result _ c.from_residual.ensures.1
-    (set_caused_text ⊥ full t n fault (subst (λ m. IsTextCause t m fault) (blocks_needed c.args.value.now c.long_bytes.result.now c.long_bytes.ensures.is) (c.in_err-first.ensures.caused tells)))
+    (set_caused_text ⊥ full t n fault (subst (λ m. IsTextCause t m fault) (blocks_needed c.args.value.now c.long_bytes.result.now c.long_bytes.ensures.is)
+    (c.in_err-first.ensures.caused tells)))
 
 pub returns-in_err-id-clause-caused : goal.returns-in_err-id-clause-caused
 returns-in_err-id-clause-caused g c tells =
@@ -115,7 +121,8 @@ returns-in_err-id-clause-caused g c tells =
     let n = blocks_of c.args.value.now in
     let full = (meta_of s properties_file).live ≡ room_of s.shape properties_file in
     set_has (IsSetCause ⊥ full n t) c.from_residual-in_err-id.result _ c.from_residual-in_err-id.ensures.1
-    (set_caused_take ⊥ full a t n c.in_err-id.field-0.0 (full_before s a (c.in_ok-first.ensures.beside tells) (g.met.S.Reads.onward_shape _ _ c.in_ok-first.ensures.onward)) (c.in_err-id.ensures.refused tells) c.in_err-id.ensures.err)
+    (set_caused_take ⊥ full a t n c.in_err-id.field-0.0 (full_before s a (c.in_ok-first.ensures.beside tells)
+    (g.met.S.Reads.onward_shape _ _ c.in_ok-first.ensures.onward)) (c.in_err-id.ensures.refused tells) c.in_err-id.ensures.err)
 
 pub returns-in_err-put-clause-caused : goal.returns-in_err-put-clause-caused
 returns-in_err-put-clause-caused g c tells =

@@ -74,7 +74,8 @@ pub returns-in_err-count-clause-alone_refused : goal.returns-in_err-count-clause
 returns-in_err-count-clause-alone_refused g c tells es owns known =
     let p = err_from_is_err_and c.from_residual.result c.from_residual.ensures.1 in
     let s = g.S.Reads.state c.args.space.now in
-    rw (p.1, p.2) (read_refusal s es c.args.key c.args.value.now c.in_err-count.field-0.0 (c.in_err-count.ensures.sound tells es (has_properties s c.args.owner es owns)))
+    rw (p.1, p.2) (read_refusal s es c.args.key c.args.value.now c.in_err-count.field-0.0 (c.in_err-count.ensures.sound tells es
+    (has_properties s c.args.owner es owns)))
 
 pub returns-in_err-count-clause-refused : goal.returns-in_err-count-clause-refused
 returns-in_err-count-clause-refused g c tells has =
@@ -107,7 +108,8 @@ returns-in_err-add-in-Absent-clause-alone_refused g c tells es owns known =
     let same = reads_same 33 s z c.find.ensures.at_most in
     let f = subst (IsSought s.records c.args.owner es c.args.key c.find.new.row) c.in-Absent.is (c.in_ok-count.ensures.found tells es owns.held.are) in
     rw (p.1, p.2) (refusal_read s z es c.args.key c.args.value.now c.in_err-add-in-Absent.field-0.0 same
-    (c.in_err-add-in-Absent.ensures.alone_refused tells es (owns_read s c.args.owner es owns z same) (known_read s z c.args.key same known) f.1 (fewer es c.in-Absent.count f.0 c.if-count-ge-MOST_PROPERTIES.false)))
+    (c.in_err-add-in-Absent.ensures.alone_refused tells es (owns_read s c.args.owner es owns z same) (known_read s z c.args.key same known) f.1
+    (fewer es c.in-Absent.count f.0 c.if-count-ge-MOST_PROPERTIES.false)))
 
 pub returns-in_err-add-in-Absent-clause-refused : goal.returns-in_err-add-in-Absent-clause-refused
 returns-in_err-add-in-Absent-clause-refused g c tells has =
@@ -122,7 +124,8 @@ returns-in_ok-add-in-Absent-clause-alone g c tells es owns known =
     let same = reads_same 33 s z c.find.ensures.at_most in
     let f = subst (IsSought s.records c.args.owner es c.args.key c.find.new.row) c.in-Absent.is (c.in_ok-count.ensures.found tells es owns.held.are) in
     sets_read s z (g.S.Reads.state c.add.new.space) c.args.owner es c.args.key c.args.value.now 0 same
-    (c.in_ok-add-in-Absent.ensures.alone tells es (owns_read s c.args.owner es owns z same) (known_read s z c.args.key same known) f.1 (fewer es c.in-Absent.count f.0 c.if-count-ge-MOST_PROPERTIES.false))
+    (c.in_ok-add-in-Absent.ensures.alone tells es (owns_read s c.args.owner es owns z same) (known_read s z c.args.key same known) f.1
+    (fewer es c.in-Absent.count f.0 c.if-count-ge-MOST_PROPERTIES.false))
 
 pub returns-in_ok-add-in-Absent-clause-set : goal.returns-in_ok-add-in-Absent-clause-set
 returns-in_ok-add-in-Absent-clause-set g c tells has =
@@ -142,12 +145,15 @@ returns-in-Found-clause-alone g c tells es owns known =
     let key_is = ap (λ r. field 4 r property_key) f.rec_is ∙ f.is.key ∙ f.key_is in
     let may = next_leads s c.args.owner es owns z (same g c) f.before f.property f.after f.all (field 4 row.rec property_next) next_is in
     IfOk-weaker c.put_again.result
-    (λ n. (n ≡ length f.property.blocks) × PutsProperty z m (f.property.id ∷ []) f.property.blocks f.property.id (field 4 row.rec property_key) c.args.value.now (field 4 row.rec property_next))
+    (λ n. (n ≡ length f.property.blocks) × PutsProperty z m (f.property.id ∷ []) f.property.blocks f.property.id (field 4 row.rec property_key) c.args.value.now
+    (field 4 row.rec property_next))
     (SetsAlone s m c.args.owner es c.args.key c.args.value.now)
     (λ n h. subst (SetsAlone s m c.args.owner es c.args.key c.args.value.now) (sym h.0)
-    (value_replaced s c.args.owner es owns f.before f.property f.after f.all c.requires.owner c.args.key f.key_is m c.args.value.now (field 4 row.rec property_next) next_is
+    (value_replaced s c.args.owner es owns f.before f.property f.after f.all c.requires.owner c.args.key f.key_is m c.args.value.now
+    (field 4 row.rec property_next) next_is
     (subst (λ k. PutsProperty s m (f.property.id ∷ []) f.property.blocks f.property.id k c.args.value.now (field 4 row.rec property_next)) key_is
-    (puts_read s z m (f.property.id ∷ []) f.property.blocks f.property.id (field 4 row.rec property_key) c.args.value.now (field 4 row.rec property_next) (same g c) h.1))))
+    (puts_read s z m (f.property.id ∷ []) f.property.blocks f.property.id (field 4 row.rec property_key) c.args.value.now (field 4 row.rec property_next)
+    (same g c) h.1))))
     (c.put_again.ensures.put tells f.property (held g c tells es owns) may)
 
 pub returns-in-Found-clause-set : goal.returns-in-Found-clause-set
@@ -164,7 +170,8 @@ returns-in-Found-clause-alone_refused g c tells es owns known =
     let z = g.S.Reads.state c.find.new.space in
     let f = found g c tells es owns in
     IfErr-weaker c.put_again.result (IsPutFault z (length f.property.blocks) (blocks_of c.args.value.now)) (IsSetRefusalAlone s es c.args.key c.args.value.now)
-    (λ fault put. no_other_blocks s c.args.owner es owns c.args.key c.args.value.now f.property fault f.found (put_read_fault s z (length f.property.blocks) (blocks_of c.args.value.now) fault (same g c) put))
+    (λ fault put. no_other_blocks s c.args.owner es owns c.args.key c.args.value.now f.property fault f.found (put_read_fault s z (length f.property.blocks)
+    (blocks_of c.args.value.now) fault (same g c) put))
     (c.put_again.ensures.refused tells f.property (held g c tells es owns))
 
 pub returns-in-Found-clause-refused : goal.returns-in-Found-clause-refused
@@ -220,7 +227,8 @@ returns-in-Found-clause-writes g c =
     let key = c.args.owner.key in
     ok_so (λ r. TouchesProperties g.S.Reads.tells (key ∷ []) 1 (n + r) s m) (λ r. WritesAtMost (2 + n + r) s m) c.put_again.result
     (returns-in-Found-clause-touches g c)
-    (λ r h. beside_writes (1 + n + r) (2 + n + r) s m key (meta_of_element key.file c.requires.owner.file) (omega arith) (touched_beside 1 (n + r) (1 + n + r) s m key (omega arith) h))
+    (λ r h. beside_writes (1 + n + r) (2 + n + r) s m key (meta_of_element key.file c.requires.owner.file) (omega arith) (touched_beside 1 (n + r) (1 + n + r)
+    s m key (omega arith) h))
 
 -- ---- which record is blamed
 
@@ -277,7 +285,8 @@ returns-in_err-add-in-Absent-clause-caused g c tells =
     let met = subst (IsMet s.records c.args.owner c.args.key c.find.new.row) c.in-Absent.is (c.in_ok-count.ensures.met tells) in
     let fault = c.in_err-add-in-Absent.field-0.0 in
     set_has (IsSetCause crowded lacks n t) c.from_residual-in_err-add-in-Absent.result fault c.from_residual-in_err-add-in-Absent.ensures.1
-    (set_caused_more crowded (SameButReads z t) lacks (λ same. (met.0, same_then s z t (reads_same 33 s z c.find.ensures.at_most) same)) t n fault (c.in_err-add-in-Absent.ensures.caused tells))
+    (set_caused_more crowded (SameButReads z t) lacks (λ same. (met.0, same_then s z t (reads_same 33 s z c.find.ensures.at_most) same)) t n fault
+    (c.in_err-add-in-Absent.ensures.caused tells))
 
 pub returns-in-Found-clause-caused : goal.returns-in-Found-clause-caused
 returns-in-Found-clause-caused g c tells =

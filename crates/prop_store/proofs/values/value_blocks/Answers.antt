@@ -16,15 +16,18 @@ returns-in_default-clause-at_most g c = reads_none 22 _
 pub returns-in_default-clause-followed : goal.returns-in_default-clause-followed
 returns-in_default-clause-followed g c tells value blocks has =
     let row = c.args.row.now in
-    c.new.ensures ∙ sym (none_if_short (rec_at (g.R.Reads.state c.args.space.now).records strings_file) row.rec value blocks row.form has c.requires.form_is c.in_default.not-Long)
+    c.new.ensures ∙ sym (none_if_short (rec_at (g.R.Reads.state c.args.space.now).records strings_file) row.rec value blocks row.form has c.requires.form_is
+    c.in_default.not-Long)
 
 pub returns-in-Long-clause-damaged : goal.returns-in-Long-clause-damaged
 returns-in-Long-clause-damaged g c tells read =
-    c.block_ids.ensures.damaged tells (text_of_row (g.R.Reads.state c.args.space.now).records c.args.row.now c.in-Long.size c.in-Long.first c.requires.form_is c.in-Long.is read)
+    c.block_ids.ensures.damaged tells (text_of_row (g.R.Reads.state c.args.space.now).records c.args.row.now c.in-Long.size c.in-Long.first c.requires.form_is
+    c.in-Long.is read)
 
 pub returns-in-Long-clause-has : goal.returns-in-Long-clause-has
 returns-in-Long-clause-has g c tells read =
-    c.block_ids.ensures.has tells (text_of_row (g.R.Reads.state c.args.space.now).records c.args.row.now c.in-Long.size c.in-Long.first c.requires.form_is c.in-Long.is read)
+    c.block_ids.ensures.has tells (text_of_row (g.R.Reads.state c.args.space.now).records c.args.row.now c.in-Long.size c.in-Long.first c.requires.form_is
+    c.in-Long.is read)
 
 pub returns-in_default-clause-has : goal.returns-in_default-clause-has
 returns-in_default-clause-has g c tells read b i = elim (subst (In b) c.new.ensures i) [ ]

@@ -18,5 +18,6 @@ returns-clause-places c =
     let long : c.len-count.result + c.args.size ≡ length old + c.args.size = omega (arith, c.len-count.ensures, c.args.order.now.ok.0) in
     let made : c.len-count.result - 0 ≡ length old = omega (arith, c.len-count.ensures, c.args.order.now.ok.0) in
     around_opened old c.resize.new.self.items c.copy_within.new.self.items _ c.args.size (c.len-count.result - 0) refl refl
-    (longer old c.resize.new.self.items (c.len-count.result + c.args.size) _ c.args.size c.is_err.result (is_ok c.resize.result) c.is_err.ensures.negation c.if-is_err.false c.args.order.now.ok.0 long c.resize.ensures.items)
+    (longer old c.resize.new.self.items (c.len-count.result + c.args.size) _ c.args.size c.is_err.result (is_ok c.resize.result) c.is_err.ensures.negation
+    c.if-is_err.false c.args.order.now.ok.0 long c.resize.ensures.items)
     made c.copy_within.ensures.items

@@ -42,7 +42,8 @@ index-requires-in-loop-low c =
     let order = around c.args.order.now.items c.args.hole in
     let middle : i < c.loop-low.high = omega arith in
     let behind : c.args.hole.start ≤ i = omega (arith, c.loop-low.invariant.behind) in
-    rw (c.args.pairs.now.ok.0) (subst (λ n. n < length c.args.pairs.now.items) (get_or-around c.args.order.now.items c.args.hole i c.index.result.now c.requires.within behind ∙ sym c.index.ensures)
+    rw (c.args.pairs.now.ok.0) (subst (λ n. n < length c.args.pairs.now.items) (get_or-around c.args.order.now.items c.args.hole i c.index.result.now
+    c.requires.within behind ∙ sym c.index.ensures)
     (all_at (λ n. n < length c.args.pairs.now.items) order i c.index.result.now c.requires.ordered.places
     (place_within c.args.pairs.now.items order i (omega (arith, middle, c.loop-low.invariant.searching.within)))))
 

@@ -63,7 +63,8 @@ loop-i-preserved c =
       all = ap (λ (p : Pairs). merged p later) c.put_behind-hole.ensures.pairs ∙ sym (ap (merged now) next) ∙ c.loop-i.invariant.all;
       size = omega (arith, grown, left, c.loop-i.invariant.size, c.put_behind-hole.ensures.size);
       below = λ lt. c.put_behind-hole.ensures.below (get_or other (i + 1) no_pair).0
-          (subst (λ (p : Key × Rec). key_cmp p.0 (get_or other (i + 1) no_pair).0 ≡ Less) here (rises other i (i + 1) no_pair c.len-i-end.ensures.rising (omega arith) lt));
+          (subst (λ (p : Key × Rec). key_cmp p.0 (get_or other (i + 1) no_pair).0 ≡ Less) here (rises other i (i + 1) no_pair c.len-i-end.ensures.rising
+          (omega arith) lt));
       room = omega (arith, c.loop-i.invariant.room, c.put_behind-hole.ensures.count, c.put_behind-hole.ensures.pairs_capacity);
       pairs_capacity = omega (arith, c.loop-i.invariant.pairs_capacity, c.put_behind-hole.ensures.pairs_capacity);
       order_capacity = omega (arith, c.loop-i.invariant.order_capacity, c.put_behind-hole.ensures.order_capacity);

@@ -14,7 +14,8 @@ use Rattle.rec_bytes.proofs.write_set.put_behind.Goals.{After-fill_hole}
 
 pub index_mut-requires : goal.index_mut-requires
 index_mut-requires c =
-    rw (c.args.pairs.now.ok.0) (pair_within c.args.pairs.now.items (around c.args.order.now.items c.args.hole) c.args.key c.in-Ok.place c.requires.state.hinted.ordered c.in-Ok.ensures.found)
+    rw (c.args.pairs.now.ok.0) (pair_within c.args.pairs.now.items (around c.args.order.now.items c.args.hole) c.args.key c.in-Ok.place
+    c.requires.state.hinted.ordered c.in-Ok.ensures.found)
 
 pub returns-in-Ok-clause-state : goal.returns-in-Ok-clause-state
 returns-in-Ok-clause-state c =
@@ -69,7 +70,8 @@ returns-in-Err-clause-state c =
     let some : 0 < c.args.hole.size = omega (arith, one, c.requires.size) in
     let positive : 0 < c.len-place.result + 1 = omega arith in
     subst (λ (p : Pairs). IsOpen p c.fill_hole.new.order.items c.write_hint.new.hints.items c.fill_hole.result) (sym c.push_reserved.ensures.items)
-    (open_added c.args.pairs.now.items c.args.order.now.items c.args.hints.now.items c.fill_hole.new.order.items c.write_hint.new.hints.items c.args.hole c.fill_hole.result
+    (open_added c.args.pairs.now.items c.args.order.now.items c.args.hints.now.items c.fill_hole.new.order.items c.write_hint.new.hints.items c.args.hole
+    c.fill_hole.result
     c.args.key c.args.rec c.in-Err.i (c.len-place.result + 1) c.requires.state c.in-Err.ensures.absent c.requires.key some positive c.write_hint.ensures
     c.fill_hole.ensures.start c.fill_hole.ensures.size c.fill_hole.ensures.count (filled c))
 

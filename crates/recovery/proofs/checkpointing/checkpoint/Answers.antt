@@ -28,7 +28,8 @@ written g first now changed tail is alike leaves =
     let disk = g.D.Disk in
     let space = laid_over (record_at (disk.reads first)) changed in
     at_each_moment_weaker disk first now (IsTornInRecords (disk.may_leave first) changed) (RedoesBy is.entries tail space) leaves
-    (RedoesBy-torn_in is.entries tail space changed (disk.may_leave first) (AllRedoBy-alike (disk.reads first) changed tail (disk.may_leave first) is alike) (AreLogged-changed (disk.reads first) changed tail is))
+    (RedoesBy-torn_in is.entries tail space changed (disk.may_leave first) (AllRedoBy-alike (disk.reads first) changed tail (disk.may_leave first) is alike)
+    (AreLogged-changed (disk.reads first) changed tail is))
 
 weaker : (g : Over) (first now : g.row.D.Denot) (entries : List Pairs) (tail : ℕ) (space : Key → Rec)
     → AtEachMoment g.D.Disk first now (RedoesBy entries tail space) → AtEachMoment g.D.Disk first now (λ content. Redoes content space)
@@ -43,7 +44,8 @@ read_by g first written now changed tail is same kept =
     let disk = g.D.Disk in
     let space = laid_over (record_at (disk.reads first)) changed in
     RedoesBy-kept is.entries tail space (disk.reads written) (disk.reads now)
-    (RedoesBy-torn is.entries tail space changed (disk.reads first) (disk.reads written) (RedoesBy-logged (disk.reads first) changed tail is) same (AreLogged-changed (disk.reads first) changed tail is)) kept
+    (RedoesBy-torn is.entries tail space changed (disk.reads first) (disk.reads written) (RedoesBy-logged (disk.reads first) changed tail is) same
+    (AreLogged-changed (disk.reads first) changed tail is)) kept
 
 pub returns-in_err-write_records-clause-crash : goal.returns-in_err-write_records-clause-crash
 returns-in_err-write_records-clause-crash g c reads images tail is alike =
@@ -52,7 +54,8 @@ returns-in_err-write_records-clause-crash g c reads images tail is alike =
 
 pub returns-in_err-write_records-clause-read : goal.returns-in_err-write_records-clause-read
 returns-in_err-write_records-clause-read g c reads tail is =
-    Redoes-by is.entries tail _ _ (read_by g c.args.disk.now c.write_records.new.disk c.write_records.new.disk c.args.changed.now.pairs tail is c.write_records.ensures.elsewhere (λ file place. refl))
+    Redoes-by is.entries tail _ _ (read_by g c.args.disk.now c.write_records.new.disk c.write_records.new.disk c.args.changed.now.pairs tail is
+    c.write_records.ensures.elsewhere (λ file place. refl))
 
 pub returns-in_err-sync_record_files-clause-crash : goal.returns-in_err-sync_record_files-clause-crash
 returns-in_err-sync_record_files-clause-crash g c reads images tail is alike =
@@ -66,7 +69,8 @@ returns-in_err-sync_record_files-clause-crash g c reads images tail is alike =
 pub returns-in_err-sync_record_files-clause-read : goal.returns-in_err-sync_record_files-clause-read
 returns-in_err-sync_record_files-clause-read g c reads tail is =
     Redoes-by is.entries tail _ _
-    (read_by g c.args.disk.now c.write_records.new.disk c.sync_record_files.new.disk c.args.changed.now.pairs tail is c.write_records.ensures.elsewhere c.sync_record_files.ensures.only_reads.keeps)
+    (read_by g c.args.disk.now c.write_records.new.disk c.sync_record_files.new.disk c.args.changed.now.pairs tail is c.write_records.ensures.elsewhere
+    c.sync_record_files.ensures.only_reads.keeps)
 
 -- the records that are read before the reset are those of the space
 space_read : (g : Over) (c : goal.After-reset g) → g.D.Disk.tells_reads
@@ -91,7 +95,8 @@ returns-clause-crash g c reads images tail is alike =
     (weaker g first now is.entries tail space before)
     (c.reset.ensures.crash reads images is.entries tail (AllHaveEntries-redo (disk.may_leave now) is.entries tail space all))
     (Redoes-reset is.entries tail space (disk.may_leave now) all
-    (λ image left. records-settled (disk.reads now) (disk.may_leave now) (c.in_ok-sync_record_files.ensures.settled reads images) image left ∙ space_read g c reads))
+    (λ image left. records-settled (disk.reads now) (disk.may_leave now) (c.in_ok-sync_record_files.ensures.settled reads images) image left ∙ space_read g c
+    reads))
 
 pub returns-clause-read : goal.returns-clause-read
 returns-clause-read g c reads tail is =

@@ -31,7 +31,8 @@ loop-count-preserved g c =
           let same : mid ≡ first = same_content first mid to_mid.keeps in
           IsReadTo-more first place c.in-Entry.next c.loop-count.metas.records c.take_entry.new.metas.records (was.read reads) told.0
           (told.2 ∙ ap (λ n. place + entry_bytes n) told.1)
-          (λ space are. subst (λ (content : Files). AreMetasOf (laid_over space (entry_at content place)) c.take_entry.new.metas.records) same (c.in_ok-take_entry-in-Entry.ensures.taken reads at space are));
+          (λ space are. subst (λ (content : Files). AreMetasOf (laid_over space (entry_at content place)) c.take_entry.new.metas.records) same
+          (c.in_ok-take_entry-in-Entry.ensures.taken reads at space are));
       only_reads = only_reads_on disk c.args.disk.now c.entry_at.new.disk c.take_entry.new.disk to_mid c.take_entry.ensures.only_reads;
       later = omega (arith, was.later, c.entry_at.ensures.later, c.take_entry.ensures.cause.later);
     }

@@ -29,7 +29,8 @@ loop-index-preserved g c =
           let below : c.loop-index.index < count_at first c.args.place = omega (arith, at.count_is, c.loop-index-test.true) in
           let is : slice_get (entry_at first c.args.place) c.loop-index.index ≡ Some write =
           subst (λ (content : Files). slice_get (entry_at content c.args.place) c.loop-index.index ≡ Some write) same
-          (c.in_ok-key.ensures.of_entry reads (c.loop-index.invariant.keeps reads at.kept) (subst (λ (content : Files). c.loop-index.index < count_at content c.args.place) (sym same) below)) in
+          (c.in_ok-key.ensures.of_entry reads (c.loop-index.invariant.keeps reads at.kept) (subst (λ (content : Files). c.loop-index.index < count_at content
+          c.args.place) (sym same) below)) in
           IsTaken-more c.loop-index.metas.records c.put.new.self.records space (entry_at first c.args.place) c.loop-index.index write at.entry.form.rising is
           (c.loop-index.invariant.taken reads at space are) c.put.ensures;
       keeps = λ reads kept. c.write_at.ensures.keeps reads (c.loop-index.invariant.keeps reads kept);

@@ -39,7 +39,8 @@ staying g first found now images unmade redoes more =
     let disk = g.D.Disk in
     let P : Files → Type 0 = λ content. disk.may_leave first content ⊎ IsUnmade content in
     let same : disk.reads found ≡ disk.reads first = λ i file place. redoes.keeps file place i in
-    at_each_moment_on disk first found now P IsUnmade (at_each_moment_weaker disk first found (disk.may_leave first) P (redoes.time images) (λ content left. inl left))
+    at_each_moment_on disk first found now P IsUnmade (at_each_moment_weaker disk first found (disk.may_leave first) P (redoes.time images)
+    (λ content left. inl left))
     (more (subst IsUnmade (sym same) unmade)) (λ content none. inr none)
 
 pub returns-in_err-found-clause-unmade : goal.returns-in_err-found-clause-unmade
@@ -69,7 +70,8 @@ returns-in_err-redo-clause-crash g c reads images space redoes =
 
 pub returns-in_err-redo-clause-read : goal.returns-in_err-redo-clause-read
 returns-in_err-redo-clause-read g c reads space redoes =
-    c.redo.ensures.read reads space (Redoes-kept space (g.D.Disk.reads c.args.disk.now) (g.D.Disk.reads c.find_store.new.disk) redoes c.find_store.ensures.only_reads.keeps)
+    c.redo.ensures.read reads space (Redoes-kept space (g.D.Disk.reads c.args.disk.now) (g.D.Disk.reads c.find_store.new.disk)
+    redoes c.find_store.ensures.only_reads.keeps)
 
 -- what is told of a fault that is the disk's
 Refuses-disk : (content : Files) (fault : RecoverFault) → fault ≡ faults.Disk → Refuses content fault
@@ -80,19 +82,22 @@ returns-in_err-redo-clause-refused g c reads =
     let first = g.D.Disk.reads c.args.disk.now in
     let intact : IsIntact first = c.in_ok-found.ensures.intact reads in
     let p = err_from_is_err_and c.from_residual-in_err-redo.result c.from_residual-in_err-redo.ensures.1 in
-    rw (p.1, p.2) (Refuses-disk first _ (c.in_err-redo.ensures.sound reads intact.0 (Redoes-kept intact.0 first (g.D.Disk.reads c.find_store.new.disk) intact.1 c.find_store.ensures.only_reads.keeps)))
+    rw (p.1, p.2) (Refuses-disk first _ (c.in_err-redo.ensures.sound reads intact.0 (Redoes-kept intact.0 first (g.D.Disk.reads c.find_store.new.disk)
+    intact.1 c.find_store.ensures.only_reads.keeps)))
 
 pub returns-in_err-redo-clause-untouched : goal.returns-in_err-redo-clause-untouched
 returns-in_err-redo-clause-untouched g c reads =
     let first = g.D.Disk.reads c.args.disk.now in
     let intact : IsIntact first = c.in_ok-found.ensures.intact reads in
     let p = err_from_is_err_and c.from_residual-in_err-redo.result c.from_residual-in_err-redo.ensures.1 in
-    rw (p.1, p.2) (λ other. absurd (other (c.in_err-redo.ensures.sound reads intact.0 (Redoes-kept intact.0 first (g.D.Disk.reads c.find_store.new.disk) intact.1 c.find_store.ensures.only_reads.keeps))))
+    rw (p.1, p.2) (λ other. absurd (other (c.in_err-redo.ensures.sound reads intact.0 (Redoes-kept intact.0 first (g.D.Disk.reads c.find_store.new.disk)
+    intact.1 c.find_store.ensures.only_reads.keeps))))
 
 pub returns-in_err-redo-clause-sound : goal.returns-in_err-redo-clause-sound
 returns-in_err-redo-clause-sound g c reads space redoes stands =
     let p = err_from_is_err_and c.from_residual-in_err-redo.result c.from_residual-in_err-redo.ensures.1 in
-    rw (p.1, p.2) (c.in_err-redo.ensures.sound reads space (Redoes-kept space (g.D.Disk.reads c.args.disk.now) (g.D.Disk.reads c.find_store.new.disk) redoes c.find_store.ensures.only_reads.keeps))
+    rw (p.1, p.2) (c.in_err-redo.ensures.sound reads space (Redoes-kept space (g.D.Disk.reads c.args.disk.now) (g.D.Disk.reads c.find_store.new.disk)
+    redoes c.find_store.ensures.only_reads.keeps))
 
 pub returns-clause-crash : goal.returns-clause-crash
 returns-clause-crash g c reads images space redoes =
@@ -101,11 +106,13 @@ returns-clause-crash g c reads images space redoes =
 
 pub returns-clause-read : goal.returns-clause-read
 returns-clause-read g c reads space redoes =
-    c.redo.ensures.read reads space (Redoes-kept space (g.D.Disk.reads c.args.disk.now) (g.D.Disk.reads c.find_store.new.disk) redoes c.find_store.ensures.only_reads.keeps)
+    c.redo.ensures.read reads space (Redoes-kept space (g.D.Disk.reads c.args.disk.now) (g.D.Disk.reads c.find_store.new.disk)
+    redoes c.find_store.ensures.only_reads.keeps)
 
 pub returns-clause-space : goal.returns-clause-space
 returns-clause-space g c reads space redoes =
-    c.in_ok-redo.ensures.space reads space (Redoes-kept space (g.D.Disk.reads c.args.disk.now) (g.D.Disk.reads c.find_store.new.disk) redoes c.find_store.ensures.only_reads.keeps)
+    c.in_ok-redo.ensures.space reads space (Redoes-kept space (g.D.Disk.reads c.args.disk.now) (g.D.Disk.reads c.find_store.new.disk)
+    redoes c.find_store.ensures.only_reads.keeps)
 
 -- the log is redone only over what was found
 recoverable : (g : Over) (first : g.row.D.Denot) (found : Found) (intact : IsIntact (g.D.Disk.reads first)) → IsFound (g.D.Disk.reads first) intact.0 found

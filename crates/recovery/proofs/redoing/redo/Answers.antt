@@ -55,7 +55,8 @@ while_synced g first written now space redoes images settled leaves reads =
 while_reset : (g : Over) (first synced now : g.row.D.Denot) (space : Key → Rec) (redoes : Redoes (g.D.Disk.reads first) space) → g.D.Disk.tells_images
     → AtEachMoment g.D.Disk first synced (RedoesBy redoes.entries redoes.tail space)
     → AreRecordsSettled g.D.Disk synced → record_at (g.D.Disk.reads synced) ≡ space
-    → (AllHaveEntries (g.D.Disk.may_leave synced) redoes.entries redoes.tail → AtEachMoment g.D.Disk synced now (IsReset (g.D.Disk.may_leave synced) redoes.entries redoes.tail)) → AtEachMoment g.D.Disk first now (Stays space)
+    → (AllHaveEntries (g.D.Disk.may_leave synced) redoes.entries redoes.tail → AtEachMoment g.D.Disk synced now (IsReset (g.D.Disk.may_leave synced)
+    redoes.entries redoes.tail)) → AtEachMoment g.D.Disk first now (Stays space)
 while_reset g first synced now space redoes images before records are reset =
     let disk = g.D.Disk in
     let entries = redoes.entries in
@@ -64,7 +65,8 @@ while_reset g first synced now space redoes images before records are reset =
     images before in
     at_each_moment_on disk first synced now (Stays space) (IsReset (disk.may_leave synced) entries tail) (weaker g first synced entries tail space before)
     (reset (AllHaveEntries-redo (disk.may_leave synced) entries tail space all))
-    (Redoes-reset entries tail space (disk.may_leave synced) all (λ image left. records-settled (disk.reads synced) (disk.may_leave synced) records image left ∙ are))
+    (Redoes-reset entries tail space (disk.may_leave synced) all (λ image left. records-settled (disk.reads synced) (disk.may_leave synced) records image left
+    ∙ are))
 
 -- what is read once the records are written
 read_by : (g : Over) (first written now : g.row.D.Denot) (space : Key → Rec) (redoes : Redoes (g.D.Disk.reads first) space)
@@ -87,12 +89,14 @@ space_read g first written now space redoes made kept =
 pub returns-in_err-redo_entries-clause-crash : goal.returns-in_err-redo_entries-clause-crash
 returns-in_err-redo_entries-clause-crash g c reads images settled space redoes =
     weaker g c.args.disk.now c.redo_entries.new.disk redoes.entries redoes.tail space
-    (while_written g c.args.disk.now c.redo_entries.new.disk space redoes settled (c.redo_entries.ensures.crash reads images redoes.entries redoes.tail redoes.log))
+    (while_written g c.args.disk.now c.redo_entries.new.disk space redoes settled (c.redo_entries.ensures.crash reads images redoes.entries redoes.tail
+    redoes.log))
 
 pub returns-in_err-redo_entries-clause-read : goal.returns-in_err-redo_entries-clause-read
 returns-in_err-redo_entries-clause-read g c reads space redoes =
     Redoes-by redoes.entries redoes.tail space (g.D.Disk.reads c.redo_entries.new.disk)
-    (read_by g c.args.disk.now c.redo_entries.new.disk c.redo_entries.new.disk space redoes (c.redo_entries.ensures.elsewhere reads redoes.entries redoes.tail redoes.log) (λ file place. refl))
+    (read_by g c.args.disk.now c.redo_entries.new.disk c.redo_entries.new.disk space redoes (c.redo_entries.ensures.elsewhere reads redoes.entries redoes.tail
+    redoes.log) (λ file place. refl))
 
 pub returns-in_err-redo_entries-clause-sound : goal.returns-in_err-redo_entries-clause-sound
 returns-in_err-redo_entries-clause-sound g c reads space redoes =
@@ -102,19 +106,23 @@ returns-in_err-redo_entries-clause-sound g c reads space redoes =
 pub returns-in_err-sync_record_files-clause-crash : goal.returns-in_err-sync_record_files-clause-crash
 returns-in_err-sync_record_files-clause-crash g c reads images settled space redoes =
     weaker g c.args.disk.now c.sync_record_files.new.disk redoes.entries redoes.tail space
-    (while_synced g c.args.disk.now c.redo_entries.new.disk c.sync_record_files.new.disk space redoes images settled (c.redo_entries.ensures.crash reads images redoes.entries redoes.tail redoes.log) c.sync_record_files.ensures.only_reads)
+    (while_synced g c.args.disk.now c.redo_entries.new.disk c.sync_record_files.new.disk space redoes images settled (c.redo_entries.ensures.crash reads images
+    redoes.entries redoes.tail redoes.log) c.sync_record_files.ensures.only_reads)
 
 pub returns-in_err-sync_record_files-clause-read : goal.returns-in_err-sync_record_files-clause-read
 returns-in_err-sync_record_files-clause-read g c reads space redoes =
     Redoes-by redoes.entries redoes.tail space (g.D.Disk.reads c.sync_record_files.new.disk)
-    (read_by g c.args.disk.now c.redo_entries.new.disk c.sync_record_files.new.disk space redoes (c.redo_entries.ensures.elsewhere reads redoes.entries redoes.tail redoes.log) c.sync_record_files.ensures.only_reads.keeps)
+    (read_by g c.args.disk.now c.redo_entries.new.disk c.sync_record_files.new.disk space redoes (c.redo_entries.ensures.elsewhere reads redoes.entries
+    redoes.tail redoes.log) c.sync_record_files.ensures.only_reads.keeps)
 
 pub returns-in_err-reset-clause-crash : goal.returns-in_err-reset-clause-crash
 returns-in_err-reset-clause-crash g c reads images settled space redoes =
     while_reset g c.args.disk.now c.sync_record_files.new.disk c.reset.new.disk space redoes images
-    (while_synced g c.args.disk.now c.redo_entries.new.disk c.sync_record_files.new.disk space redoes images settled (c.redo_entries.ensures.crash reads images redoes.entries redoes.tail redoes.log) c.sync_record_files.ensures.only_reads)
+    (while_synced g c.args.disk.now c.redo_entries.new.disk c.sync_record_files.new.disk space redoes images settled (c.redo_entries.ensures.crash reads images
+    redoes.entries redoes.tail redoes.log) c.sync_record_files.ensures.only_reads)
     (c.in_ok-sync_record_files.ensures.settled reads images)
-    (space_read g c.args.disk.now c.redo_entries.new.disk c.sync_record_files.new.disk space redoes (c.in_ok-redo_entries.ensures.redone reads redoes.entries redoes.tail redoes.log) c.sync_record_files.ensures.only_reads.keeps)
+    (space_read g c.args.disk.now c.redo_entries.new.disk c.sync_record_files.new.disk space redoes (c.in_ok-redo_entries.ensures.redone reads redoes.entries
+    redoes.tail redoes.log) c.sync_record_files.ensures.only_reads.keeps)
     (c.reset.ensures.crash reads images redoes.entries redoes.tail)
 
 pub returns-in_err-reset-clause-read : goal.returns-in_err-reset-clause-read
@@ -123,14 +131,16 @@ returns-in_err-reset-clause-read g c reads space redoes =
     let by = read_by g c.args.disk.now c.redo_entries.new.disk c.sync_record_files.new.disk space redoes
     (c.redo_entries.ensures.elsewhere reads redoes.entries redoes.tail redoes.log) c.sync_record_files.ensures.only_reads.keeps in
     Redoes-gate redoes.entries redoes.tail space (disk.reads c.sync_record_files.new.disk) (disk.reads c.reset.new.disk) by
-    (space_read g c.args.disk.now c.redo_entries.new.disk c.sync_record_files.new.disk space redoes (c.in_ok-redo_entries.ensures.redone reads redoes.entries redoes.tail redoes.log) c.sync_record_files.ensures.only_reads.keeps)
+    (space_read g c.args.disk.now c.redo_entries.new.disk c.sync_record_files.new.disk space redoes (c.in_ok-redo_entries.ensures.redone reads redoes.entries
+    redoes.tail redoes.log) c.sync_record_files.ensures.only_reads.keeps)
     c.reset.ensures.elsewhere (c.reset.ensures.read reads redoes.entries redoes.tail by.log)
 
 -- where the log has no entry
 pub returns-then-not-branch-clause-crash : goal.returns-then-not-branch-clause-crash
 returns-then-not-branch-clause-crash g c reads images settled space redoes =
     weaker g c.args.disk.now c.redo_entries.new.disk redoes.entries redoes.tail space
-    (while_written g c.args.disk.now c.redo_entries.new.disk space redoes settled (c.redo_entries.ensures.crash reads images redoes.entries redoes.tail redoes.log))
+    (while_written g c.args.disk.now c.redo_entries.new.disk space redoes settled (c.redo_entries.ensures.crash reads images redoes.entries redoes.tail
+    redoes.log))
 
 pub returns-then-not-branch-clause-unmade : goal.returns-then-not-branch-clause-unmade
 returns-then-not-branch-clause-unmade g c reads images settled unmade =
@@ -139,9 +149,11 @@ returns-then-not-branch-clause-unmade g c reads images settled unmade =
 pub returns-clause-crash : goal.returns-clause-crash
 returns-clause-crash g c reads images settled space redoes =
     while_reset g c.args.disk.now c.sync_record_files.new.disk c.reset.new.disk space redoes images
-    (while_synced g c.args.disk.now c.redo_entries.new.disk c.sync_record_files.new.disk space redoes images settled (c.redo_entries.ensures.crash reads images redoes.entries redoes.tail redoes.log) c.sync_record_files.ensures.only_reads)
+    (while_synced g c.args.disk.now c.redo_entries.new.disk c.sync_record_files.new.disk space redoes images settled (c.redo_entries.ensures.crash reads images
+    redoes.entries redoes.tail redoes.log) c.sync_record_files.ensures.only_reads)
     (c.in_ok-sync_record_files.ensures.settled reads images)
-    (space_read g c.args.disk.now c.redo_entries.new.disk c.sync_record_files.new.disk space redoes (c.in_ok-redo_entries.ensures.redone reads redoes.entries redoes.tail redoes.log) c.sync_record_files.ensures.only_reads.keeps)
+    (space_read g c.args.disk.now c.redo_entries.new.disk c.sync_record_files.new.disk space redoes (c.in_ok-redo_entries.ensures.redone reads redoes.entries
+    redoes.tail redoes.log) c.sync_record_files.ensures.only_reads.keeps)
     (c.reset.ensures.crash reads images redoes.entries redoes.tail)
 
 pub returns-clause-read : goal.returns-clause-read
@@ -150,7 +162,8 @@ returns-clause-read g c reads space redoes =
     let by = read_by g c.args.disk.now c.redo_entries.new.disk c.sync_record_files.new.disk space redoes
     (c.redo_entries.ensures.elsewhere reads redoes.entries redoes.tail redoes.log) c.sync_record_files.ensures.only_reads.keeps in
     Redoes-gate redoes.entries redoes.tail space (disk.reads c.sync_record_files.new.disk) (disk.reads c.reset.new.disk) by
-    (space_read g c.args.disk.now c.redo_entries.new.disk c.sync_record_files.new.disk space redoes (c.in_ok-redo_entries.ensures.redone reads redoes.entries redoes.tail redoes.log) c.sync_record_files.ensures.only_reads.keeps)
+    (space_read g c.args.disk.now c.redo_entries.new.disk c.sync_record_files.new.disk space redoes (c.in_ok-redo_entries.ensures.redone reads redoes.entries
+    redoes.tail redoes.log) c.sync_record_files.ensures.only_reads.keeps)
     c.reset.ensures.elsewhere (c.reset.ensures.read reads redoes.entries redoes.tail by.log)
 
 pub returns-clause-space : goal.returns-clause-space
@@ -179,7 +192,8 @@ returns-in_err-reset-clause-unmade g c reads images settled unmade =
     (at_each_moment_read disk first c.redo_entries.new.disk c.sync_record_files.new.disk _ g.met.D.Disk.counts_now images
     (unmade_torn disk first c.redo_entries.new.disk unmade settled (c.redo_entries.ensures.crash reads images [] 0 unmade.log))
     c.sync_record_files.ensures.only_reads)
-    (c.reset.ensures.closed reads (unmade_gate (disk.reads first) (disk.reads c.redo_entries.new.disk) (disk.reads c.sync_record_files.new.disk) unmade (c.redo_entries.ensures.elsewhere reads [] 0 unmade.log) c.sync_record_files.ensures.only_reads.keeps))
+    (c.reset.ensures.closed reads (unmade_gate (disk.reads first) (disk.reads c.redo_entries.new.disk) (disk.reads c.sync_record_files.new.disk) unmade
+    (c.redo_entries.ensures.elsewhere reads [] 0 unmade.log) c.sync_record_files.ensures.only_reads.keeps))
 
 pub returns-clause-unmade : goal.returns-clause-unmade
 returns-clause-unmade g c reads images settled unmade =
@@ -189,7 +203,8 @@ returns-clause-unmade g c reads images settled unmade =
     (at_each_moment_read disk first c.redo_entries.new.disk c.sync_record_files.new.disk _ g.met.D.Disk.counts_now images
     (unmade_torn disk first c.redo_entries.new.disk unmade settled (c.redo_entries.ensures.crash reads images [] 0 unmade.log))
     c.sync_record_files.ensures.only_reads)
-    (c.reset.ensures.closed reads (unmade_gate (disk.reads first) (disk.reads c.redo_entries.new.disk) (disk.reads c.sync_record_files.new.disk) unmade (c.redo_entries.ensures.elsewhere reads [] 0 unmade.log) c.sync_record_files.ensures.only_reads.keeps))
+    (c.reset.ensures.closed reads (unmade_gate (disk.reads first) (disk.reads c.redo_entries.new.disk) (disk.reads c.sync_record_files.new.disk) unmade
+    (c.redo_entries.ensures.elsewhere reads [] 0 unmade.log) c.sync_record_files.ensures.only_reads.keeps))
 
 -- where the first gate is closed
 pub returns-in_err-sync_record_files-clause-closed : goal.returns-in_err-sync_record_files-clause-closed

@@ -28,7 +28,8 @@ crash_more g first old mid now entries tail piece place images was entry before 
     let P = IsTornInLogged (disk.may_leave first) entries in
     let at_mid = at_each_moment_read disk first old mid P g.met.D.Disk.counts_now images before reads in
     at_each_moment_on disk first mid now P (IsTornInRecords (disk.may_leave mid) (entry_at (disk.reads mid) place)) at_mid more
-    (IsTornInLogged-entry (disk.may_leave first) (disk.may_leave mid) entries tail (disk.reads mid) place was.done was.left (IsNext-entry entries tail (disk.reads mid) place was.done was.left entry was.rest was.all)
+    (IsTornInLogged-entry (disk.may_leave first) (disk.may_leave mid) entries tail (disk.reads mid) place was.done was.left (IsNext-entry entries tail
+    (disk.reads mid) place was.done was.left entry was.rest was.all)
     (at_each_moment_now disk first mid P g.met.D.Disk.counts_now images at_mid))
 
 -- What the reader told of the place: an entry stands there, after those that are redone.
@@ -64,7 +65,8 @@ none_entered g first old mid piece seen place count next closed was tells next_i
 
 pub returns-in_err-redo_entry-in-Entry-clause-closed : goal.returns-in_err-redo_entry-in-Entry-clause-closed
 returns-in_err-redo_entry-in-Entry-clause-closed g c reads closed =
-    absurd (none_entered g c.args.disk.now c.loop-count.disk c.entry_at.new.disk c.loop-count.reader c.entry_at.new.self c.loop-count.place c.in-Entry.count c.in-Entry.next closed
+    absurd (none_entered g c.args.disk.now c.loop-count.disk c.entry_at.new.disk c.loop-count.reader c.entry_at.new.self c.loop-count.place c.in-Entry.count
+    c.in-Entry.next closed
     (λ has. c.loop-count.invariant.made reads [] 0 has) (c.in-Entry.ensures.tells reads) c.in-Entry.ensures.in_log.2 c.entry_at.ensures.only_reads
     (c.entry_at.ensures.keeps reads))
 
@@ -79,7 +81,8 @@ returns-in_err-redo_entry-in-Entry-clause-elsewhere g c reads entries tail has =
     (c.entry_at.ensures.keeps reads) in
     let next = IsNext-entry entries tail mid c.loop-count.place is.now.done is.now.left is.at.entry is.now.rest is.now.all in
     SameButLogged-then entries first mid (disk.reads c.redo_entry.new.disk) is.now.same
-    (SameButLogged-entry entries is.now.done next.later (entry_at mid c.loop-count.place) mid (disk.reads c.redo_entry.new.disk) next.left_is (c.redo_entry.ensures.elsewhere reads is.at))
+    (SameButLogged-entry entries is.now.done next.later (entry_at mid c.loop-count.place) mid (disk.reads c.redo_entry.new.disk) next.left_is
+    (c.redo_entry.ensures.elsewhere reads is.at))
 
 pub returns-in_err-redo_entry-in-Entry-clause-crash : goal.returns-in_err-redo_entry-in-Entry-clause-crash
 returns-in_err-redo_entry-in-Entry-clause-crash g c reads images entries tail has =
@@ -94,7 +97,8 @@ returns-in_err-redo_entry-in-Entry-clause-crash g c reads images entries tail ha
 pub returns-in_err-redo_entry-in-Entry-clause-sound : goal.returns-in_err-redo_entry-in-Entry-clause-sound
 returns-in_err-redo_entry-in-Entry-clause-sound g c reads entries tail has =
     let p = err_from_is_err_and c.from_residual.result c.from_residual.ensures.1 in
-    rw (p.1, p.2) (c.in_err-redo_entry-in-Entry.ensures.sound reads (told g c.args.disk.now c.loop-count.disk c.entry_at.new.disk entries tail c.loop-count.reader c.entry_at.new.self c.loop-count.place c.in-Entry.count c.in-Entry.next
+    rw (p.1, p.2) (c.in_err-redo_entry-in-Entry.ensures.sound reads (told g c.args.disk.now c.loop-count.disk c.entry_at.new.disk entries tail
+    c.loop-count.reader c.entry_at.new.self c.loop-count.place c.in-Entry.count c.in-Entry.next
     (c.loop-count.invariant.made reads entries tail has) (c.in-Entry.ensures.tells reads) c.in-Entry.ensures.in_log.2 c.entry_at.ensures.only_reads
     (c.entry_at.ensures.keeps reads)).at)
 
@@ -121,7 +125,8 @@ loop-count-preserved g c =
           crash_more g c.args.disk.now c.loop-count.disk c.entry_at.new.disk c.redo_entry.new.disk entries tail c.entry_at.new.self c.loop-count.place images
           is.now is.at.entry (c.loop-count.invariant.crash reads images entries tail has)
           c.entry_at.ensures.only_reads (c.redo_entry.ensures.crash reads images is.at);
-      closed = λ reads closed. absurd (none_entered g c.args.disk.now c.loop-count.disk c.entry_at.new.disk c.loop-count.reader c.entry_at.new.self c.loop-count.place c.in-Entry.count c.in-Entry.next closed
+      closed = λ reads closed. absurd (none_entered g c.args.disk.now c.loop-count.disk c.entry_at.new.disk c.loop-count.reader c.entry_at.new.self
+          c.loop-count.place c.in-Entry.count c.in-Entry.next closed
           (λ has. c.loop-count.invariant.made reads [] 0 has) (c.in-Entry.ensures.tells reads) c.in-Entry.ensures.in_log.2 c.entry_at.ensures.only_reads
           (c.entry_at.ensures.keeps reads));
       first = λ none. absurd (false≢true (sym none));
@@ -165,4 +170,5 @@ returns-in-End-clause-untouched g c none =
 pub returns-in-End-clause-none : goal.returns-in-End-clause-none
 returns-in-End-clause-none g c reads none is_open =
     c.in-End.ensures.tells reads (c.loop-count.invariant.fresh reads none)
-    (ap (λ place. g.D.Disk.reads c.loop-count.disk log_file place) (c.loop-count.invariant.first none) ∙ (c.loop-count.invariant.untouched none).keeps log_file 0 ∙ is_open)
+    (ap (λ place. g.D.Disk.reads c.loop-count.disk log_file place) (c.loop-count.invariant.first none) ∙ (c.loop-count.invariant.untouched none).keeps log_file
+    0 ∙ is_open)

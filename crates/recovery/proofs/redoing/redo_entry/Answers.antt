@@ -72,7 +72,8 @@ loop-index-preserved g c =
           c.loop-index-test.true (c.in_ok-key.ensures.of_entry reads) in
           IsPartWritten-more first read (disk.reads c.put.new.disk) c.write_at.new.self c.args.place c.loop-index.index write c.loop-index.run c.put.new.self
           at.entry
-          (IsPartWritten-read first old read c.loop-index.reader c.write_at.new.self c.args.place c.loop-index.index c.loop-index.run was c.write_at.ensures.only_reads.keeps (c.write_at.ensures.keeps reads was.kept))
+          (IsPartWritten-read first old read c.loop-index.reader c.write_at.new.self c.args.place c.loop-index.index c.loop-index.run was
+          c.write_at.ensures.only_reads.keeps (c.write_at.ensures.keeps reads was.kept))
           is (c.in_ok-put.ensures.written reads) c.put.ensures.waits c.put.ensures.elsewhere;
       crash = λ reads images at.
           crash_more g c.args.disk.now c.loop-index.disk c.write_at.new.disk c.put.new.disk pairs c.loop-index.run (c.loop-index.invariant.part reads at).among

@@ -26,7 +26,8 @@ synced : (g : Over) (first before now : g.row.D.Denot) (P : Files → Type 0) �
     → NoMore (g.D.Disk.may_leave before) (g.D.Disk.may_leave now) → Leaves g first now P
 synced g first before now P images leaves time fewer =
     let disk = g.D.Disk in
-    leaves_no_more _ _ _ _ _ _ (disk.may_leave before) _ P leaves (λ image later left. g.met.D.Disk.counts_now before (disk.moment first) image images later left) time fewer
+    leaves_no_more _ _ _ _ _ _ (disk.may_leave before) _ P leaves (λ image later left. g.met.D.Disk.counts_now before (disk.moment first) image images later
+    left) time fewer
 
 -- with the gate written too
 gated : (g : Over) (first laid stable now : g.row.D.Denot) (entries : List Pairs) (writes : Pairs) (tail : ℕ) → g.D.Disk.tells_images
@@ -45,15 +46,18 @@ gated g first laid stable now entries writes tail images all form whole fits lea
 
 pub returns-in_err-write_payload-clause-crash : goal.returns-in_err-write_payload-clause-crash
 returns-in_err-write_payload-clause-crash g c reads images entries all =
-    leaves_weaker _ _ _ _ _ _ (c.write_payload.ensures.crash images) (IsAppended-torn (g.D.Disk.may_leave c.args.disk.now) entries c.args.writes.now.pairs c.args.tail all)
+    leaves_weaker _ _ _ _ _ _ (c.write_payload.ensures.crash images) (IsAppended-torn (g.D.Disk.may_leave c.args.disk.now) entries c.args.writes.now.pairs
+    c.args.tail all)
 
 pub returns-in_err-write_payload-clause-read : goal.returns-in_err-write_payload-clause-read
 returns-in_err-write_payload-clause-read g c reads entries has =
-    inl (HasEntries-behind entries c.args.tail (3 + 69 * length c.args.writes.now.pairs) (g.D.Disk.reads c.args.disk.now) (g.D.Disk.reads c.write_payload.new.disk) has (c.write_payload.ensures.elsewhere reads))
+    inl (HasEntries-behind entries c.args.tail (3 + 69 * length c.args.writes.now.pairs) (g.D.Disk.reads c.args.disk.now)
+    (g.D.Disk.reads c.write_payload.new.disk) has (c.write_payload.ensures.elsewhere reads))
 
 pub returns-in_err-sync-clause-crash : goal.returns-in_err-sync-clause-crash
 returns-in_err-sync-clause-crash g c reads images entries all =
-    leaves_weaker _ _ _ _ _ _ (synced g c.args.disk.now c.write_payload.new.disk c.sync.new.self _ images (c.write_payload.ensures.crash images) (c.sync.ensures.time images) (c.sync.ensures.crash images))
+    leaves_weaker _ _ _ _ _ _ (synced g c.args.disk.now c.write_payload.new.disk c.sync.new.self _ images (c.write_payload.ensures.crash images)
+    (c.sync.ensures.time images) (c.sync.ensures.crash images))
     (IsAppended-torn (g.D.Disk.may_leave c.args.disk.now) entries c.args.writes.now.pairs c.args.tail all)
 
 pub returns-in_err-sync-clause-read : goal.returns-in_err-sync-clause-read
@@ -61,7 +65,8 @@ returns-in_err-sync-clause-read g c reads entries has =
     let disk = g.D.Disk in
     let n = 3 + 69 * length c.args.writes.now.pairs in
     inl (HasEntries-behind entries c.args.tail n (disk.reads c.args.disk.now) (disk.reads c.sync.new.self) has
-    (SameOutside-then log_file (c.args.tail + 1) n (disk.reads c.args.disk.now) (disk.reads c.write_payload.new.disk) (disk.reads c.sync.new.self) (c.write_payload.ensures.elsewhere reads)
+    (SameOutside-then log_file (c.args.tail + 1) n (disk.reads c.args.disk.now) (disk.reads c.write_payload.new.disk) (disk.reads c.sync.new.self)
+    (c.write_payload.ensures.elsewhere reads)
     (SameOutside-same log_file (c.args.tail + 1) n (disk.reads c.write_payload.new.disk) (disk.reads c.sync.new.self) (c.sync.ensures.keeps))))
 
 pub returns-in_err-write-clause-crash : goal.returns-in_err-write-clause-crash

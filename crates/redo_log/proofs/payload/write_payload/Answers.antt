@@ -103,7 +103,8 @@ on_ok_always (Err e) p = tt
 
 pub returns-clause-whole : goal.returns-clause-whole
 returns-clause-whole g c =
-    on_ok_always c.write-2.result (AreWhole-all c.args.writes.now.pairs c.loop-next.next (omega (arith, c.loop-next.invariant.within)) c.loop-next.invariant.whole)
+    on_ok_always c.write-2.result (AreWhole-all c.args.writes.now.pairs c.loop-next.next (omega (arith, c.loop-next.invariant.within))
+    c.loop-next.invariant.whole)
 
 pub returns-in_err-write-clause-written : goal.returns-in_err-write-clause-written
 returns-in_err-write-clause-written g c _ = never_ok c.from_residual.result _ _ c.from_residual.ensures.1

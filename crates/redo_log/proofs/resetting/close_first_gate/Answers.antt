@@ -9,7 +9,8 @@ use Rattle.rec_bytes.proofs.Causes.{never_ok}
 use Rattle.redo_log.proofs.resetting.close_first_gate.Goals as goal
 
 pub returns-in_err-read-clause-read : goal.returns-in_err-read-clause-read
-returns-in_err-read-clause-read g c reads entries tail has = inl (HasEntries-read entries tail (g.D.Disk.reads c.args.disk.now) (g.D.Disk.reads c.read.new.self) has (c.read.ensures.keeps log_file))
+returns-in_err-read-clause-read g c reads entries tail has = inl (HasEntries-read entries tail (g.D.Disk.reads c.args.disk.now) (g.D.Disk.reads c.read.new.self)
+    has (c.read.ensures.keeps log_file))
 
 pub returns-clause-crash : goal.returns-clause-crash
 returns-clause-crash g c reads images entries tail all =
@@ -34,7 +35,8 @@ returns-clause-read g c reads entries tail has =
     let old = disk.reads c.args.disk.now in
     let is_open : old log_file 0 ≡ 1 = sym (c.in_ok-read.ensures.bytes reads 0 (search rules)) ∙ c.if-gate-ne-OPEN.false in
     HasEntries-gate entries tail old (disk.reads c.write.new.self) has is_open
-    (SameOutside-then log_file 0 1 old (disk.reads c.read.new.self) (disk.reads c.write.new.self) (SameOutside-same log_file 0 1 old (disk.reads c.read.new.self) c.read.ensures.keeps) c.write.ensures.elsewhere)
+    (SameOutside-then log_file 0 1 old (disk.reads c.read.new.self) (disk.reads c.write.new.self) (SameOutside-same log_file 0 1 old
+    (disk.reads c.read.new.self) c.read.ensures.keeps) c.write.ensures.elsewhere)
 
 pub returns-in_err-read-clause-emptied : goal.returns-in_err-read-clause-emptied
 returns-in_err-read-clause-emptied g c _ = never_ok c.from_residual.result _ _ c.from_residual.ensures.1

@@ -9,7 +9,8 @@ use Rattle.rel_store.proofs.saving.save.Goals as goal
 
 blank_on : {T E : Type 0} (r : Result T E) (s t : State) (row : RelRow) → OnOk r (t ≡ after_put s (rel_key row.id) (rel_record row))
     → OnOk r (IsBlankOutside rel_used (t.records (rel_key row.id)))
-blank_on (Ok x) s t row is = subst (IsBlankOutside rel_used) (sym (ap (λ (z : State). z.records (rel_key row.id)) is ∙ put_same s.records (rel_key row.id) (rel_record row))) (blank-rel_record row)
+blank_on (Ok x) s t row is = subst (IsBlankOutside rel_used) (sym (ap (λ (z : State). z.records (rel_key row.id)) is ∙ put_same s.records (rel_key row.id)
+    (rel_record row))) (blank-rel_record row)
 blank_on (Err e) s t row is = tt
 
 pub returns-clause-blank : goal.returns-clause-blank

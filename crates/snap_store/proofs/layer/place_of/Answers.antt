@@ -56,4 +56,5 @@ returns c =
     let i = c.loop-place.place in
     let sum : i + 0 ≡ i = omega arith in
     subst (IsPlaceOf c.args.reader (layers_of xs)) sum
-    (c.loop-place.invariant.places 0 (here c.args.reader xs i c.index-layers-place.result (within c.args.reader xs i c.loop-place.invariant.left) c.loop-place-test.false))
+    (c.loop-place.invariant.places 0 (here c.args.reader xs i c.index-layers-place.result (within c.args.reader xs i c.loop-place.invariant.left)
+    c.loop-place-test.false))

@@ -57,8 +57,10 @@ returns-then-place-gt0-clause-right c =
     let before = c.args.place - 1 in
     let is : c.args.place ≡ suc before = omega (arith, c.if-place-gt0.true) in
     right xs _ c.args.reader c.requires.right
-    (all_set IsLayer c.remove-gone.new.self.items before c.join.new.older (subst (AllByRecursion IsLayer) (sym c.remove-gone.ensures.items) (all_remove IsLayer xs c.args.place c.requires.right.each)) c.join.ensures.right)
-    (left_is xs c.args.reader c.args.place before c.remove-gone.result c.index_mut-older.result.now c.join.new.older c.remove-gone.new.self.items is c.requires.place
+    (all_set IsLayer c.remove-gone.new.self.items before c.join.new.older (subst (AllByRecursion IsLayer) (sym c.remove-gone.ensures.items)
+    (all_remove IsLayer xs c.args.place c.requires.right.each)) c.join.ensures.right)
+    (left_is xs c.args.reader c.args.place before c.remove-gone.result c.index_mut-older.result.now c.join.new.older c.remove-gone.new.self.items is
+    c.requires.place
     c.remove-gone.ensures.items c.remove-gone.ensures.value c.index_mut-older.ensures.value c.join.ensures.joined)
 
 pub returns-then-place-gt0-clause-layers : goal.returns-then-place-gt0-clause-layers

@@ -29,7 +29,12 @@ returns-in-Some-Item-clause-found g c = λ tells.
     let heads : ElementHeads = record { file = c.args.file; elements = c.meta-elements.result.high; properties = c.meta-properties.result.high } in
     let b : BrokeIs (IsInUse heads records) (AreItsProperties heads records) c.meta-elements.result.high c.args.marks.now (Item c.in-Some-Item.id) =
     search (rules, c.in_ok-id.ensures.broken tells) in
-    inr (c.in-Some-Item.id, c.broken-in-Some-Item.ensures, had_twice records heads c.requires.file c.meta-elements.result.high c.args.marks.now c.in-Some-Item.id b)
+    inr (
+      c.in-Some-Item.id,
+      c.broken-in-Some-Item.ensures,
+      had_twice records heads c.requires.file c.meta-elements.result.high c.args.marks.now
+          c.in-Some-Item.id b,
+    )
 
 pub returns-in-None-2-clause-none : goal.returns-in-None-2-clause-none
 returns-in-None-2-clause-none g c = λ tells.

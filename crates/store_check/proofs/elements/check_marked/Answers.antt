@@ -33,7 +33,8 @@ returns-in-Some-2-clause-found g c = λ tells.
     let found : IfSome c.in_ok-damage-2.field-0 (IsUnlisted s.records 2 m)
     = subst (λ (r : Records). IfSome c.in_ok-damage-2.field-0 (IsUnlisted r 2 m)) c.in_ok-damage.ensures.read.records (c.in_ok-damage-2.ensures.found tells) in
     let u : IsUnlisted s.records 2 m c.in-Some-2.damage = search (rules, found) in
-    unlisted_breaks s.records s.shape 2 m c.in-Some-2.damage refl (λ p t. let f = first_marks s.records clear m c.requires.clear a p t in (1, f.element, (differ 1 refl, f.has))) u
+    unlisted_breaks s.records s.shape 2 m c.in-Some-2.damage refl (λ p t. let f = first_marks s.records clear m c.requires.clear a p t in
+    (1, f.element, (differ 1 refl, f.has))) u
 
 pub returns-in-Some-3-clause-found : goal.returns-in-Some-3-clause-found
 returns-in-Some-3-clause-found g c = λ tells.

@@ -59,7 +59,8 @@ returns-clause-found g c = λ tells.
     let yes : c.are_keys.result ≡ true = search rules in
     let len : c.len.result ≡ length ids = search rules in
     let few : length ids ≤ 32 = omega (arith, c.if-len.false) in
-    properties_of records c.args.first room ids it few (subst (λ n. AreKeys n (map (key_of records) ids)) names (subst (λ ks. AreKeys c.meta.result.high ks) keys (c.are_keys.ensures.0 yes)))
+    properties_of records c.args.first room ids it few (subst (λ n. AreKeys n (map (key_of records) ids)) names (subst (λ ks. AreKeys c.meta.result.high ks)
+    keys (c.are_keys.ensures.0 yes)))
 
 pub returns-in_err-ids-clause-cause : goal.returns-in_err-ids-clause-cause
 returns-in_err-ids-clause-cause g c =

@@ -22,7 +22,8 @@ returns-in_default-clause-broken g c = λ tells.
     let s = g.R.Reads.state c.args.space.now in
     let m = c.meta-meta.result in
     let none : (xs : List ℕ) → ¬ IsLineIn (free_line c.args.file) s.records m.high m.free xs = search (rules, c.in_ok-ids.ensures.none tells) in
-    let it : (xs : List ℕ) → ¬ IsIt s.records c.args.file xs = subst (λ (n : Meta). (xs : List ℕ) → ¬ IsLineIn (free_line c.args.file) s.records n.high n.free xs) c.meta-meta.ensures none in
+    let it : (xs : List ℕ) → ¬ IsIt s.records c.args.file xs = subst (λ (n : Meta). (xs : List ℕ) → ¬ IsLineIn (free_line c.args.file) s.records n.high n.free
+    xs) c.meta-meta.ensures none in
     breaks_by s.records s.shape 2 _ (damage 0 c.args.file 2) refl refl (FreeList c.args.file c.requires.file (no_list s.records c.args.file c.requires.mark it))
 
 pub returns-in-Live-clause-sound : goal.returns-in-Live-clause-sound
@@ -47,7 +48,8 @@ returns-in-Live-2-clause-broken g c = λ tells.
     counted_at _ s.records c.args.file _ c.in-Ok.marks.items (Live c.in-Live.live) _ c.in_ok-ids.ensures.read.records c.deref-2.ensures.value c.in-Live.is
     (c.in_ok-live.ensures.counted tells) in
     let other : c.in-Live.live ≢ (meta_in s.records c.args.file).live = λ e. c.if-live-meta.false (e ∙ ap (λ (n : Meta). n.live) (sym c.meta-meta.ensures)) in
-    breaks_by s.records s.shape 2 _ (damage 0 c.args.file 2) refl refl (FreeList c.args.file c.requires.file (wrong_count s.records c.args.file c.requires.mark c.in-Live.live counted.0 other))
+    breaks_by s.records s.shape 2 _ (damage 0 c.args.file 2) refl refl (FreeList c.args.file c.requires.file (wrong_count s.records c.args.file c.requires.mark
+    c.in-Live.live counted.0 other))
 
 pub returns-clause-broken : goal.returns-clause-broken
 returns-clause-broken g c = λ tells.
@@ -62,7 +64,8 @@ returns-clause-broken g c = λ tells.
     (c.in_ok-live.ensures.counted tells) in
     let marks : (p : ℕ) → marked c.in-Ok.marks.items p ≡ is_among c.in-Some.ids.items p = search rules in
     breaks_by s.records s.shape 2 _ (damage c.args.file c.in-OffList.id 2) refl refl
-    (OffFreeList c.args.file c.in-OffList.id c.requires.file counted.0 counted.1 (is_off s.records c.args.file c.requires.mark c.in-Ok.marks.items c.in-Some.ids.items it marks c.in-OffList.id counted.2))
+    (OffFreeList c.args.file c.in-OffList.id c.requires.file counted.0 counted.1 (is_off s.records c.args.file c.requires.mark c.in-Ok.marks.items
+    c.in-Some.ids.items it marks c.in-OffList.id counted.2))
 
 pub returns-in_err-ids-clause-cause : goal.returns-in_err-ids-clause-cause
 returns-in_err-ids-clause-cause g c =

@@ -25,7 +25,8 @@ returns-clause-sound g c t f is =
     (omega (arith, c.loop-entry-test.false)) (c.loop-entry.invariant.all t) f (meta_of_reused f is) (reused-not_names f is)
 
 pub check_free-requires-clause-file : goal.check_free-requires-clause-file
-check_free-requires-clause-file g c = reused-of _ (entry_is c.all_but_meta-entry-items.result.now c.all_but_meta-entry-items.ensures c.loop-entry.entry-index _ c.loop-entry-test.true) c.if-entry-eq-NAMES.false
+check_free-requires-clause-file g c = reused-of _ (entry_is c.all_but_meta-entry-items.result.now c.all_but_meta-entry-items.ensures c.loop-entry.entry-index _
+    c.loop-entry-test.true) c.if-entry-eq-NAMES.false
 
 pub check_free-requires-clause-mark : goal.check_free-requires-clause-mark
 check_free-requires-clause-mark g c =

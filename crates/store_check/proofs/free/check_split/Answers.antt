@@ -28,7 +28,8 @@ returns-else-names-clause-decided g c = λ tells.
     let s = g.R.Reads.state c.args.space.now in
     let meta : c.meta-names.result ≡ meta_in s.records names_file = c.meta-names.ensures
     ∙ ap (λ (r : Records). meta_in r names_file) c.in_ok-damage.ensures.read.records in
-    breaks_by s.records s.shape 2 _ (damage 0 6 2) refl refl (NameCount (λ all. c.if-names.false (ap (λ (m : Meta). m.live) meta ∙ all ∙ ap (λ (m : Meta). m.high) (sym meta))))
+    breaks_by s.records s.shape 2 _ (damage 0 6 2) refl refl (NameCount (λ all. c.if-names.false (ap (λ (m : Meta). m.live) meta ∙ all ∙ ap
+    (λ (m : Meta). m.high) (sym meta))))
 
 pub returns-in_err-damage-clause-decided : goal.returns-in_err-damage-clause-decided
 returns-in_err-damage-clause-decided g c _ = never_ok c.from_residual.result _ _ c.from_residual.ensures.1

@@ -7,7 +7,8 @@ use Rattle.store_check.proofs.layout.all_from.Goals as goal
 
 pub returns-then-not-is_right : goal.returns-then-not-is_right
 returns-then-not-is_right g c =
-    sym (from_wrong (high (g.R.Reads.state c.args.space.now).records) c.args.rec.now (pointer_like c.args.first) c.args.count c.loop-number.number c.args.first.place c.loop-number-test.true (sym c.is_right.ensures ∙ c.if-not-is_right.true))
+    sym (from_wrong (high (g.R.Reads.state c.args.space.now).records) c.args.rec.now (pointer_like c.args.first) c.args.count c.loop-number.number
+    c.args.first.place c.loop-number-test.true (sym c.is_right.ensures ∙ c.if-not-is_right.true))
 
 pub loop-number-preserved : goal.loop-number-preserved
 loop-number-preserved g c =

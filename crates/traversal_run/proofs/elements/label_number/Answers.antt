@@ -22,7 +22,8 @@ pub returns-then-row-mark-clause-damaged : goal.returns-then-row-mark-clause-dam
 returns-then-row-mark-clause-damaged g c = λ tells.
     let s = g.R.Reads.state c.args.space.now in
     let mark = c.name_mark-mark.ensures in
-    subst (BlamesBroken s.records s.shape) (sym c.unnamed.ensures) (node_unnamed s c.args.id c.in-Some.row (sym c.in-Some.is ∙ c.in_ok-row.ensures.found tells) (omega (arith, c.if-row-mark.true)))
+    subst (BlamesBroken s.records s.shape) (sym c.unnamed.ensures) (node_unnamed s c.args.id c.in-Some.row (sym c.in-Some.is ∙ c.in_ok-row.ensures.found tells)
+    (omega (arith, c.if-row-mark.true)))
 
 pub returns-clause-found : goal.returns-clause-found
 returns-clause-found g c = λ tells.

@@ -8,4 +8,5 @@ use Rattle.traversal_run.proofs.elements.label_of.Goals as goal
 pub returns-in-Vertex-clause-found : goal.returns-in-Vertex-clause-found
 returns-in-Vertex-clause-found g c = λ tells store.
     let graph = graph_of (g.R.Reads.state c.args.space.now).records in
-    subst (λ (item : Item). IfOk c.vertex_label.result (λ (label : Option (Bor (List ℕ))). option_map (λ (text : Bor (List ℕ)). text.now) label ≡ label_of graph item)) (sym c.in-Vertex.is) (c.vertex_label.ensures.found tells store)
+    subst (λ (item : Item). IfOk c.vertex_label.result (λ (label : Option (Bor (List ℕ))). option_map (λ (text : Bor (List ℕ)). text.now) label ≡ label_of graph
+    item)) (sym c.in-Vertex.is) (c.vertex_label.ensures.found tells store)

@@ -22,7 +22,8 @@ returns-in-None-clause-found g c = λ tells.
 pub returns-in-None-2-clause-found : goal.returns-in-None-2-clause-found
 returns-in-None-2-clause-found g c = λ tells.
     let s = g.R.Reads.state c.args.space.now in
-    subst (λ (item : Item). IsOwnerOf s item None) (sym c.in-Edge.is) (edge_unowned s c.in-Edge.id c.in-Edge.label c.in-Edge.from c.in-Edge.to (sym c.in-None-2.is ∙ c.in_ok-row-in-Edge.ensures.found tells))
+    subst (λ (item : Item). IsOwnerOf s item None) (sym c.in-Edge.is) (edge_unowned s c.in-Edge.id c.in-Edge.label c.in-Edge.from c.in-Edge.to
+    (sym c.in-None-2.is ∙ c.in_ok-row-in-Edge.ensures.found tells))
 
 pub returns-in-Some-clause-found : goal.returns-in-Some-clause-found
 returns-in-Some-clause-found g c = λ tells.
@@ -34,7 +35,8 @@ pub returns-in-Some-2-clause-found : goal.returns-in-Some-2-clause-found
 returns-in-Some-2-clause-found g c = λ tells.
     let s = g.R.Reads.state c.args.space.now in
     subst (λ (owned : Owned). IsOwnerOf s c.args.item.now (Some owned)) (sym c.edge_owner.ensures.is)
-    (subst (λ (item : Item). IsOwnerOf s item (Some (owned_edge c.in-Edge.id c.in-Some-2.row))) (sym c.in-Edge.is) (edge_owned s c.in-Edge.id c.in-Edge.label c.in-Edge.from c.in-Edge.to c.in-Some-2.row (sym c.in-Some-2.is ∙ c.in_ok-row-in-Edge.ensures.found tells)))
+    (subst (λ (item : Item). IsOwnerOf s item (Some (owned_edge c.in-Edge.id c.in-Some-2.row))) (sym c.in-Edge.is) (edge_owned s c.in-Edge.id c.in-Edge.label
+    c.in-Edge.from c.in-Edge.to c.in-Some-2.row (sym c.in-Some-2.is ∙ c.in_ok-row-in-Edge.ensures.found tells)))
 
 pub returns-in_err-row-in-Vertex-clause-damaged : goal.returns-in_err-row-in-Vertex-clause-damaged
 returns-in_err-row-in-Vertex-clause-damaged g c = λ tells.

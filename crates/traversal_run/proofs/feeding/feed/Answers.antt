@@ -27,7 +27,8 @@ returns g c =
       hops = fed.hops ∙ ap is_hop stays;
       plain = fed.plain ∙ ap is_plain stays;
       few = λ tells store d degrees plain. subst (λ hop. IsBatch d hop outs) (ap is_hop stays) (fed.few tells store d degrees (ap is_plain stays ∙ plain));
-      hop = λ vertices hop. subst (λ (stage : Stage). FeedsHop g.R.Reads c.args.names.now.names stage c.args.space.now c.feed_vertices.new.space c.args.source.now c.feed_vertices.new.source) stays fed.hop;
+      hop = λ vertices hop. subst (λ (stage : Stage). FeedsHop g.R.Reads c.args.names.now.names stage c.args.space.now c.feed_vertices.new.space
+          c.args.source.now c.feed_vertices.new.source) stays fed.hop;
       read = fed.read;
       cause = search rules;
     }
@@ -137,4 +138,5 @@ pub returns-in_err-outs-3-clause-hop : goal.returns-in_err-outs-3-clause-hop
 returns-in_err-outs-3-clause-hop g c = λ vertices hop.
     let stays : c.match-stage-2.stage ≡ c.args.stage.now = elim c.match-stage-2.branch
     [ in-Mapped+in-Neighbours-1 w ↦ search rules | in-Dedup-1 w ↦ w.stage-is ] in
-    subst (λ (stage : Stage). FeedsHop g.R.Reads c.args.names.now.names stage c.args.space.now c.feed_vertices.new.space c.args.source.now c.feed_vertices.new.source) stays c.in_err-outs-3.ensures.hop
+    subst (λ (stage : Stage). FeedsHop g.R.Reads c.args.names.now.names stage c.args.space.now c.feed_vertices.new.space c.args.source.now
+    c.feed_vertices.new.source) stays c.in_err-outs-3.ensures.hop

@@ -62,7 +62,8 @@ loop-preserved g c =
           let takes = subst (λ (t : State). Takes (graph_of t.records) c.loop.stage c.in-Some.item c.in_ok-outs.outs c.take.new.self) read.same
           (c.in_ok-outs.ensures.takes tells (named-read space c.args.space.now c.next.new.space c.args.names.now.names read store)) in
           feeds_on graph c.args.source.now c.next.new.self c.args.stage.now c.take.new.self c.in_ok-outs.outs nothing
-          (feeds_more graph c.args.source.now c.loop.source c.next.new.self c.args.stage.now c.loop.stage c.take.new.self c.in-Some.item c.in_ok-outs.outs (inv.feeds tells store) gives takes);
+          (feeds_more graph c.args.source.now c.loop.source c.next.new.self c.args.stage.now c.loop.stage c.take.new.self c.in-Some.item c.in_ok-outs.outs
+          (inv.feeds tells store) gives takes);
       limits = limit_stays _ _ c.in_ok-outs.outs nothing c.in_ok-outs.ensures.limits ∙ inv.limits;
       counts = c.take.ensures.counts ∙ inv.counts;
       hops = c.take.ensures.hops ∙ inv.hops;
@@ -80,7 +81,8 @@ returns-then-not-is_empty-clause-few g c = λ tells store d degrees plain.
     let takes = subst (λ (t : State). Takes (graph_of t.records) c.loop.stage c.in-Some.item c.in_ok-outs.outs c.take.new.self) read.same
     (c.in_ok-outs.ensures.takes tells (named-read space c.args.space.now c.next.new.space c.args.names.now.names read store)) in
     subst (λ b. IsBatch d b c.in_ok-outs.outs) inv.hops
-    (takes_batch (graph_of s.records) d (few_at s.records s.shape store.store d degrees) c.loop.stage c.take.new.self c.in-Some.item c.in_ok-outs.outs (inv.plain ∙ plain) c.take.ensures.plain takes)
+    (takes_batch (graph_of s.records) d (few_at s.records s.shape store.store d degrees) c.loop.stage c.take.new.self c.in-Some.item c.in_ok-outs.outs
+    (inv.plain ∙ plain) c.take.ensures.plain takes)
 
 pub returns-in_err-item-clause-read : goal.returns-in_err-item-clause-read
 returns-in_err-item-clause-read g c =

@@ -47,7 +47,8 @@ returns-then-not-is_empty-clause-few g c = λ tells store d degrees plain.
     let takes = subst (λ (t : State). Takes (graph_of t.records) c.loop-id.stage c.vertex.result c.in_ok-outs.outs c.take.new.self) read.same
     (c.in_ok-outs.ensures.takes tells (named-read space c.args.space.now c.vertex_row.new.space c.args.names.now.names read store)) in
     subst (λ b. IsBatch d b c.in_ok-outs.outs) inv.hops
-    (takes_batch graph d (few_at s.records s.shape store.store d degrees) c.loop-id.stage c.take.new.self c.vertex.result c.in_ok-outs.outs (inv.plain ∙ plain) c.take.ensures.plain takes)
+    (takes_batch graph d (few_at s.records s.shape store.store d degrees) c.loop-id.stage c.take.new.self c.vertex.result c.in_ok-outs.outs (inv.plain ∙ plain)
+    c.take.ensures.plain takes)
 
 pub loop-id-preserved-then-is_some : goal.loop-id-preserved-then-is_some
 loop-id-preserved-then-is_some g c =
@@ -67,7 +68,8 @@ loop-id-preserved-then-is_some g c =
           (sym (ap (λ (t : State). element_at t.records false c.in-Some.id) inv.read.same) ∙ c.in_ok-row.ensures.is tells)
           (sym c.is_some.ensures ∙ c.if-is_some.true) in
           feeds_on graph c.args.source.now rest c.args.stage.now c.take.new.self c.in_ok-outs.outs nothing
-          (feeds_more graph c.args.source.now now rest c.args.stage.now c.loop-id.stage c.take.new.self c.vertex.result c.in_ok-outs.outs (inv.feeds tells store)
+          (feeds_more graph c.args.source.now now rest c.args.stage.now c.loop-id.stage c.take.new.self c.vertex.result c.in_ok-outs.outs
+          (inv.feeds tells store)
           (gives ∙ ap (λ (item : Item). item ∷ left_of graph rest) (sym c.vertex.ensures)) takes);
       limits = limit_stays _ _ c.in_ok-outs.outs nothing c.in_ok-outs.ensures.limits ∙ inv.limits;
       counts = c.take.ensures.counts ∙ inv.counts;
@@ -77,8 +79,10 @@ loop-id-preserved-then-is_some g c =
       mark = inv.mark;
       hop = fed_took space c.args.names.now.names c.args.stage.now c.args.space.now c.args.source.now.left c.take.new.self c.take.new.space
           c.take_first.new.self
-          (took_step space c.args.names.now.names c.args.stage.now c.args.space.now c.args.source.now.left c.loop-id.stage c.loop-id.space c.vertex_row.new.space c.take.new.space now.left c.take_first.new.self c.in-Some.id inv.hop c.in-Some.ensures.some c.in_ok-row.ensures.gets read
-          (λ tells store. subst (λ (item : Item). StageReads c.loop-id.stage item (space.state c.vertex_row.new.space) (space.state c.take.new.space)) c.vertex.ensures (c.take.ensures.reads tells store)));
+          (took_step space c.args.names.now.names c.args.stage.now c.args.space.now c.args.source.now.left c.loop-id.stage c.loop-id.space
+          c.vertex_row.new.space c.take.new.space now.left c.take_first.new.self c.in-Some.id inv.hop c.in-Some.ensures.some c.in_ok-row.ensures.gets read
+          (λ tells store. subst (λ (item : Item). StageReads c.loop-id.stage item (space.state c.vertex_row.new.space) (space.state c.take.new.space))
+          c.vertex.ensures (c.take.ensures.reads tells store)));
       read = is_read-on space g.met.R.Reads.further_onward c.args.space.now c.vertex_row.new.space c.take.new.space read c.in_ok-outs.ensures.read;
     }
 
@@ -93,7 +97,9 @@ loop-id-preserved g c =
     let read = is_read-on space g.met.R.Reads.further_onward c.args.space.now c.loop-id.space c.vertex_row.new.space inv.read c.in_ok-row.ensures.read in
     record {
       feeds = λ tells store. feeds_past graph c.args.source.now now rest c.args.stage.now c.loop-id.stage
-          (gives_none s.records now c.take_first.new.self c.in-Some.id c.in_ok-row.row (inv.edges ∙ c.requires.vertices) c.in-Some.ensures.some (sym (ap (λ (t : State). element_at t.records false c.in-Some.id) inv.read.same) ∙ c.in_ok-row.ensures.is tells) (sym c.is_some.ensures ∙ c.if-is_some.false)) (inv.feeds tells store);
+          (gives_none s.records now c.take_first.new.self c.in-Some.id c.in_ok-row.row (inv.edges ∙ c.requires.vertices) c.in-Some.ensures.some
+          (sym (ap (λ (t : State). element_at t.records false c.in-Some.id) inv.read.same) ∙ c.in_ok-row.ensures.is tells) (sym c.is_some.ensures
+          ∙ c.if-is_some.false)) (inv.feeds tells store);
       limits = inv.limits;
       counts = inv.counts;
       hops = inv.hops;
@@ -102,7 +108,8 @@ loop-id-preserved g c =
       mark = inv.mark;
       hop = fed_took space c.args.names.now.names c.args.stage.now c.args.space.now c.args.source.now.left c.loop-id.stage c.vertex_row.new.space
           c.take_first.new.self
-          (took_row space c.args.names.now.names c.args.stage.now c.args.space.now c.args.source.now.left c.loop-id.stage c.loop-id.space c.vertex_row.new.space now.left c.take_first.new.self c.in-Some.id inv.hop c.in-Some.ensures.some c.in_ok-row.ensures.gets);
+          (took_row space c.args.names.now.names c.args.stage.now c.args.space.now c.args.source.now.left c.loop-id.stage c.loop-id.space c.vertex_row.new.space
+          now.left c.take_first.new.self c.in-Some.id inv.hop c.in-Some.ensures.some c.in_ok-row.ensures.gets);
       read = read;
     }
 
@@ -182,7 +189,8 @@ returns-in_err-row-clause-hop g c =
     let now = c.loop-id.source in
     let rest : Source = record { edges = now.edges; left = c.take_first.new.self } in
     feeds_took space c.args.names.now.names c.args.stage.now c.args.space.now c.args.source.now c.vertex_row.new.space rest inv.edges
-    (took_row space c.args.names.now.names c.args.stage.now c.args.space.now c.args.source.now.left c.loop-id.stage c.loop-id.space c.vertex_row.new.space now.left c.take_first.new.self c.in-Some.id inv.hop c.in-Some.ensures.some c.in_err-row.ensures.gets)
+    (took_row space c.args.names.now.names c.args.stage.now c.args.space.now c.args.source.now.left c.loop-id.stage c.loop-id.space c.vertex_row.new.space
+    now.left c.take_first.new.self c.in-Some.id inv.hop c.in-Some.ensures.some c.in_err-row.ensures.gets)
 
 pub returns-in_err-outs-clause-hop : goal.returns-in_err-outs-clause-hop
 returns-in_err-outs-clause-hop g c =
@@ -192,8 +200,10 @@ returns-in_err-outs-clause-hop g c =
     let read = is_read-on space g.met.R.Reads.further_onward c.args.space.now c.loop-id.space c.vertex_row.new.space inv.read c.in_ok-row.ensures.read in
     let rest : Source = record { edges = now.edges; left = c.take_first.new.self } in
     feeds_took space c.args.names.now.names c.args.stage.now c.args.space.now c.args.source.now c.take.new.space rest inv.edges
-    (took_step space c.args.names.now.names c.args.stage.now c.args.space.now c.args.source.now.left c.loop-id.stage c.loop-id.space c.vertex_row.new.space c.take.new.space now.left c.take_first.new.self c.in-Some.id inv.hop c.in-Some.ensures.some c.in_ok-row.ensures.gets read
-    (λ tells store. subst (λ (item : Item). StageReads c.loop-id.stage item (space.state c.vertex_row.new.space) (space.state c.take.new.space)) c.vertex.ensures (c.take.ensures.reads tells store)))
+    (took_step space c.args.names.now.names c.args.stage.now c.args.space.now c.args.source.now.left c.loop-id.stage c.loop-id.space c.vertex_row.new.space
+    c.take.new.space now.left c.take_first.new.self c.in-Some.id inv.hop c.in-Some.ensures.some c.in_ok-row.ensures.gets read
+    (λ tells store. subst (λ (item : Item). StageReads c.loop-id.stage item (space.state c.vertex_row.new.space) (space.state c.take.new.space))
+    c.vertex.ensures (c.take.ensures.reads tells store)))
 
 pub returns-then-not-is_empty-clause-hop : goal.returns-then-not-is_empty-clause-hop
 returns-then-not-is_empty-clause-hop g c =
@@ -203,8 +213,10 @@ returns-then-not-is_empty-clause-hop g c =
     let read = is_read-on space g.met.R.Reads.further_onward c.args.space.now c.loop-id.space c.vertex_row.new.space inv.read c.in_ok-row.ensures.read in
     let rest : Source = record { edges = now.edges; left = c.take_first.new.self } in
     feeds_took space c.args.names.now.names c.args.stage.now c.args.space.now c.args.source.now c.take.new.space rest inv.edges
-    (took_step space c.args.names.now.names c.args.stage.now c.args.space.now c.args.source.now.left c.loop-id.stage c.loop-id.space c.vertex_row.new.space c.take.new.space now.left c.take_first.new.self c.in-Some.id inv.hop c.in-Some.ensures.some c.in_ok-row.ensures.gets read
-    (λ tells store. subst (λ (item : Item). StageReads c.loop-id.stage item (space.state c.vertex_row.new.space) (space.state c.take.new.space)) c.vertex.ensures (c.take.ensures.reads tells store)))
+    (took_step space c.args.names.now.names c.args.stage.now c.args.space.now c.args.source.now.left c.loop-id.stage c.loop-id.space c.vertex_row.new.space
+    c.take.new.space now.left c.take_first.new.self c.in-Some.id inv.hop c.in-Some.ensures.some c.in_ok-row.ensures.gets read
+    (λ tells store. subst (λ (item : Item). StageReads c.loop-id.stage item (space.state c.vertex_row.new.space) (space.state c.take.new.space))
+    c.vertex.ensures (c.take.ensures.reads tells store)))
 
 pub returns-clause-hop : goal.returns-clause-hop
 returns-clause-hop g c =

@@ -34,7 +34,8 @@ returns-then-passed-clause-feeds g c = λ tells store.
     (sym (ap (λ (t : State). element_at t.records false c.in-Some.id) inv.read.same) ∙ c.in_ok-row.ensures.is tells)
     (sym c.is_some.ensures ∙ c.if-is_some.true) in
     feeds_more graph c.args.source.now now rest (filter_stage f) (filter_stage f) (filter_stage f) item c.one.result (inv.feeds tells store) gives
-    (filter_takes graph f item c.one.result c.in_ok-passed.passed is (c.one.ensures ∙ ap (λ (i : Item). i ∷ []) c.vertex.ensures ∙ ap (λ b. cond b (item ∷ []) []) (sym c.if-passed.true)))
+    (filter_takes graph f item c.one.result c.in_ok-passed.passed is (c.one.ensures ∙ ap (λ (i : Item). i ∷ []) c.vertex.ensures ∙ ap (λ b. cond b (item ∷ [])
+    []) (sym c.if-passed.true)))
 
 pub loop-id-preserved-else-passed : goal.loop-id-preserved-else-passed
 loop-id-preserved-else-passed g c =
@@ -74,7 +75,9 @@ loop-id-preserved g c =
       feeds = λ tells store.
           let f = c.args.filter.now in
           feeds_past graph c.args.source.now now rest (filter_stage f) (filter_stage f)
-          (gives_none s.records now c.take_first.new.self c.in-Some.id c.in_ok-row.row (inv.edges ∙ c.requires) c.in-Some.ensures.some (sym (ap (λ (t : State). element_at t.records false c.in-Some.id) inv.read.same) ∙ c.in_ok-row.ensures.is tells) (sym c.is_some.ensures ∙ c.if-is_some.false)) (inv.feeds tells store);
+          (gives_none s.records now c.take_first.new.self c.in-Some.id c.in_ok-row.row (inv.edges ∙ c.requires) c.in-Some.ensures.some
+          (sym (ap (λ (t : State). element_at t.records false c.in-Some.id) inv.read.same) ∙ c.in_ok-row.ensures.is tells) (sym c.is_some.ensures
+          ∙ c.if-is_some.false)) (inv.feeds tells store);
       edges = inv.edges;
       mark = inv.mark;
       read = read;

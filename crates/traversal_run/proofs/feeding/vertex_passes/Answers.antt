@@ -23,8 +23,10 @@ returns-then-is_some-clause-found g c = λ tells store numbered.
     let p = passes_numbered (graph_of s.records) filters in
     let row = row_passes c.args.id c.in_ok-row.row p (sym c.is_some.ensures ∙ c.if-is_some.true) in
     subst (λ (b : Bool). IfOk c.passes_each.result (λ value. value ≡ b))
-    (ap (λ (t : State). passes_numbered (graph_of t.records) filters (items.Vertex c.args.id)) same ∙ sym row ∙ ap (λ found. is_some_and found p) (sym (c.in_ok-row.ensures.is tells)))
-    (c.passes_each.ensures.found tells (subst (λ (t : State). IsWellFormed t.records t.shape) (sym same) store) (subst (λ (t : State). All (IsNumbered t.records) filters) (sym same) numbered))
+    (ap (λ (t : State). passes_numbered (graph_of t.records) filters (items.Vertex c.args.id)) same ∙ sym row ∙ ap (λ found. is_some_and found p)
+    (sym (c.in_ok-row.ensures.is tells)))
+    (c.passes_each.ensures.found tells (subst (λ (t : State). IsWellFormed t.records t.shape) (sym same) store)
+    (subst (λ (t : State). All (IsNumbered t.records) filters) (sym same) numbered))
 
 pub returns-then-is_some-clause-damaged : goal.returns-then-is_some-clause-damaged
 returns-then-is_some-clause-damaged g c = λ tells.
@@ -42,7 +44,8 @@ pub returns-else-is_some-clause-found : goal.returns-else-is_some-clause-found
 returns-else-is_some-clause-found g c = λ tells store numbered.
     let s = g.R.Reads.state c.args.space.now in
     let p = passes_numbered (graph_of s.records) c.args.filters.now in
-    sym (ap (λ found. is_some_and found p) (c.in_ok-row.ensures.is tells) ∙ no_row_passes c.args.id c.in_ok-row.row p (sym c.is_some.ensures ∙ c.if-is_some.false))
+    sym (ap (λ found. is_some_and found p) (c.in_ok-row.ensures.is tells) ∙ no_row_passes c.args.id c.in_ok-row.row p (sym c.is_some.ensures
+    ∙ c.if-is_some.false))
 
 pub returns-else-is_some-clause-read : goal.returns-else-is_some-clause-read
 returns-else-is_some-clause-read g c = c.in_ok-row.ensures.read

@@ -61,7 +61,8 @@ returns-clause-refused g c = λ tells store.
     let k = c.in-Some-text_number.key_number in
     let has = indexed s c.args.names.now.names store in
     err-then c.lookup.result
-    (λ (fault : LookupFault) refused. refused-index s.records s.shape has c.args.label.now c.args.key.now l k (c.in-Some.ensures.finds store) (c.in-Some-text_number.ensures.finds store) fault refused) (c.lookup.ensures.refused tells has)
+    (λ (fault : LookupFault) refused. refused-index s.records s.shape has c.args.label.now c.args.key.now l k (c.in-Some.ensures.finds store)
+    (c.in-Some-text_number.ensures.finds store) fault refused) (c.lookup.ensures.refused tells has)
 
 pub returns-in_default-clause-cost : goal.returns-in_default-clause-cost
 returns-in_default-clause-cost g c = λ tells store. NoName refl

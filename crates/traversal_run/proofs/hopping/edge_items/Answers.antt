@@ -30,7 +30,8 @@ pub returns-in_err-push_edge-clause-damaged : goal.returns-in_err-push_edge-clau
 returns-in_err-push_edge-clause-damaged g c = λ tells.
     let space = g.R.Reads in
     let p = err_from_is_err_and c.from_residual.result c.from_residual.ensures.1 in
-    rw (p.1, p.2) (blamed_before (space.state c.args.space.now) (space.state c.loop-row.space) c.loop-row.invariant.read.same c.in_err-push_edge.field-0.0 (c.in_err-push_edge.ensures.damaged tells))
+    rw (p.1, p.2) (blamed_before (space.state c.args.space.now) (space.state c.loop-row.space) c.loop-row.invariant.read.same c.in_err-push_edge.field-0.0
+    (c.in_err-push_edge.ensures.damaged tells))
 
 pub returns-in_err-push_edge-clause-read : goal.returns-in_err-push_edge-clause-read
 returns-in_err-push_edge-clause-read g c = is_read-on g.R.Reads g.met.R.Reads.further_onward c.args.space.now c.loop-row.space c.push_edge.new.space

@@ -63,4 +63,5 @@ returns-clause-reads g c = λ tells store.
     let then = subst (λ (t : State). AreTyped t.records c.deref.result.now) (sym read.same) typed in
     let same = c.edge_items.ensures.no_read tells (named-read g.R.Reads c.args.space.now c.rows_of.new.space c.args.names.now.names read store) then in
     subst (λ (item : Item). ReadsAtMost (hop_reads s.records c.args.hop.now item) s (g.R.Reads.state c.edge_items.new.space)) (sym c.in-Vertex.is)
-    (subst (λ (r : g.row.R.Denot). ReadsAtMost (hop_reads s.records c.args.hop.now (items.Vertex c.in-Vertex.id)) s (g.R.Reads.state r)) (sym same) (c.in_ok-rows.ensures.reads tells store))
+    (subst (λ (r : g.row.R.Denot). ReadsAtMost (hop_reads s.records c.args.hop.now (items.Vertex c.in-Vertex.id)) s (g.R.Reads.state r)) (sym same)
+    (c.in_ok-rows.ensures.reads tells store))

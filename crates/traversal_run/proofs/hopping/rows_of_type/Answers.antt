@@ -14,7 +14,8 @@ returns-in-Some-clause-found g c = λ tells store.
     let s = g.R.Reads.state c.args.space.now in
     let finds = subst (λ (text : List ℕ). FindsName s.records (Some c.in-Some.number) text) c.as_bytes.ensures (c.in-Some.ensures.finds store) in
     c.rows_by.ensures.found tells store.store
-    (subst (λ (texts : List (List ℕ)). AreTypeNumbers s.records (c.in-Some.number ∷ []) texts) (sym c.requires) (one_named s.records c.in-Some.number c.args.label.now finds c.in-Some.ensures.below))
+    (subst (λ (texts : List (List ℕ)). AreTypeNumbers s.records (c.in-Some.number ∷ []) texts) (sym c.requires) (one_named s.records c.in-Some.number
+    c.args.label.now finds c.in-Some.ensures.below))
 
 pub returns-in-None-clause-found : goal.returns-in-None-clause-found
 returns-in-None-clause-found g c = λ tells store.
@@ -32,7 +33,8 @@ returns-in-Some-clause-reads g c = λ tells store.
     let number = c.in-Some.number in
     let finds = subst (λ (text : List ℕ). FindsName s.records (Some number) text) c.as_bytes.ensures (c.in-Some.ensures.finds store) in
     hop_costs s (g.R.Reads.state c.rows_by.new.space) store.store hop (number ∷ []) c.args.id
-    (subst (λ (texts : List (List ℕ)). AreTypeNumbers s.records (number ∷ []) texts) (sym c.requires) (one_named s.records number c.args.label.now finds c.in-Some.ensures.below))
+    (subst (λ (texts : List (List ℕ)). AreTypeNumbers s.records (number ∷ []) texts) (sym c.requires) (one_named s.records number c.args.label.now finds
+    c.in-Some.ensures.below))
     (c.rows_by.ensures.reads tells store.store)
 
 pub returns-in-None-clause-reads : goal.returns-in-None-clause-reads

@@ -20,7 +20,8 @@ returns-then-not-is_empty-clause-found g c = λ tells store.
     let hop = c.args.hop.now in
     let numbers = c.in_ok-numbers.numbers in
     let none = no_length numbers.items (ap (λ n. nat_eq n 0) (sym numbers.ok.0) ∙ sym c.is_empty.ensures ∙ c.if-is_empty.true) in
-    let some = some_length hop.labels (ap (λ (texts : List (List ℕ)). nat_eq (length texts) 0) c.requires ∙ sym c.is_empty-then-is_empty.ensures ∙ c.if-not-is_empty.true) in
+    let some = some_length hop.labels (ap (λ (texts : List (List ℕ)). nat_eq (length texts) 0) c.requires ∙ sym c.is_empty-then-is_empty.ensures
+    ∙ c.if-not-is_empty.true) in
     let finds : FindsNames s.records [] hop.labels = subst (λ (texts : List (List ℕ)). FindsNames s.records [] texts) (sym c.requires)
     (subst (λ (list : List ℕ). FindsNames s.records list c.args.labels.now) none (c.in_ok-numbers.ensures.finds store)) in
     are_none s.records c.new.result.items (edges_at (graph_of s.records) hop.direction hop.labels c.args.id) c.new.ensures.items
@@ -33,7 +34,8 @@ returns-clause-found g c = λ tells store.
     let numbers = c.in_ok-numbers.numbers in
     let none : numbers.items ≡ [] → hop.labels ≡ [] = elim c.else-is_empty.branch [
       | else-is_empty-via-then-is_empty+else-not-is_empty w ↦
-          λ empty. no_length hop.labels (ap (λ (texts : List (List ℕ)). nat_eq (length texts) 0) c.requires ∙ sym w.is_empty-then-is_empty.ensures ∙ w.if-not-is_empty.false)
+          λ empty. no_length hop.labels (ap (λ (texts : List (List ℕ)). nat_eq (length texts) 0) c.requires ∙ sym w.is_empty-then-is_empty.ensures
+          ∙ w.if-not-is_empty.false)
       | else-is_empty-via-else-is_empty w ↦
           λ empty. absurd (some_length numbers.items (ap (λ n. nat_eq n 0) (sym numbers.ok.0) ∙ sym c.is_empty.ensures ∙ w.if-is_empty.false) empty)
     ] in
@@ -54,7 +56,8 @@ returns-clause-reads g c = λ tells store.
     let numbers = c.in_ok-numbers.numbers in
     let none : numbers.items ≡ [] → hop.labels ≡ [] = elim c.else-is_empty.branch [
       | else-is_empty-via-then-is_empty+else-not-is_empty w ↦
-          λ empty. no_length hop.labels (ap (λ (texts : List (List ℕ)). nat_eq (length texts) 0) c.requires ∙ sym w.is_empty-then-is_empty.ensures ∙ w.if-not-is_empty.false)
+          λ empty. no_length hop.labels (ap (λ (texts : List (List ℕ)). nat_eq (length texts) 0) c.requires ∙ sym w.is_empty-then-is_empty.ensures
+          ∙ w.if-not-is_empty.false)
       | else-is_empty-via-else-is_empty w ↦
           λ empty. absurd (some_length numbers.items (ap (λ n. nat_eq n 0) (sym numbers.ok.0) ∙ sym c.is_empty.ensures ∙ w.if-is_empty.false) empty)
     ] in

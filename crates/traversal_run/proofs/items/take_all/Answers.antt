@@ -21,7 +21,8 @@ loop-preserved g c =
     let next = c.in-Item.ensures in
     subst (λ (list : List Item). IsTaking g.R.Reads names c.args.run.now c.args.space.now c.next.new.space list c.next.new.self)
     (sym c.in_ok-push-in-Item.ensures.items)
-    (taking-on g.R.Reads names c.args.run.now g.met.R.Reads.further_onward c.args.space.now c.loop.space found c.loop.run c.loop.invariant c.next.new.space c.next.ensures.read c.next.new.self c.in-Item.item next.item next.shown next.stops)
+    (taking-on g.R.Reads names c.args.run.now g.met.R.Reads.further_onward c.args.space.now c.loop.space found c.loop.run c.loop.invariant c.next.new.space
+    c.next.ensures.read c.next.new.self c.in-Item.item next.item next.shown next.stops)
 
 pub returns-in-End-clause-items : goal.returns-in-End-clause-items
 returns-in-End-clause-items g c =

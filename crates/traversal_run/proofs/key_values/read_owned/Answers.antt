@@ -51,7 +51,8 @@ returns-then-not-have_keys_below-clause-damaged g c = λ tells.
     let some = ap (λ (list : List Prop). list_all (λ (prop : Prop). nat_lt prop.key (name_count s.records)) list) (sym c.deref.ensures.value)
     ∙ ap (λ (mark : ℕ). list_all (λ (prop : Prop). nat_lt prop.key mark) c.deref.result.now) (sym c.name_mark-mark.ensures)
     ∙ sym c.have_keys_below.ensures ∙ c.if-not-have_keys_below.true in
-    subst (BlamesBroken s.records s.shape) (sym c.unnamed.ensures) (owner_unnamed s c.args.owned.owner c.requires.owner (c.requires.owns tells).1.used c.in_ok-props.props.items (c.in_ok-props.ensures.met tells) some)
+    subst (BlamesBroken s.records s.shape) (sym c.unnamed.ensures) (owner_unnamed s c.args.owned.owner c.requires.owner (c.requires.owns tells).1.used
+    c.in_ok-props.props.items (c.in_ok-props.ensures.met tells) some)
 
 pub returns-then-not-have_keys_below-clause-read : goal.returns-then-not-have_keys_below-clause-read
 returns-then-not-have_keys_below-clause-read g c = record {

@@ -50,8 +50,11 @@ read_owned-requires-clause-owner g c = subst (λ (o : Option Owned). IfSome o (�
 
 pub read_owned-requires-clause-owns : goal.read_owned-requires-clause-owns
 read_owned-requires-clause-owns g c = λ tells.
-    let s = g.R.Reads.state c.args.space.now in
-    (c.args.item.now, owns_read s (g.R.Reads.state c.owner_of.new.space) c.args.item.now c.in-Some.owned c.in_ok-owned.ensures.read.same (subst (IsOwnerOf s c.args.item.now) c.in-Some.is (c.in_ok-owned.ensures.found tells)))
+    let s = g.R.Reads.state c.args.space.now in (
+      c.args.item.now,
+      owns_read s (g.R.Reads.state c.owner_of.new.space) c.args.item.now c.in-Some.owned c.in_ok-owned.ensures.read.same
+          (subst (IsOwnerOf s c.args.item.now) c.in-Some.is (c.in_ok-owned.ensures.found tells)),
+    )
 
 pub returns-clause-found : goal.returns-clause-found
 returns-clause-found g c = λ tells store.

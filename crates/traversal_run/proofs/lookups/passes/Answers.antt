@@ -12,7 +12,8 @@ returns-in-Some-2-clause-found g c = λ tells store.
     let graph = graph_of (g.R.Reads.state c.args.space.now).records in
     let item = c.args.item.now in
     let own = c.in-Some-2.label.now in
-    let is : Some own ≡ label_of graph item = subst (λ (label : Option (Bor (List ℕ))). option_map (λ (text : Bor (List ℕ)). text.now) label ≡ label_of graph item) c.in-Some-2.is (c.in_ok-label-in-HasLabel.ensures.found tells store) in
+    let is : Some own ≡ label_of graph item = subst (λ (label : Option (Bor (List ℕ))). option_map (λ (text : Bor (List ℕ)). text.now) label ≡ label_of graph
+    item) c.in-Some-2.is (c.in_ok-label-in-HasLabel.ensures.found tells store) in
     c.is_among.ensures
     ∙ ap (λ (labels : List (List ℕ)). list_any (λ label. is_text label own) labels) c.as_slice.ensures
     ∙ ap (λ (label : Option (List ℕ)). is_some_and label (λ text. list_any (λ other. is_text other text) c.in-HasLabel.labels)) is

@@ -24,7 +24,8 @@ loop-row-preserved g c =
                 ∙ numbered_more graph item old rows i row c.loop-row-test.true c.row-item.is (inv.same graph item) w.in_ok-numbered.numbered
                 w.in-Some.filter.now w.in-Some.ensures.some w.in_ok-numbered.ensures.filter;
             numbered = λ store.
-                subst (All (IsNumbered s.records)) (sym items) (All-push (IsNumbered s.records) old w.in_ok-numbered.numbered (inv.numbered store) (w.in_ok-numbered.ensures.numbered store));
+                subst (All (IsNumbered s.records)) (sym items) (All-push (IsNumbered s.records) old w.in_ok-numbered.numbered (inv.numbered store)
+                (w.in_ok-numbered.ensures.numbered store));
           }
       | in_default w ↦
           let items : c.match-as_filter.filters.items ≡ old = ap (λ (list : Vec NumberedFilter Global). list.items) w.filters-is in

@@ -31,7 +31,8 @@ loop-filter-preserved g c =
     record {
       passed = λ tells store numbered.
           let is = c.in_ok-passes.ensures.found tells (subst (λ (t : State). IsWellFormed t.records t.shape) (sym same) store)
-          (subst (λ (t : State). IsNumbered t.records one) (sym same) (subst (IsNumbered s.records) (sym c.filter-item.is) (numbered at one c.loop-filter-test.true)))
+          (subst (λ (t : State). IsNumbered t.records one) (sym same) (subst (IsNumbered s.records) (sym c.filter-item.is)
+          (numbered at one c.loop-filter-test.true)))
           ∙ ap (λ (t : State). passes (graph_of t.records) one.filter.now vertex) same in
           passes_more (graph_of s.records) c.args.filters.now at one vertex c.loop-filter-test.true c.filter-item.is
           (c.loop-filter.invariant.passed tells store numbered) (sym is ∙ c.if-not-branch.false);

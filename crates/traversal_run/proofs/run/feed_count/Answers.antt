@@ -17,8 +17,11 @@ returns-then-fits-told-clause-same g c = λ tells store.
 pub returns-then-fits-told-clause-counts : goal.returns-then-fits-told-clause-counts
 returns-then-fits-told-clause-counts g c =
     let count = c.args.count in
-    let any = c.index-rows-at.result in
-    (one_counts c.args.rows.now count.at any count.so_far count.told c.requires.within (c.requires.counts any), one_still_counts c.args.rows.now count.at any c.count_passing.new.so_far count.told c.requires.within)
+    let any = c.index-rows-at.result in (
+      one_counts c.args.rows.now count.at any count.so_far count.told c.requires.within (c.requires.counts any),
+      one_still_counts c.args.rows.now count.at any
+          c.count_passing.new.so_far count.told c.requires.within,
+    )
 
 pub returns-else-fits-told-clause-stops : goal.returns-else-fits-told-clause-stops
 returns-else-fits-told-clause-stops g c = λ tells store.

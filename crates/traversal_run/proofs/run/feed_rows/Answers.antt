@@ -12,7 +12,8 @@ use Rattle.traversal_run.proofs.run.feed_rows.Goals as goal
 pub returns-clause-same : goal.returns-clause-same
 returns-clause-same g c = λ tells store.
     let graph = graph_of (g.R.Reads.state c.args.space.now).records in
-    subst (λ (ready : List Item). OnOk c.feed_count.result (with_first ready (through graph c.feed_count.new.rows (stream (left_of graph c.feed_count.new.source))) ≡ through graph c.args.rows.now (stream (left_of graph c.args.source.now)))) (sym c.requires.none)
+    subst (λ (ready : List Item). OnOk c.feed_count.result (with_first ready (through graph c.feed_count.new.rows
+    (stream (left_of graph c.feed_count.new.source))) ≡ through graph c.args.rows.now (stream (left_of graph c.args.source.now)))) (sym c.requires.none)
     (c.feed_count.ensures.same tells store)
 
 pub returns-clause-near : goal.returns-clause-near

@@ -13,7 +13,8 @@ returns-clause-same c = λ graph.
     let row = get_or rows c.args.at any in
     let new : Row = record { stage = c.finish.new.self; waiting = row.waiting } in
     advanced graph rows c.put.new.rows c.put.new.ready c.args.at row new any c.in_ok-outs.outs (stream []) c.requires.within refl
-    (finished graph rows c.args.at row any c.in_ok-outs.outs c.finish.new.self c.requires.within refl c.requires.idle c.requires.quiet (c.in_ok-outs.ensures.finishes graph)) c.put.ensures.earlier (λ more. c.put.ensures.later graph more)
+    (finished graph rows c.args.at row any c.in_ok-outs.outs c.finish.new.self c.requires.within refl c.requires.idle c.requires.quiet
+    (c.in_ok-outs.ensures.finishes graph)) c.put.ensures.earlier (λ more. c.put.ensures.later graph more)
 
 pub returns-clause-allowed : goal.returns-clause-allowed
 returns-clause-allowed c = λ over.

@@ -81,7 +81,8 @@ returns-in_err-label-clause-cause g c =
 pub returns-in_err-props-clause-damaged : goal.returns-in_err-props-clause-damaged
 returns-in_err-props-clause-damaged g c tells =
     same_has _ c.from_residual-in_err-props.result _ c.from_residual-in_err-props.ensures.1
-    (blamed_before (g.R.Reads.state c.args.space.now) (g.R.Reads.state c.label_of.new.space) c.in_ok-label.ensures.read.same c.in_err-props.field-0.0 (c.in_err-props.ensures.damaged tells))
+    (blamed_before (g.R.Reads.state c.args.space.now) (g.R.Reads.state c.label_of.new.space) c.in_ok-label.ensures.read.same c.in_err-props.field-0.0
+    (c.in_err-props.ensures.damaged tells))
 
 pub returns-in_err-props-clause-read : goal.returns-in_err-props-clause-read
 returns-in_err-props-clause-read g c =

@@ -88,7 +88,8 @@ returns-then-is_none-clause-read g c = c.in_ok-row.ensures.read
 pub returns-in_err-map-clause-damaged : goal.returns-in_err-map-clause-damaged
 returns-in_err-map-clause-damaged g c tells =
     same_has _ c.from_residual-in_err-map.result _ c.from_residual-in_err-map.ensures.1
-    (blamed_before (g.R.Reads.state c.args.space.now) (g.R.Reads.state c.vertex_row.new.space) c.in_ok-row.ensures.read.same c.in_err-map.field-0.0 (c.in_err-map.ensures.damaged tells))
+    (blamed_before (g.R.Reads.state c.args.space.now) (g.R.Reads.state c.vertex_row.new.space) c.in_ok-row.ensures.read.same c.in_err-map.field-0.0
+    (c.in_err-map.ensures.damaged tells))
 
 pub returns-in_err-map-clause-read : goal.returns-in_err-map-clause-read
 returns-in_err-map-clause-read g c =

@@ -39,7 +39,8 @@ loop-i-preserved g c =
       thinned = thinned_more tells records all old c.at.result.0 c.at.result.1 (drop (i + 1) all)
           (subst (λ (rest : Pairs). IsThinned tells records all old rest) next was.thinned)
           new
-          (subst (λ (r : Key → Rec). PutsChanged tells r c.at.result.0 c.at.result.1 old new) (working-read c.args.base.now c.loop-i.base was.onward) c.in_ok-put_changed.ensures.puts);
+          (subst (λ (r : Key → Rec). PutsChanged tells r c.at.result.0 c.at.result.1 old new) (working-read c.args.base.now c.loop-i.base was.onward)
+          c.in_ok-put_changed.ensures.puts);
       room = omega (arith, was.room, c.put_changed.ensures.room);
       onward = only_reads_base_on was.onward c.put_changed.ensures.onward;
       later = omega (arith, was.later, c.put_changed.ensures.cause.later);

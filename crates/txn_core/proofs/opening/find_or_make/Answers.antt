@@ -38,8 +38,10 @@ returns-in-Ok-Made-clause-opened g c reads =
     let shape = λ (s : Start). s.shape ≡ found in
     let suits = λ (s : Start). Suits c.args.config found in
     if_ok_all r (λ s. is s × (shape s × suits s)) _
-    (λ s of. made_opened (disk.reads c.args.disk.now) mid c.args.config s.shape found (space s) made (c.in-Ok-Made.ensures.space reads made.space made.redoes) of.1.0 of.1.1 of.0)
-    (if_ok_both r is _ (c.open_made.ensures.space reads (c.in-Ok-Made.ensures.emptied reads) (c.in-Ok-Made.ensures.settled reads)) (if_ok_both r shape suits c.open_made.ensures.shape c.open_made.ensures.suits))
+    (λ s of. made_opened (disk.reads c.args.disk.now) mid c.args.config s.shape found (space s) made (c.in-Ok-Made.ensures.space reads made.space made.redoes)
+    of.1.0 of.1.1 of.0)
+    (if_ok_both r is _ (c.open_made.ensures.space reads (c.in-Ok-Made.ensures.emptied reads) (c.in-Ok-Made.ensures.settled reads))
+    (if_ok_both r shape suits c.open_made.ensures.shape c.open_made.ensures.suits))
 
 pub returns-in-Ok-Made-clause-log : goal.returns-in-Ok-Made-clause-log
 returns-in-Ok-Made-clause-log g c reads =
@@ -155,7 +157,11 @@ pub returns-in_ok-make_new-in-Ok-Unmade-clause-log : goal.returns-in_ok-make_new
 returns-in_ok-make_new-in-Ok-Unmade-clause-log g c reads =
     let intact = c.in-Ok-Unmade.ensures.intact reads in
     let unmade = rw c.in-Ok-Unmade.field-0-is at (c.in-Ok-Unmade.ensures.found reads intact.0 intact.1) in
-    inl (unmade, subst (λ (s : Shape). HasOnly (g.D.Disk.reads c.make_new.new.disk) (creation_pairs s ∷ [])) (sym c.in_ok-make_new-in-Ok-Unmade.ensures.shape) (c.in_ok-make_new-in-Ok-Unmade.ensures.log reads (c.in-Ok-Unmade.ensures.emptied reads)))
+    inl (
+      unmade,
+      subst (λ (s : Shape). HasOnly (g.D.Disk.reads c.make_new.new.disk) (creation_pairs s ∷ [])) (sym c.in_ok-make_new-in-Ok-Unmade.ensures.shape)
+          (c.in_ok-make_new-in-Ok-Unmade.ensures.log reads (c.in-Ok-Unmade.ensures.emptied reads)),
+    )
 
 pub returns-in_ok-make_new-in-Ok-Unmade-clause-settled : goal.returns-in_ok-make_new-in-Ok-Unmade-clause-settled
 returns-in_ok-make_new-in-Ok-Unmade-clause-settled g c reads images = c.in_ok-make_new-in-Ok-Unmade.ensures.settled reads images

@@ -24,14 +24,16 @@ returns-in_err-tail-clause-crash g c reads images unmade settled =
     let disk = g.D.Disk in
     let first = c.args.disk.now in
     new_crash disk first c.append.new.disk c.args.shape unmade settled
-    (subst (λ (pairs : Pairs). (entries : List Pairs) → AllHaveEntries (disk.may_leave first) entries 0 → AtEachMoment disk first c.append.new.disk (IsAppended (disk.may_leave first) entries pairs 0)) c.requires.creation (c.append.ensures.crash reads images))
+    (subst (λ (pairs : Pairs). (entries : List Pairs) → AllHaveEntries (disk.may_leave first) entries 0 → AtEachMoment disk first c.append.new.disk
+    (IsAppended (disk.may_leave first) entries pairs 0)) c.requires.creation (c.append.ensures.crash reads images))
 
 pub returns-clause-crash : goal.returns-clause-crash
 returns-clause-crash g c reads images unmade settled =
     let disk = g.D.Disk in
     let first = c.args.disk.now in
     new_crash disk first c.append.new.disk c.args.shape unmade settled
-    (subst (λ (pairs : Pairs). (entries : List Pairs) → AllHaveEntries (disk.may_leave first) entries 0 → AtEachMoment disk first c.append.new.disk (IsAppended (disk.may_leave first) entries pairs 0)) c.requires.creation (c.append.ensures.crash reads images))
+    (subst (λ (pairs : Pairs). (entries : List Pairs) → AllHaveEntries (disk.may_leave first) entries 0 → AtEachMoment disk first c.append.new.disk
+    (IsAppended (disk.may_leave first) entries pairs 0)) c.requires.creation (c.append.ensures.crash reads images))
 
 pub returns-clause-kept : goal.returns-clause-kept
 returns-clause-kept g c unmade settled =
@@ -70,8 +72,11 @@ returns-clause-settled g c reads images has settled =
 
 pub returns-clause-log : goal.returns-clause-log
 returns-clause-log g c reads has =
-    let tail = 0 + entry_bytes (length c.args.creation.now.pairs) in
-    (tail, subst (λ (pairs : Pairs). HasEntries (g.D.Disk.reads c.append.new.disk) (pairs ∷ []) tail) c.requires.creation (c.in_ok-tail.ensures.appended reads [] has))
+    let tail = 0 + entry_bytes (length c.args.creation.now.pairs) in (
+      tail,
+      subst (λ (pairs : Pairs). HasEntries (g.D.Disk.reads c.append.new.disk) (pairs ∷ []) tail) c.requires.creation (c.in_ok-tail.ensures.appended reads
+          [] has),
+    )
 
 pub returns-in_err-tail-clause-shape : goal.returns-in_err-tail-clause-shape
 returns-in_err-tail-clause-shape g c = never_ok c.from_residual.result _ _ c.from_residual.ensures.1

@@ -17,25 +17,30 @@ returns-in_err-raise-clause-crash g c reads images log settled =
     let start = c.in_ok-start.start in
     raised_crash g.D.Disk c.args.disk.now c.read_made.new.disk c.raise.new.disk start.metas.records c.args.shape start.shape log settled
     c.read_made.ensures.only_reads images (c.in_ok-start.ensures.metas reads) c.in_ok-start.ensures.shape
-    (c.raise.ensures.crash reads images (made_kept g.D.Disk c.args.disk.now c.read_made.new.disk start.metas.records [] refl c.read_made.ensures.only_reads (λ _. log) (λ _ _. settled) c.in_ok-start.ensures.metas))
+    (c.raise.ensures.crash reads images (made_kept g.D.Disk c.args.disk.now c.read_made.new.disk start.metas.records [] refl c.read_made.ensures.only_reads
+    (λ _. log) (λ _ _. settled) c.in_ok-start.ensures.metas))
 
 pub returns-clause-crash : goal.returns-clause-crash
 returns-clause-crash g c reads images log settled =
     let start = c.in_ok-start.start in
     raised_crash g.D.Disk c.args.disk.now c.read_made.new.disk c.raise.new.disk start.metas.records c.args.shape start.shape log settled
     c.read_made.ensures.only_reads images (c.in_ok-start.ensures.metas reads) c.in_ok-start.ensures.shape
-    (c.raise.ensures.crash reads images (made_kept g.D.Disk c.args.disk.now c.read_made.new.disk start.metas.records [] refl c.read_made.ensures.only_reads (λ _. log) (λ _ _. settled) c.in_ok-start.ensures.metas))
+    (c.raise.ensures.crash reads images (made_kept g.D.Disk c.args.disk.now c.read_made.new.disk start.metas.records [] refl c.read_made.ensures.only_reads
+    (λ _. log) (λ _ _. settled) c.in_ok-start.ensures.metas))
 
 pub returns-clause-kept : goal.returns-clause-kept
 returns-clause-kept g c log settled =
-    c.in_ok-raise.ensures.kept (made_kept g.D.Disk c.args.disk.now c.read_made.new.disk c.in_ok-start.start.metas.records [] refl c.read_made.ensures.only_reads log settled c.in_ok-start.ensures.metas)
+    c.in_ok-raise.ensures.kept (made_kept g.D.Disk c.args.disk.now c.read_made.new.disk c.in_ok-start.start.metas.records [] refl c.read_made.ensures.only_reads
+    log settled c.in_ok-start.ensures.metas)
 
 pub returns-clause-space : goal.returns-clause-space
 returns-clause-space g c reads log settled =
     let start = c.in_ok-start.start in
     let first = g.D.Disk.reads c.args.disk.now in
-    c.in_ok-raise.ensures.space reads (made_kept g.D.Disk c.args.disk.now c.read_made.new.disk start.metas.records [] refl c.read_made.ensures.only_reads (λ _. log) (λ _. settled) c.in_ok-start.ensures.metas)
-    ∙ ap (raised start.shape) (space_read first (g.D.Disk.reads c.read_made.new.disk) start.metas.records c.read_made.ensures.only_reads.keeps (c.in_ok-start.ensures.metas reads))
+    c.in_ok-raise.ensures.space reads (made_kept g.D.Disk c.args.disk.now c.read_made.new.disk start.metas.records [] refl c.read_made.ensures.only_reads
+    (λ _. log) (λ _. settled) c.in_ok-start.ensures.metas)
+    ∙ ap (raised start.shape) (space_read first (g.D.Disk.reads c.read_made.new.disk) start.metas.records c.read_made.ensures.only_reads.keeps
+    (c.in_ok-start.ensures.metas reads))
     ∙ ap (λ (s : Shape). raised s (record_at first)) c.in_ok-start.ensures.shape
 
 pub returns-clause-settled : goal.returns-clause-settled

@@ -66,8 +66,11 @@ returns-clause-log g c reads has =
     let held = version_held metas (record_at first) c.own.result c.own.ensures in
     let old : version_of (space own_key) < newest_version = omega (arith, held, c.version_of.ensures, c.if-version_of-ge-VERSION.false) in
     let entries : c.put_raising.new.set.pairs ∷ [] ≡ raising_entries c.args.start.shape space =
-    ap (λ (pairs : Pairs). let es : List Pairs = pairs ∷ [] in es) c.put_raising.ensures.pairs ∙ sym (entries_old c.args.start.shape space old) in
-    (0 + entry_bytes (length c.put_raising.new.set.pairs), subst (λ (es : List Pairs). HasEntries now es (0 + entry_bytes (length c.put_raising.new.set.pairs))) entries (c.in_ok-tail.ensures.appended reads [] has))
+    ap (λ (pairs : Pairs). let es : List Pairs = pairs ∷ [] in es) c.put_raising.ensures.pairs ∙ sym (entries_old c.args.start.shape space old) in (
+      0 + entry_bytes (length c.put_raising.new.set.pairs),
+      subst (λ (es : List Pairs). HasEntries now es (0 + entry_bytes (length c.put_raising.new.set.pairs)))
+          entries (c.in_ok-tail.ensures.appended reads [] has),
+    )
 
 pub returns-clause-settled : goal.returns-clause-settled
 returns-clause-settled g c reads images has settled =

@@ -18,8 +18,10 @@ pub returns-then-byte-eq-FREE-clause-told : goal.returns-then-byte-eq-FREE-claus
 returns-then-byte-eq-FREE-clause-told g c = λ tells.
     let records = (g.R.Reads.state c.args.space.now).records in
     let lt : c.args.id < high records relationships_file = omega (arith, c.requires.id, c.requires.suits.relationships) in
-    let kind = kind_read records relationships_file c.args.id c.in_ok-rec.rec lt (c.in_ok-rec.ensures.got tells) in
-    ((λ _. none_holds (kind_of c.args.self.now.kinds.now) records c.args.self.now.marks.now c.args.id (kind ∙ sym c.byte.ensures ∙ c.if-byte-eq-FREE.true)), (λ _. refl))
+    let kind = kind_read records relationships_file c.args.id c.in_ok-rec.rec lt (c.in_ok-rec.ensures.got tells) in (
+      (λ _. none_holds (kind_of c.args.self.now.kinds.now) records c.args.self.now.marks.now c.args.id (kind ∙ sym c.byte.ensures ∙ c.if-byte-eq-FREE.true)),
+      (λ _. refl),
+    )
 
 pub returns-then-leaves-clause-told : goal.returns-then-leaves-clause-told
 returns-then-leaves-clause-told g c = λ tells.
@@ -31,8 +33,11 @@ returns-then-leaves-clause-told g c = λ tells.
     let some : field 1 r 0 ≢ 0 = λ z. c.if-byte-eq-FREE.false (c.byte.ensures ∙ z) in
     let got = c.in_ok-rec.ensures.got tells in
     let from : Decides c.end_holds-leaves.result (EndHolds kind (field 4 r 8) (marked marks (end_in r (field 4 r 8) c.args.id))) = search rules in
-    let to : Decides c.end_holds-enters.result (EndHolds kind (field 4 r 12) (marked marks (end_in r (field 4 r 12) c.args.id))) = search rules in
-    ((λ e. hold_both kind records marks c.args.id r lt got some (from.0 c.if-leaves.true) (to.0 e)), (λ h. to.1 (hold_to kind records marks c.args.id r lt got some h)))
+    let to : Decides c.end_holds-enters.result (EndHolds kind (field 4 r 12) (marked marks (end_in r (field 4 r 12) c.args.id))) = search rules in (
+      (λ e. hold_both kind records marks c.args.id r lt got some (from.0 c.if-leaves.true) (to.0 e)),
+      (λ h. to.1 (hold_to kind records marks c.args.id r lt got
+          some h)),
+    )
 
 pub returns-else-leaves-clause-told : goal.returns-else-leaves-clause-told
 returns-else-leaves-clause-told g c = λ tells.

@@ -45,8 +45,10 @@ returns-clause-told g c = λ tells.
     found_is records (g.R.Reads.state c.get.new.self).records (group_head id place) (owner_at records id) (side_at place (group_label records id))
     c.args.self.now.relationships c.number-first.result c.in_ok-found.found fit
     (ap (λ s. s.records) c.in_ok-rec.ensures.state) c.requires.suits.relationships c.requires.suits.few_relationships first (IsChained chained records id) has
-    (subst (λ o. EndsFound (g.R.Reads.state c.get.new.self).records c.args.self.now.relationships (side_at place (group_label records id)) o c.number-first.result c.in_ok-found.found) node
-    (subst (λ s. EndsFound (g.R.Reads.state c.get.new.self).records c.args.self.now.relationships s c.number-node.result c.number-first.result c.in_ok-found.found) side found))
+    (subst (λ o. EndsFound (g.R.Reads.state c.get.new.self).records c.args.self.now.relationships (side_at place (group_label records id))
+    o c.number-first.result c.in_ok-found.found) node
+    (subst (λ s. EndsFound (g.R.Reads.state c.get.new.self).records c.args.self.now.relationships s c.number-node.result c.number-first.result
+    c.in_ok-found.found) side found))
 
 pub returns-in_err-rec-clause-cause : goal.returns-in_err-rec-clause-cause
 returns-in_err-rec-clause-cause g c =

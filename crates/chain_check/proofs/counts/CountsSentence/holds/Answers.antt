@@ -31,7 +31,8 @@ returns-clause-told g c = λ tells.
     ∙ c.if-byte-ne-COUNTED.false in
     let told : IfOk c.are_as_long.result (λ are. Decides are (AreAsLong after marked c.in_ok-rec.rec)) = c.are_as_long.ensures.told tells in
     IfOk-weaker c.are_as_long.result (λ are. Decides are (AreAsLong after marked c.in_ok-rec.rec)) (λ holds. Decides holds (CountsHold records id))
-    (λ b d. counts_decided records after marked id c.in_ok-rec.rec b (ap (λ s. s.records) c.in_ok-rec.ensures.state) c.requires.suits.relationships got counted d) told
+    (λ b d. counts_decided records after marked id c.in_ok-rec.rec b (ap (λ s. s.records) c.in_ok-rec.ensures.state) c.requires.suits.relationships got counted
+    d) told
 
 pub returns-in_err-rec-clause-read : goal.returns-in_err-rec-clause-read
 returns-in_err-rec-clause-read g c =

@@ -29,8 +29,11 @@ returns-then-degree-self-clause-told g c = λ tells.
     let got = c.in_ok-rec.ensures.got tells in
     let kind = kind_read records nodes_file c.args.id c.in_ok-rec.rec lt got in
     let read : c.number-degree.result ≡ degree records c.args.id = c.number-degree.ensures ∙ ap (λ r. field 4 r node_degree) got in
-    let sparse : kind_at records nodes_file c.args.id ≡ 1 = kind ∙ sym c.byte-kind.ensures ∙ c.if-kind-eq-SPARSE.true in
-    ((λ e. absurd (true≢false (sym e))), (λ (h : HasDegree c.args.self.now records c.args.id). absurd (let most = h.few sparse in omega (arith, c.if-degree-self.true))))
+    let sparse : kind_at records nodes_file c.args.id ≡ 1 = kind ∙ sym c.byte-kind.ensures ∙ c.if-kind-eq-SPARSE.true in (
+      (λ e. absurd (true≢false (sym e))),
+      (λ (h : HasDegree c.args.self.now records c.args.id). absurd (let most = h.few sparse in omega
+          (arith, c.if-degree-self.true))),
+    )
 
 pub returns-clause-told : goal.returns-clause-told
 returns-clause-told g c = λ tells.
@@ -51,7 +54,8 @@ returns-clause-told g c = λ tells.
         exact = λ _. sym read ∙ eqb-true c.number-degree.result c.index.result.now e ∙ count;
         few = λ is. let most = few (c.byte-kind.ensures ∙ sym kind ∙ is) in omega arith;
       }),
-      (λ (h : HasDegree c.args.self.now records c.args.id). eq_true c.number-degree.result c.index.result.now (read ∙ h.exact (λ z. c.if-kind-eq-FREE.false (c.byte-kind.ensures ∙ sym kind ∙ z)) ∙ sym count)),
+      (λ (h : HasDegree c.args.self.now records c.args.id). eq_true c.number-degree.result c.index.result.now (read ∙ h.exact (λ z. c.if-kind-eq-FREE.false
+          (c.byte-kind.ensures ∙ sym kind ∙ z)) ∙ sym count)),
     )
 
 pub returns-in_err-rec-clause-read : goal.returns-in_err-rec-clause-read

@@ -12,5 +12,11 @@ invariant_of-self c =
     let is : c.push.new.self.items ≡ log.calls.items ++ kept.Synced c.args.file ∷ [] = grind (arith, common_steps) in
     let room : length log.calls.items < log.room.calls = rw (← length-map log.calls.items (call_of log.bytes.items))
     (rw (← c.self.view_is) at c.requires.room) in
-    let count : vec_len c.push.new.self ≡ length c.push.new.self.items = omega arith in
-    (subst (λ calls. IsLog calls log.bytes.items) (sym is) (IsLog-synced log.calls.items log.bytes.items c.args.file (omega arith) c.self.invariant.0), grind (arith, common_steps), omega arith, omega arith, omega arith)
+    let count : vec_len c.push.new.self ≡ length c.push.new.self.items = omega arith in (
+      subst (λ calls. IsLog calls log.bytes.items) (sym is) (IsLog-synced log.calls.items log.bytes.items c.args.file (omega arith) c.self.invariant.0),
+      grind
+          (arith, common_steps),
+      omega arith,
+      omega arith,
+      omega arith,
+    )

@@ -17,8 +17,15 @@ invariant_of-self c =
     (rw (← c.self.view_is) at c.requires.calls) in
     let byte_room : bytes_kept (calls_of log.calls.items log.bytes.items) + length c.args.bytes.now ≤ log.room.bytes =
     rw (← c.self.view_is) at c.requires.bytes in
-    let count = c.self.invariant.0.count in
-    (subst (λ cs. IsLog cs c.extend_from_slice.new.self.items) (sym calls) (subst (λ bs. IsLog (log.calls.items ++ kept.Wrote c.args.file c.args.at (length log.bytes.items) (length c.args.bytes.now) ∷ []) bs) (sym bytes) (IsLog-wrote log.calls.items log.bytes.items c.args.bytes.now c.args.file c.args.at (omega arith) c.self.invariant.0)), grind (arith, common_steps), omega arith, grind (arith, common_steps), omega arith)
+    let count = c.self.invariant.0.count in (
+      subst (λ cs. IsLog cs c.extend_from_slice.new.self.items) (sym calls) (subst (λ bs. IsLog (log.calls.items ++ kept.Wrote c.args.file c.args.at
+          (length log.bytes.items) (length c.args.bytes.now) ∷ []) bs) (sym bytes) (IsLog-wrote log.calls.items log.bytes.items c.args.bytes.now c.args.file
+          c.args.at (omega arith) c.self.invariant.0)),
+      grind (arith, common_steps),
+      omega arith,
+      grind (arith, common_steps),
+      omega arith,
+    )
 
 pub returns : goal.returns
 returns c =

@@ -19,7 +19,9 @@ returns-clause-exact c file place =
     let whole : take files.len (new ++ drop (length new) files.items) ≡ new = take_at new (drop (length new) files.items) files.len count in
     ap (λ fs. contents fs file place) whole
     ∙ c.fill.ensures.bytes file place
-    ∙ ap (λ fs. cond (pending_since (contents c.deref-2.result.now) disk.log.calls file place && ltb place (length (file_of fs file))) byte (contents fs file place)) copied
-    ∙ ap (λ ps. cond (pending_since (contents ps) disk.log.calls file place && ltb place (length (file_of disk.files.items file))) byte (contents disk.files.items file place)) c.deref-2.ensures.value
+    ∙ ap (λ fs. cond (pending_since (contents c.deref-2.result.now) disk.log.calls file place && ltb place (length (file_of fs file))) byte
+    (contents fs file place)) copied
+    ∙ ap (λ ps. cond (pending_since (contents ps) disk.log.calls file place && ltb place (length (file_of disk.files.items file))) byte
+    (contents disk.files.items file place)) c.deref-2.ensures.value
     ∙ filled-pending disk.base.items disk.pokes.items disk.files.items disk.log.calls byte file place c.self.invariant
     ∙ ap (λ (d : MemoryDiskState). left_by (Fill byte) d file place) c.self.view_is

@@ -29,7 +29,8 @@ returns-clause-exact c file place =
     ∙ ap rooms_of c.deref.ensures.value ∙ read.same_rooms in
     let zeros : AllZeros c.deref_mut.result.now = subst AllZeros (sym blanks) c.in_ok-marks.ensures.zeros in
     let marked = marked-pending disk.base.items disk.pokes.items c.deref_mut.result.now marks disk.log.calls read.fits rooms zeros
-    (λ f p. c.fill.ensures.bytes f p ∙ ap (λ ps. cond (pending_since (contents ps) disk.log.calls f p && ltb p (length (file_of c.deref_mut.result.now f))) 1 (contents c.deref_mut.result.now f p)) c.deref-2.ensures.value)
+    (λ f p. c.fill.ensures.bytes f p ∙ ap (λ ps. cond (pending_since (contents ps) disk.log.calls f p && ltb p (length (file_of c.deref_mut.result.now f))) 1
+    (contents c.deref_mut.result.now f p)) c.deref-2.ensures.value)
     in
     ap (λ fs. contents fs file place) whole
     ∙ c.draw_marked.ensures.bytes file place

@@ -12,7 +12,11 @@ write-requires-2 c =
     let disk = c.self.inside in
     let read = c.self.invariant in
     let within : c.args.at < length (file_of disk.base.items c.args.file) = rw (← c.self.view_is) at c.requires.within in
-    omega (arith, has_place disk.files.items disk.base.items c.args.file c.args.at c.index_mut-2.result.now read.count read.same_rooms c.requires.file within c.index_mut-2.ensures.value)
+    omega (
+      arith,
+      has_place disk.files.items disk.base.items c.args.file c.args.at c.index_mut-2.result.now read.count read.same_rooms c.requires.file within
+          c.index_mut-2.ensures.value,
+    )
 
 pub poke-requires : goal.poke-requires
 poke-requires c =
@@ -53,8 +57,12 @@ returns-clause-image c =
     c.index_mut.result.now c.write.new.self c.index_mut-2.result.now c.write-2.new.self c.index_mut-3.result.now c.poke.new.self c.self.invariant
     c.requires.file within c.index_mut.ensures.value c.write.ensures c.index_mut-2.ensures.value c.write-2.ensures c.index_mut-3.ensures.value
     c.poke.ensures c.count.ensures in
-    subst (λ (d : MemoryDiskState). ArePoked c.args.file c.args.at c.args.byte (MayLeave d) (Allows (contents (set disk.base.items c.args.file c.write.new.self)) (contents (set disk.pokes.items c.args.file c.poke.new.self)) disk.log.calls)) c.self.view_is
-    (ArePoked-allows c.args.file c.args.at c.args.byte (length disk.log.calls) (contents disk.base.items) (contents disk.pokes.items) (contents (set disk.base.items c.args.file c.write.new.self)) (contents (set disk.pokes.items c.args.file c.poke.new.self)) disk.log.calls after.poke (omega arith))
+    subst (λ (d : MemoryDiskState). ArePoked c.args.file c.args.at c.args.byte (MayLeave d)
+    (Allows (contents (set disk.base.items c.args.file c.write.new.self)) (contents (set disk.pokes.items c.args.file c.poke.new.self)) disk.log.calls))
+    c.self.view_is
+    (ArePoked-allows c.args.file c.args.at c.args.byte (length disk.log.calls) (contents disk.base.items) (contents disk.pokes.items)
+    (contents (set disk.base.items c.args.file c.write.new.self)) (contents (set disk.pokes.items c.args.file c.poke.new.self)) disk.log.calls after.poke
+    (omega arith))
 
 pub returns-clause-since : goal.returns-clause-since
 returns-clause-since c t =
@@ -64,8 +72,11 @@ returns-clause-since c t =
     c.index_mut.result.now c.write.new.self c.index_mut-2.result.now c.write-2.new.self c.index_mut-3.result.now c.poke.new.self c.self.invariant
     c.requires.file within c.index_mut.ensures.value c.write.ensures c.index_mut-2.ensures.value c.write-2.ensures c.index_mut-3.ensures.value
     c.poke.ensures c.count.ensures in
-    subst (λ (d : MemoryDiskState). ArePoked c.args.file c.args.at c.args.byte (LeftSince d t) (Since (contents (set disk.base.items c.args.file c.write.new.self)) (contents (set disk.pokes.items c.args.file c.poke.new.self)) disk.log.calls t)) c.self.view_is
-    (ArePoked-since c.args.file c.args.at c.args.byte (contents disk.base.items) (contents disk.pokes.items) (contents (set disk.base.items c.args.file c.write.new.self)) (contents (set disk.pokes.items c.args.file c.poke.new.self)) disk.log.calls t after.poke)
+    subst (λ (d : MemoryDiskState). ArePoked c.args.file c.args.at c.args.byte (LeftSince d t)
+    (Since (contents (set disk.base.items c.args.file c.write.new.self)) (contents (set disk.pokes.items c.args.file c.poke.new.self)) disk.log.calls t))
+    c.self.view_is
+    (ArePoked-since c.args.file c.args.at c.args.byte (contents disk.base.items) (contents disk.pokes.items)
+    (contents (set disk.base.items c.args.file c.write.new.self)) (contents (set disk.pokes.items c.args.file c.poke.new.self)) disk.log.calls t after.poke)
 
 pub returns-clause-base : goal.returns-clause-base
 returns-clause-base c other place =

@@ -22,9 +22,14 @@ invariant_of-self-2 c =
     let disk = c.self.inside in
     let fits : c.args.at + length c.args.bytes.now ≤ length (file_of disk.base.items c.args.file) = grind (arith, common_steps) in
     let is : c.write.new.self ≡ overwritten (file_of disk.files.items c.args.file) c.args.at c.args.bytes.now = grind (arith, common_steps) in
-    let known : c.args.file < length disk.files.items = omega (arith, same_count disk.files.items disk.base.items c.self.invariant.same_rooms, c.self.invariant.count) in
+    let known : c.args.file < length disk.files.items = omega (
+      arith,
+      same_count disk.files.items disk.base.items c.self.invariant.same_rooms,
+      c.self.invariant.count,
+    ) in
     subst (λ (log : CallLogState). IsRead disk.base.items disk.pokes.items (set disk.files.items c.args.file c.write.new.self) log.calls) (sym c.wrote.ensures)
-    (IsRead-wrote disk.base.items disk.pokes.items disk.files.items disk.log.calls c.args.file c.args.at c.args.bytes.now c.write.new.self c.self.invariant known fits is)
+    (IsRead-wrote disk.base.items disk.pokes.items disk.files.items disk.log.calls c.args.file c.args.at c.args.bytes.now c.write.new.self c.self.invariant
+    known fits is)
 
 pub write-requires : goal.write-requires
 write-requires c =

@@ -14,7 +14,8 @@ invariant_of-self g c =
     record {
       idle = c.apply_shipment.ensures.closed;
       standing = λ live. c.in-Ok.ensures.applies.comes_to.live;
-      numbered = λ told live. number ∙ sym (ap number_in (c.in-Ok.ensures.applies.comes_to.records told) ∙ number_in-taken (committed old) c.args.bytes.now small);
+      numbered = λ told live. number ∙ sym (ap number_in (c.in-Ok.ensures.applies.comes_to.records told) ∙ number_in-taken (committed old) c.args.bytes.now
+          small);
     }
 
 pub returns-in-Ok-clause-accepts : goal.returns-in-Ok-clause-accepts

@@ -17,7 +17,8 @@ returns-in-Ok-get-clause-opened g c =
     } in
     opened_is g.D.Disk c.args.config c.args.disk.now store now c.wide.result g.met.D.Disk.counts_now leaves c.in-Ok.ensures.opened c.in-Ok.ensures.suits
     c.in-Ok.ensures.stored c.in-Ok.ensures.settled c.in-Ok.ensures.log c.get.ensures.onward c.get.ensures.cause.later
-    (λ reads. number-read store now c.in-Ok-get.rec c.wide.result c.get.ensures.onward c.in-Ok.ensures.own c.in-Ok.ensures.draft (c.in-Ok-get.ensures.got reads) c.wide.ensures)
+    (λ reads. number-read store now c.in-Ok-get.rec c.wide.result c.get.ensures.onward c.in-Ok.ensures.own c.in-Ok.ensures.draft (c.in-Ok-get.ensures.got reads)
+    c.wide.ensures)
 
 pub returns-in-Err-get-clause-unopened : goal.returns-in-Err-get-clause-unopened
 returns-in-Err-get-clause-unopened g c =
@@ -30,5 +31,6 @@ returns-in-Err-get-clause-unopened g c =
       later = c.in-Ok.ensures.later;
     } in
     subst (λ (d : _). IsUnopened disk c.args.config c.args.disk.now d opening.Disk) (sym c.close.ensures.disk)
-    (unopened_is disk c.args.config c.args.disk.now c.in-Ok.store.base.disk.now c.get.new.self.base.disk.now g.met.D.Disk.counts_now leaves get.onward.disk get.cause.later (get.cause.disk (ap (λ fault. Err fault) get.refused))
+    (unopened_is disk c.args.config c.args.disk.now c.in-Ok.store.base.disk.now c.get.new.self.base.disk.now g.met.D.Disk.counts_now leaves get.onward.disk
+    get.cause.later (get.cause.disk (ap (λ fault. Err fault) get.refused))
     c.in-Ok.store.base.shape (committed c.in-Ok.store) c.in-Ok.ensures.opened)

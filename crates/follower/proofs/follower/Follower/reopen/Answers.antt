@@ -27,7 +27,8 @@ returns-in-Ok-clause-reopens g c =
     c.recover_again.ensures.crash c.recover_again.ensures.read c.recover_again.ensures.clean c.recover_again.ensures.careful c.recover_again.ensures.later
     c.get.ensures.cause.later
     c.wide-self.result c.in_ok-recover_again.ensures.done
-    (λ told. number-read mid now c.in-Ok.rec c.wide-self.result reads (own-again old mid c.recover_again.ensures.own (old.base.bounded.closed c.args.self.now.idle)) c.recover_again.ensures.draft (c.in-Ok.ensures.got told) c.wide-self.ensures)
+    (λ told. number-read mid now c.in-Ok.rec c.wide-self.result reads (own-again old mid c.recover_again.ensures.own
+    (old.base.bounded.closed c.args.self.now.idle)) c.recover_again.ensures.draft (c.in-Ok.ensures.got told) c.wide-self.ensures)
 
 pub returns-in-Err-clause-reopens : goal.returns-in-Err-clause-reopens
 returns-in-Err-clause-reopens g c =

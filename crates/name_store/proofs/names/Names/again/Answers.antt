@@ -47,7 +47,8 @@ returns-in_err-compare-clause-damaged g c = λ tells.
     let mark : c.meta-high.result.high ≡ name_mark s.records = ap (λ (m : Meta). m.high) c.meta-high.ensures in
     let p = err_from_is_err_and c.from_residual.result c.from_residual.ensures.1 in
     let other = subst (λ records. HasOther records names c.loop-id.id c.in_err-compare.field-0.0) there (c.in_err-compare.ensures.damaged tells) in
-    rw (p.1, p.2) (IsAgainFault-other s.records names c.loop-id.id c.in_err-compare.field-0.0 (omega (arith, c.loop-id-test.true)) (c.loop-id.invariant.before tells) other)
+    rw (p.1, p.2) (IsAgainFault-other s.records names c.loop-id.id c.in_err-compare.field-0.0 (omega (arith, c.loop-id-test.true))
+    (c.loop-id.invariant.before tells) other)
 
 pub returns-in_err-compare-clause-sound : goal.returns-in_err-compare-clause-sound
 returns-in_err-compare-clause-sound g c = λ tells rest is.

@@ -7,4 +7,5 @@ returns-in_err-id-clause-none c = rw (c.from_residual.ensures, ← c.self.view_i
     (lacks-has_name c.self.inside.texts.keys c.args.text.now (sym c.in_err-id.ensures.found))
 
 pub returns-clause-some : goal.returns-clause-some
-returns-clause-some c = rw (← c.self.view_is) (position-name_bytes c.self.inside.texts.keys c.args.text.now c.in_ok-id.id (sym c.in_ok-id.ensures.index) c.in_ok-id.ensures.within)
+returns-clause-some c = rw (← c.self.view_is) (position-name_bytes c.self.inside.texts.keys c.args.text.now c.in_ok-id.id (sym c.in_ok-id.ensures.index)
+    c.in_ok-id.ensures.within)

@@ -10,7 +10,8 @@ use Rattle.name_store.proofs.names.Names.intern.Goals as goal
 
 pub returns-in-Some-clause-ok : goal.returns-in-Some-clause-ok
 returns-in-Some-clause-ok g c = λ tells.
-    sym (interned-known (g.S.Reads.state c.args.space.now) c.args.self.now.names c.args.text.now (contains_at c.args.self.now.names c.in-Some.id c.args.text.now c.in-Some.ensures.some))
+    sym (interned-known (g.S.Reads.state c.args.space.now) c.args.self.now.names c.args.text.now (contains_at c.args.self.now.names c.in-Some.id c.args.text.now
+    c.in-Some.ensures.some))
 
 pub returns-in-Some-clause-names : goal.returns-in-Some-clause-names
 returns-in-Some-clause-names g c = inl (contains_at c.args.self.now.names c.in-Some.id c.args.text.now c.in-Some.ensures.some, refl)

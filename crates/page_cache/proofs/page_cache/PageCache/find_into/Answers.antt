@@ -28,7 +28,8 @@ returns-in-Some-clause-record c content agrees there =
 moved_agrees : (content : Files) (pages moved : Pages) (wanted : PageKey) → moved ≡ lru_cache (promoted (page_eq wanted) pages.entries) pages.cap
     → Agrees content pages → Agrees content moved
 moved_agrees content pages moved wanted is agrees =
-    agrees_within content pages moved agrees (λ entry i. Contains-promoted (page_eq wanted) pages.entries entry (subst (λ (p : Pages). Contains p.entries entry) is i))
+    agrees_within content pages moved agrees (λ entry i. Contains-promoted (page_eq wanted) pages.entries entry (subst (λ (p : Pages). Contains p.entries entry)
+    is i))
 
 pub invariant_of-self : goal.invariant_of-self
 invariant_of-self c =
@@ -36,7 +37,8 @@ invariant_of-self c =
     let wanted = c.of-wanted.result in
     let moved = c.get.follows.lender-at-none in
     last_put c.self.inside.last.files c.put.new.self.files moved wanted c.in-Some-get.page.now
-    (ap (λ (p : Pages). lookup (page_eq wanted) p.entries) c.get.follows.holds-at-none ∙ lookup-promoted wanted wanted pages.entries ∙ sym c.in-Some-get.ensures.value)
+    (ap (λ (p : Pages). lookup (page_eq wanted) p.entries) c.get.follows.holds-at-none ∙ lookup-promoted wanted wanted pages.entries
+    ∙ sym c.in-Some-get.ensures.value)
     (subst (AreLastKept c.self.inside.last.files) (sym c.get.follows.holds-at-none) (last_promoted c.self.inside.last.files pages wanted c.self.invariant))
     c.put.ensures
 
@@ -60,7 +62,8 @@ returns-in-Some-get-clause-agrees c content agrees =
 pub returns-in-Some-get-clause-used : goal.returns-in-Some-get-clause-used
 returns-in-Some-get-clause-used c =
     let pages = c.self.inside.pages in
-    inr (c.get.follows.holds-at-none ∙ ap (λ (page : PageKey). lru_cache (promoted (page_eq page) pages.entries) pages.cap) c.of-wanted.ensures ∙ ap (used_last c.args.key) c.self.view_is)
+    inr (c.get.follows.holds-at-none ∙ ap (λ (page : PageKey). lru_cache (promoted (page_eq page) pages.entries) pages.cap) c.of-wanted.ensures ∙ ap
+    (used_last c.args.key) c.self.view_is)
 
 pub returns-in-None-clause-agrees : goal.returns-in-None-clause-agrees
 returns-in-None-clause-agrees c content agrees =
@@ -74,9 +77,13 @@ stays pages moved now wanted is none view = is ∙ ap (λ (entries : List (PageK
     (unused (page_eq wanted) pages.entries none) ∙ view
 
 pub returns-in-None-clause-absent : goal.returns-in-None-clause-absent
-returns-in-None-clause-absent c _ =
-    (refl, stays c.self.inside.pages c.get.follows.lender-at-none c.args.self.now c.of-wanted.result c.get.follows.holds-at-none (sym c.in-None.ensures.value) c.self.view_is)
+returns-in-None-clause-absent c _ = (
+  refl,
+  stays c.self.inside.pages c.get.follows.lender-at-none c.args.self.now c.of-wanted.result c.get.follows.holds-at-none (sym c.in-None.ensures.value)
+      c.self.view_is,
+)
 
 pub returns-in-None-clause-used : goal.returns-in-None-clause-used
 returns-in-None-clause-used c =
-    inl (stays c.self.inside.pages c.get.follows.lender-at-none c.args.self.now c.of-wanted.result c.get.follows.holds-at-none (sym c.in-None.ensures.value) c.self.view_is)
+    inl (stays c.self.inside.pages c.get.follows.lender-at-none c.args.self.now c.of-wanted.result c.get.follows.holds-at-none (sym c.in-None.ensures.value)
+    c.self.view_is)

@@ -6,7 +6,8 @@ use Rattle.page_cache.proofs.page_cache.PageCache.get_into.Goals as goal
 
 pub returns-then-find_into-clause-told : goal.returns-then-find_into-clause-told
 returns-then-find_into-clause-told g c =
-    sym c.if-find_into.true ∙ c.find_into.ensures.kept ∙ ap is_some (sym (kept_used c.args.key c.args.self.now c.find_into.new.self c.find_into.ensures.used c.args.key))
+    sym c.if-find_into.true ∙ c.find_into.ensures.kept ∙ ap is_some (sym (kept_used c.args.key c.args.self.now c.find_into.new.self c.find_into.ensures.used
+    c.args.key))
 
 pub returns-then-find_into-clause-stay : goal.returns-then-find_into-clause-stay
 returns-then-find_into-clause-stay g c = stay_used c.args.key c.args.self.now c.find_into.new.self c.find_into.ensures.used

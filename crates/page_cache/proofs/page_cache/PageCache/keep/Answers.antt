@@ -12,4 +12,5 @@ invariant_of-self c =
 pub invariant_of-self-in-Err : goal.invariant_of-self-in-Err
 invariant_of-self-in-Err c =
     subst (AreLastKept c.forget.new.self.files) (sym c.in-Err.ensures.err)
-    (last_refused c.self.inside.last.files c.put.new.self.files c.forget.new.self.files c.self.inside.pages c.args.key c.args.page c.self.invariant c.put.ensures c.forget.ensures)
+    (last_refused c.self.inside.last.files c.put.new.self.files c.forget.new.self.files c.self.inside.pages c.args.key c.args.page c.self.invariant
+    c.put.ensures c.forget.ensures)

@@ -22,16 +22,23 @@ returns-clause-agrees g c reads agrees =
     (⊎_elim
     (λ same. subst (Agrees old) (sym same) agrees)
     (λ put. subst (Agrees old) (sym put) (agrees_put old c.args.self.now c.of.result c.read.new.self agrees is))
-    (kept_or_same (record c.args.self.now { entries = put_entries page_eq c.args.self.now c.of.result c.read.new.self }) c.args.self.now c.keep.new.self c.keep.result c.keep.ensures.kept c.keep.ensures.refused))
+    (kept_or_same (record c.args.self.now { entries = put_entries page_eq c.args.self.now c.of.result c.read.new.self }) c.args.self.now c.keep.new.self
+    c.keep.result c.keep.ensures.kept c.keep.ensures.refused))
 
 pub returns-clause-pages : goal.returns-clause-pages
 returns-clause-pages g c = ⊎_elim
     (λ same. inl (inl same))
-    (λ put. inr (c.read.new.self, put ∙ ap (λ (page : PageKey). record c.args.self.now { entries = put_entries page_eq c.args.self.now page c.read.new.self }) c.of.ensures))
-    (kept_or_same (record c.args.self.now { entries = put_entries page_eq c.args.self.now c.of.result c.read.new.self }) c.args.self.now c.keep.new.self c.keep.result c.keep.ensures.kept c.keep.ensures.refused)
+    (λ put. inr (
+      c.read.new.self,
+      put ∙ ap (λ (page : PageKey). record c.args.self.now { entries = put_entries page_eq c.args.self.now page c.read.new.self })
+          c.of.ensures,
+    ))
+    (kept_or_same (record c.args.self.now { entries = put_entries page_eq c.args.self.now c.of.result c.read.new.self }) c.args.self.now c.keep.new.self
+    c.keep.result c.keep.ensures.kept c.keep.ensures.refused)
 
 pub returns-clause-told : goal.returns-clause-told
 returns-clause-told g c none =
     told_kept c.args.key c.read.new.self c.args.self.now c.keep.new.self c.keep.result none
-    (λ yes. c.keep.ensures.kept yes ∙ ap (λ (page : PageKey). record c.args.self.now { entries = put_entries page_eq c.args.self.now page c.read.new.self }) c.of.ensures)
+    (λ yes. c.keep.ensures.kept yes ∙ ap (λ (page : PageKey). record c.args.self.now { entries = put_entries page_eq c.args.self.now page c.read.new.self })
+    c.of.ensures)
     c.keep.ensures.refused

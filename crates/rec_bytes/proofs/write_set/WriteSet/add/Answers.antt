@@ -31,7 +31,8 @@ invariant_of-self c =
     (c.len-place.ensures ∙ c.self.inside.pairs.ok.0) in
     subst (λ (p : Pairs). IsHinted p c.insert.new.self.items c.write_hint.new.hints.items) (sym c.push_reserved.ensures.items)
     (subst (λ o. IsHinted (ps ++ (c.args.key, c.args.rec) ∷ []) o c.write_hint.new.hints.items) (sym order)
-    (hinted_added ps c.self.inside.order.items c.self.inside.hints.items c.write_hint.new.hints.items c.args.key c.args.rec c.gap_of-i.result (c.len-place.result + 1)
+    (hinted_added ps c.self.inside.order.items c.self.inside.hints.items c.write_hint.new.hints.items c.args.key c.args.rec c.gap_of-i.result
+    (c.len-place.result + 1)
     c.self.invariant c.gap_of-i.ensures c.requires.key few positive c.write_hint.ensures))
 
 pub returns-clause-pairs : goal.returns-clause-pairs

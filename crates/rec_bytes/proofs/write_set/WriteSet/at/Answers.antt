@@ -11,7 +11,8 @@ use Rattle.rec_bytes.proofs.write_set.WriteSet.at.Goals as goal
 
 pub index-requires : goal.index-requires
 index-requires c =
-    subst (λ n. c.args.i < n) (sym c.self.inside.order.ok.0) (place_within c.self.inside.pairs.items c.self.inside.order.items c.args.i (subst (λ (v : Held). c.args.i < length v.pairs) (sym c.self.view_is) c.requires))
+    subst (λ n. c.args.i < n) (sym c.self.inside.order.ok.0) (place_within c.self.inside.pairs.items c.self.inside.order.items c.args.i
+    (subst (λ (v : Held). c.args.i < length v.pairs) (sym c.self.view_is) c.requires))
 
 pub pair_at-requires : goal.pair_at-requires
 pair_at-requires c =

@@ -15,7 +15,8 @@ unreachable-requires c =
 
 pub index_mut-pair-requires : goal.index_mut-pair-requires
 index_mut-pair-requires c =
-    rw (c.self.inside.pairs.ok.0) (pair_within c.self.inside.pairs.items c.self.inside.order.items c.args.key c.in-Some.place c.self.invariant.ordered c.in-Some.ensures.found)
+    rw (c.self.inside.pairs.ok.0) (pair_within c.self.inside.pairs.items c.self.inside.order.items c.args.key c.in-Some.place c.self.invariant.ordered
+    c.in-Some.ensures.found)
 
 pub invariant_of-self-lent : goal.invariant_of-self-lent
 invariant_of-self-lent c w =

@@ -11,4 +11,15 @@ returns-clause-room c =
     = ap (λ (v : Held). v.room) (sym c.self.view_is) in
     let old : length c.args.self.now.pairs ≡ length order = ap (λ (v : Held). length v.pairs) (sym c.self.view_is) ∙ length-in_order ps order in
     let new = length-in_order c.merge_pass.new.pairs.items c.merge_pass.new.order.items in
-    omega (arith, room, old, new, c.self.invariant.ordered.count, c.merge_pass.ensures.hinted.ordered.count, c.merge_pass.ensures.pairs_capacity, c.merge_pass.ensures.order_capacity, c.requires.some, c.requires.room)
+    omega (
+      arith,
+      room,
+      old,
+      new,
+      c.self.invariant.ordered.count,
+      c.merge_pass.ensures.hinted.ordered.count,
+      c.merge_pass.ensures.pairs_capacity,
+      c.merge_pass.ensures.order_capacity,
+      c.requires.some,
+      c.requires.room,
+    )

@@ -14,6 +14,7 @@ loop-id-preserved c =
       done = λ content holds k below.
           slice_get-set c.loop-id.metas.records c.loop-id.id k (record { bytes = c.copy_from_slice.new.self }) (λ j. record_at content (meta_key_of j))
           (omega (arith, was.whole, c.loop-id-test.true))
-          (ap (λ (bytes : List ℕ). let r : Rec = record { bytes = bytes } in r) (c.copy_from_slice.ensures.after ∙ ap (λ (n : ℕ). take n (drop (c.loop-id.id * 64) c.args.bytes.now)) size)
+          (ap (λ (bytes : List ℕ). let r : Rec = record { bytes = bytes } in r) (c.copy_from_slice.ensures.after ∙ ap
+          (λ (n : ℕ). take n (drop (c.loop-id.id * 64) c.args.bytes.now)) size)
           ∙ part_is c.loop-id.id c.args.bytes.now content c.loop-id-test.true c.requires holds) (was.done content holds) below;
     }

@@ -10,8 +10,11 @@ pub returns-then-byte-eq-FREE-clause-told : goal.returns-then-byte-eq-FREE-claus
 returns-then-byte-eq-FREE-clause-told g c = λ tells.
     let records = (g.R.Reads.state c.args.space.now).records in
     let file = c.args.self.now.file in
-    let lt : c.args.id < high records file = omega (arith, c.requires.id, c.requires.suits.records_are) in
-    ((λ _ live. absurd (free_read records file c.args.id c.in_ok-rec.rec lt (c.in_ok-rec.ensures.got tells) (sym c.byte.ensures ∙ c.if-byte-eq-FREE.true) live)), (λ _. eq_true c.byte.result 0 c.if-byte-eq-FREE.true))
+    let lt : c.args.id < high records file = omega (arith, c.requires.id, c.requires.suits.records_are) in (
+      (λ _ live. absurd (free_read records file c.args.id c.in_ok-rec.rec lt (c.in_ok-rec.ensures.got tells) (sym c.byte.ensures ∙ c.if-byte-eq-FREE.true)
+          live)),
+      (λ _. eq_true c.byte.result 0 c.if-byte-eq-FREE.true),
+    )
 
 pub returns-else-byte-eq-FREE-clause-told : goal.returns-else-byte-eq-FREE-clause-told
 returns-else-byte-eq-FREE-clause-told g c = λ tells.

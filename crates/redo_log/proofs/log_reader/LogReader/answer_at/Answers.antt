@@ -13,8 +13,14 @@ returns-then-not-head-clause-tells g c = λ told content has one.
 pub returns-then-not-is_entry_size-clause-tells : goal.returns-then-not-is_entry_size-clause-tells
 returns-then-not-is_entry_size-clause-tells g c = λ told content has.
     let head = c.bytes_at.ensures.bytes content (c.cover.ensures.keeps told content has).kept in
-    let count = c.head_of-head.ensures.count content c.args.place head in
-    (refl, ((c.head_of-head.ensures.gate content c.args.place head).0 (cc), λ entry. false≢true (c.if-not-is_entry_size.ensures.1 (entry_size content c.args.place c.head_of-head.result.count count entry))))
+    let count = c.head_of-head.ensures.count content c.args.place head in (
+      refl,
+      (
+        (c.head_of-head.ensures.gate content c.args.place head).0 (cc),
+        λ entry. false≢true (c.if-not-is_entry_size.ensures.1
+            (entry_size content c.args.place c.head_of-head.result.count count entry)),
+      ),
+    )
 
 pub returns-in_err-has_entry_keys-clause-keeps : goal.returns-in_err-has_entry_keys-clause-keeps
 returns-in_err-has_entry_keys-clause-keeps g c = λ told content has. c.has_entry_keys.ensures.keeps told content (c.cover.ensures.keeps told content has)
@@ -42,8 +48,12 @@ returns-clause-tells g c = λ told content has.
     let covered = c.cover.ensures.keeps told content has in
     let head = c.bytes_at.ensures.bytes content covered.kept in
     let count = c.head_of-head.ensures.count content c.args.place head in
-    let rising = (c.in_ok-has_entry_keys.ensures.keys told content covered).0 (cc) in
-    (is_entry content c.args.place c.head_of-head.result.count ((c.head_of-head.ensures.gate content c.args.place head).0 (cc)) count (c.if-not-is_entry_size.ensures.0 (cc)) rising, count, omega arith)
+    let rising = (c.in_ok-has_entry_keys.ensures.keys told content covered).0 (cc) in (
+      is_entry content c.args.place c.head_of-head.result.count ((c.head_of-head.ensures.gate content c.args.place head).0 (cc)) count
+          (c.if-not-is_entry_size.ensures.0 (cc)) rising,
+      count,
+      omega arith,
+    )
 
 pub returns-clause-keeps : goal.returns-clause-keeps
 returns-clause-keeps g c = λ told content has. c.has_entry_keys.ensures.keeps told content (c.cover.ensures.keeps told content has)

@@ -15,19 +15,22 @@ invariant_of-self-then-is_open c =
     record {
       right = c.take_away.ensures.right;
       marked = subst (AreMarked c.self.inside.marks.items) (sym c.take_away.ensures.layers)
-          (marked_less c.self.inside.marks.items (released c.args.reader (layers_of xs)) (layers_of xs) (only_released c.args.reader (layers_of xs) (rising_all xs c.self.invariant.right.each)) c.self.invariant.marked);
+          (marked_less c.self.inside.marks.items (released c.args.reader (layers_of xs)) (layers_of xs) (only_released c.args.reader (layers_of xs)
+          (rising_all xs c.self.invariant.right.each)) c.self.invariant.marked);
     }
 
 pub returns-then-is_open-clause-sights : goal.returns-then-is_open-clause-sights
 returns-then-is_open-clause-sights c =
     let xs = c.self.inside.layers.items in
     subst (λ (s : Snapshots). SameSights s.open_ones (layers_of c.take_away.new.layers.items)) c.self.view_is
-    (subst (SameSights (layers_of xs)) (sym c.take_away.ensures.layers) (sights-released (layers_of xs) c.args.reader c.self.invariant.right.distinct (rising_all xs c.self.invariant.right.each)))
+    (subst (SameSights (layers_of xs)) (sym c.take_away.ensures.layers) (sights-released (layers_of xs) c.args.reader c.self.invariant.right.distinct
+    (rising_all xs c.self.invariant.right.each)))
 
 pub returns-then-is_open-clause-covered : goal.returns-then-is_open-clause-covered
 returns-then-is_open-clause-covered c = λ sums covered.
     let xs = c.self.inside.layers.items in
-    subst (AreCovered sums) (sym c.take_away.ensures.layers) (covered-released sums c.args.reader (layers_of xs) (subst (λ (s : Snapshots). AreCovered sums s.open_ones) (sym c.self.view_is) covered))
+    subst (AreCovered sums) (sym c.take_away.ensures.layers) (covered-released sums c.args.reader (layers_of xs)
+    (subst (λ (s : Snapshots). AreCovered sums s.open_ones) (sym c.self.view_is) covered))
 
 pub returns-then-is_open-clause-closed : goal.returns-then-is_open-clause-closed
 returns-then-is_open-clause-closed c =

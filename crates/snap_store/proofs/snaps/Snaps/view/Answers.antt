@@ -10,5 +10,6 @@ invariant_of-result g c =
     let xs = c.self.inside.layers.items in
     record {
       marked = subst (AreMarked c.self.inside.marks.items) (sym (c.layers_from.ensures ∙ ap (λ ls. from c.args.reader (layers_of ls)) c.deref.ensures.value))
-          (marked_less c.self.inside.marks.items (from c.args.reader (layers_of xs)) (layers_of xs) (only_from c.args.reader (layers_of xs)) c.self.invariant.marked);
+          (marked_less c.self.inside.marks.items (from c.args.reader (layers_of xs)) (layers_of xs) (only_from c.args.reader (layers_of xs))
+          c.self.invariant.marked);
     }

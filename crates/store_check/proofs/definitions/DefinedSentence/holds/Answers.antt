@@ -27,8 +27,10 @@ returns-then-label-names-clause-told g c = λ tells.
     ∙ ap (λ (r : Records). high r names_file) (ap (λ s. s.records) c.in_ok-rec.ensures.state) in
     let label = c.number-label.ensures in
     let key = c.number-key.ensures in (
-      (λ e. let b = ltb-true c.number-key.result c.meta-names.result.high e in named_keeps records c.args.id c.in_ok-rec.rec lt got (omega (arith, c.if-label-names.true)) (omega arith)),
-      (λ h. let b = key_named records c.args.id c.in_ok-rec.rec lt got (sym c.byte.ensures ∙ c.if-byte-ne-DEFINITION.false) h in lt_true c.number-key.result c.meta-names.result.high (omega arith)),
+      (λ e. let b = ltb-true c.number-key.result c.meta-names.result.high e in named_keeps records c.args.id c.in_ok-rec.rec lt got
+          (omega (arith, c.if-label-names.true)) (omega arith)),
+      (λ h. let b = key_named records c.args.id c.in_ok-rec.rec lt got (sym c.byte.ensures ∙ c.if-byte-ne-DEFINITION.false) h in lt_true c.number-key.result
+          c.meta-names.result.high (omega arith)),
     )
 
 pub returns-else-label-names-clause-told : goal.returns-else-label-names-clause-told
@@ -40,7 +42,8 @@ returns-else-label-names-clause-told g c = λ tells.
     ∙ ap (λ (r : Records). high r names_file) (ap (λ s. s.records) c.in_ok-rec.ensures.state) in
     let label = c.number-label.ensures in (
       (λ e. let b = ltb-true c.number-label.result c.meta-names.result.high e in absurd (omega (arith, c.if-label-names.false))),
-      (λ h. let b = label_named records c.args.id c.in_ok-rec.rec lt got (sym c.byte.ensures ∙ c.if-byte-ne-DEFINITION.false) h in lt_true c.number-label.result c.meta-names.result.high (omega arith)),
+      (λ h. let b = label_named records c.args.id c.in_ok-rec.rec lt got (sym c.byte.ensures ∙ c.if-byte-ne-DEFINITION.false) h in lt_true c.number-label.result
+          c.meta-names.result.high (omega arith)),
     )
 
 pub returns-in_err-rec-clause-read : goal.returns-in_err-rec-clause-read

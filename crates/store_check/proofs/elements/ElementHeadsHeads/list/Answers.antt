@@ -51,8 +51,11 @@ returns-in-None-clause-told g c = λ tells.
     ∙ ap (field 4 (records (record { file = file; id = c.args.id }))) c.property_place.ensures.is in
     let read = ap (λ s. s.records) c.in_ok-rec.ensures.state in
     let none : (xs : List ℕ) → ¬ IsPropertyList (g.R.Reads.state c.get.new.self).records c.number-first.result xs =
-    search (rules, c.in_ok-ids.ensures.none tells) in
-    (live, subst (λ f. (xs : List ℕ) → ¬ IsPropertyList records f xs) first (subst (λ (r : Records). (xs : List ℕ) → ¬ IsPropertyList r c.number-first.result xs) read none))
+    search (rules, c.in_ok-ids.ensures.none tells) in (
+      live,
+      subst (λ f. (xs : List ℕ) → ¬ IsPropertyList records f xs) first (subst (λ (r : Records). (xs : List ℕ) → ¬ IsPropertyList r c.number-first.result
+          xs) read none),
+    )
 
 pub returns-in_err-rec-clause-cause : goal.returns-in_err-rec-clause-cause
 returns-in_err-rec-clause-cause g c =

@@ -19,8 +19,11 @@ pub returns-then-byte-eq-FREE-clause-told : goal.returns-then-byte-eq-FREE-claus
 returns-then-byte-eq-FREE-clause-told g c = λ tells.
     let records = (g.R.Reads.state c.args.space.now).records in
     let file = c.args.self.now.file in
-    let lt : c.args.id < high records file = omega (arith, c.requires.id, c.requires.suits.elements) in
-    ((λ _ live. absurd (free_read records file c.args.id c.in_ok-rec.rec lt (c.in_ok-rec.ensures.got tells) (sym c.byte.ensures ∙ c.if-byte-eq-FREE.true) live)), (λ _. eq_true c.byte.result 0 c.if-byte-eq-FREE.true))
+    let lt : c.args.id < high records file = omega (arith, c.requires.id, c.requires.suits.elements) in (
+      (λ _ live. absurd (free_read records file c.args.id c.in_ok-rec.rec lt (c.in_ok-rec.ensures.got tells) (sym c.byte.ensures ∙ c.if-byte-eq-FREE.true)
+          live)),
+      (λ _. eq_true c.byte.result 0 c.if-byte-eq-FREE.true),
+    )
 
 pub returns-else-byte-eq-FREE-clause-told : goal.returns-else-byte-eq-FREE-clause-told
 returns-else-byte-eq-FREE-clause-told g c = λ tells.
@@ -32,7 +35,8 @@ returns-else-byte-eq-FREE-clause-told g c = λ tells.
     ∙ ap (λ (r : Records). high r names_file) (ap (λ s. s.records) c.in_ok-rec.ensures.state) in
     let label : c.number.result ≡ label_of records file c.args.id = c.number.ensures ∙ ap (λ r. field 4 r node_label) got in (
       (λ e _. let b = below c.number.result c.meta.result.high e in omega arith),
-      (λ h. let b = h (live_read records file c.args.id c.in_ok-rec.rec lt got (λ z. c.if-byte-eq-FREE.false (c.byte.ensures ∙ z))) in lt_true c.number.result c.meta.result.high (omega arith)),
+      (λ h. let b = h (live_read records file c.args.id c.in_ok-rec.rec lt got (λ z. c.if-byte-eq-FREE.false (c.byte.ensures ∙ z))) in lt_true c.number.result
+          c.meta.result.high (omega arith)),
     )
 
 pub returns-in_err-rec-clause-read : goal.returns-in_err-rec-clause-read

@@ -52,7 +52,8 @@ returns-then-not-are_pieces-clause-told g c = λ tells.
     let found : IsLineIn block_line (g.R.Reads.state c.get.new.self).records c.args.self.now.blocks c.number-first.result ids =
     search (rules, c.in_ok-ids.ensures.found tells) in
     let it : IsIt records c.args.id ids = subst (λ f. IsLineIn block_line records (high records format.strings_file) f ids) first
-    (subst (λ m. IsLineIn block_line records m c.number-first.result ids) c.requires.suits.blocks (subst (λ (r : Records). IsLineIn block_line r c.args.self.now.blocks c.number-first.result ids) read found)) in
+    (subst (λ m. IsLineIn block_line records m c.number-first.result ids) c.requires.suits.blocks
+    (subst (λ (r : Records). IsLineIn block_line r c.args.self.now.blocks c.number-first.result ids) read found)) in
     let same = c.in_ok-ids.ensures.read.records ∙ read in
     let lengths : c.deref-2.result.now ≡ map (block_size records) ids
     = c.deref-2.ensures.value ∙ c.in_ok-lengths.ensures.lengths tells ∙ ap (λ (r : Records). map (block_size r) c.deref.result.now) same
@@ -61,7 +62,8 @@ returns-then-not-are_pieces-clause-told g c = λ tells.
     let no : c.are_pieces.result ≡ false = search rules in (
       long,
       wrong_blocks records c.args.id c.requires.suits.few_blocks ids it
-          (λ l. true≢false (sym (c.are_pieces.ensures.1 (subst (λ t. AreLengths t c.deref-2.result.now) (sym text) (subst (AreLengths (text_size records c.args.id)) (sym lengths) l))) ∙ no)),
+          (λ l. true≢false (sym (c.are_pieces.ensures.1 (subst (λ t. AreLengths t c.deref-2.result.now) (sym text)
+          (subst (AreLengths (text_size records c.args.id)) (sym lengths) l))) ∙ no)),
     )
 
 pub returns-clause-told : goal.returns-clause-told
@@ -77,7 +79,8 @@ returns-clause-told g c = λ tells.
     let found : IsLineIn block_line (g.R.Reads.state c.get.new.self).records c.args.self.now.blocks c.number-first.result ids =
     search (rules, c.in_ok-ids.ensures.found tells) in
     let it : IsIt records c.args.id ids = subst (λ f. IsLineIn block_line records (high records format.strings_file) f ids) first
-    (subst (λ m. IsLineIn block_line records m c.number-first.result ids) c.requires.suits.blocks (subst (λ (r : Records). IsLineIn block_line r c.args.self.now.blocks c.number-first.result ids) read found)) in
+    (subst (λ m. IsLineIn block_line records m c.number-first.result ids) c.requires.suits.blocks
+    (subst (λ (r : Records). IsLineIn block_line r c.args.self.now.blocks c.number-first.result ids) read found)) in
     let same = c.in_ok-ids.ensures.read.records ∙ read in
     let lengths : c.deref-2.result.now ≡ map (block_size records) ids
     = c.deref-2.ensures.value ∙ c.in_ok-lengths.ensures.lengths tells ∙ ap (λ (r : Records). map (block_size r) c.deref.result.now) same

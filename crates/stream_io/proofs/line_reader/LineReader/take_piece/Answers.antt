@@ -27,7 +27,8 @@ invariant_of-self c =
 pub returns-in_default-clause-none : goal.returns-in_default-clause-none
 returns-in_default-clause-none c =
     let i = c.self.invariant.window in (
-      subst IsPiece (ap (λ (r : Reading). r.held) c.self.view_is) (none_held c.self.inside.window.buffer.items _ _ _ i.start_order i.searched_order i.no_newline (rw c.deref.ensures.value at c.in_default.ensures.none)),
+      subst IsPiece (ap (λ (r : Reading). r.held) c.self.view_is) (none_held c.self.inside.window.buffer.items _ _ _ i.start_order i.searched_order i.no_newline
+          (rw c.deref.ensures.value at c.in_default.ensures.none)),
       c.self.view_is,
     )
 
@@ -41,7 +42,11 @@ returns-in-Some-line_length-clause-taken c =
       piece = slice_range xs c.self.inside.window.start (c.self.inside.window.searched + c.in-Some.at);
       no_newline = piece_held xs _ _ _ i.start_order i.searched_order i.no_newline _ within found.0 found.1;
       split = sym (ap (λ (r : Reading). r.held) c.self.view_is) ∙ split_held xs _ _ _ i.start_order i.searched_order i.no_newline _ within found.0 found.1;
-      is_found = (c.if-not-dropped.true, (rw c.deref-2.ensures.value at c.in-Some-line_length.ensures.whole) ∙ ap Whole (take-range_held xs _ _ _ (rw c.deref-2.ensures.value at c.in-Some-line_length.ensures.within)));
+      is_found = (
+        c.if-not-dropped.true,
+        (rw c.deref-2.ensures.value at c.in-Some-line_length.ensures.whole) ∙ ap Whole (take-range_held xs _ _ _
+            (rw c.deref-2.ensures.value at c.in-Some-line_length.ensures.within)),
+      );
       taken = ap (λ (r : Reading). r.taken) c.self.view_is;
       ended = ap (λ (r : Reading). r.ended) c.self.view_is;
     }

@@ -21,7 +21,8 @@ returns-then-have_no_count-clause-same c = λ graph.
     ∙ c.if-have_no_count.true in
     let nothing = ap (left_of graph) c.end.ensures ∙ left_of-over graph run.source.edges in
     (λ i. with_first run.ready (through graph (c.drop_rows.ensures i) (stream (nothing i))))
-    ∙ ap (with_first run.ready) (through-cut graph rows c.args.at row row (left_of graph run.source) (omega (arith, c.requires, run.rows.ok.0)) c.index.ensures (sym c.is_spent.ensures ∙ c.if-is_spent.true) none)
+    ∙ ap (with_first run.ready) (through-cut graph rows c.args.at row row (left_of graph run.source) (omega (arith, c.requires, run.rows.ok.0)) c.index.ensures
+    (sym c.is_spent.ensures ∙ c.if-is_spent.true) none)
 
 pub returns-then-have_no_count-clause-allowed : goal.returns-then-have_no_count-clause-allowed
 returns-then-have_no_count-clause-allowed c =

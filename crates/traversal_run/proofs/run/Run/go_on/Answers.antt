@@ -67,7 +67,8 @@ loop-preserved g c =
       scan = λ at scan.
           scan_turns at (space.state first).reads (space.state now).reads (space.state c.turn.new.space).reads old c.turn.new.self none.1 turn.scan
           (λ from most item w. let l = turn.limit from most item w in (ap (λ (s : g.row.R.Denot). (space.state s).reads) l.0, l.1))
-          (subst (λ (ready : List Item). ScanState at (space.state first).reads (space.state now).reads (record run { ready = ready })) same_ready (inv.scan at scan));
+          (subst (λ (ready : List Item). ScanState at (space.state first).reads (space.state now).reads (record run { ready = ready })) same_ready
+          (inv.scan at scan));
       hop = turn_on space c.args.names.now.names first now c.args.self.now run inv.hop c.turn.new.space c.turn.new.self
           (λ alone vertices. (turn.hop alone vertices).0) c.turn.ensures.stopped inv.read (λ alone vertices. (turn.hop alone vertices).1);
       stopped = c.turn.ensures.stopped ∙ inv.stopped;
@@ -93,7 +94,8 @@ returns-in-Some-clause-scan g c = λ at scan.
 pub returns-in_err-turn-clause-damaged : goal.returns-in_err-turn-clause-damaged
 returns-in_err-turn-clause-damaged g c = λ tells.
     let p = err_from_is_err_and c.from_residual.result c.from_residual.ensures.1 in
-    rw (p.1, p.2) (subst (λ (t : State). StopsAtBroken t.records t.shape c.in_err-turn.field-0.0) c.loop.invariant.read.same (c.in_err-turn.ensures.damaged tells))
+    rw (p.1, p.2) (subst (λ (t : State). StopsAtBroken t.records t.shape c.in_err-turn.field-0.0) c.loop.invariant.read.same
+    (c.in_err-turn.ensures.damaged tells))
 
 pub returns-in_err-turn-clause-cause : goal.returns-in_err-turn-clause-cause
 returns-in_err-turn-clause-cause g c =

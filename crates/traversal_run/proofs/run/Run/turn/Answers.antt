@@ -54,7 +54,8 @@ returns-in-Some-clause-limit g c = λ from most item scan.
 
 pub returns-in-Some-clause-scan : goal.returns-in-Some-clause-scan
 returns-in-Some-clause-scan g c = λ at most scan.
-    absurd (idle_scan c.deref.result.now most c.in-Some.at (limit_row most []) (c.deref.ensures.value ∙ scan.rows) c.in-Some.ensures.some.0 (c.in-Some.ensures.waits (limit_row most [])))
+    absurd (idle_scan c.deref.result.now most c.in-Some.at (limit_row most []) (c.deref.ensures.value ∙ scan.rows) c.in-Some.ensures.some.0
+    (c.in-Some.ensures.waits (limit_row most [])))
 
 pub returns-in-Some-2-clause-near : goal.returns-in-Some-2-clause-near
 returns-in-Some-2-clause-near g c = λ tells store d most degrees near.
@@ -66,7 +67,8 @@ returns-in-Some-2-clause-near g c = λ tells store d most degrees near.
     let before : IsNear d most old [] = subst (λ (rs : List Row). IsNear d most rs []) (sym rows)
     (subst (λ (ready : List Item). IsNear d most run.rows.items ready) c.requires near) in
     subst (λ (rs : List Row). IsNear d most rs c.put.new.ready) (sym back)
-    (near-sourced d most old c.put.new.rows c.in-Some-2.item c.one-outs.result c.put.new.ready c.one-outs.ensures idle c.put.ensures.passed c.put.ensures.given c.put.ensures.rows before)
+    (near-sourced d most old c.put.new.rows c.in-Some-2.item c.one-outs.result c.put.new.ready c.one-outs.ensures idle c.put.ensures.passed c.put.ensures.given
+    c.put.ensures.rows before)
 
 pub returns-in-Some-2-clause-scan : goal.returns-in-Some-2-clause-scan
 returns-in-Some-2-clause-scan g c = λ at most scan.
@@ -77,11 +79,17 @@ returns-in-Some-2-clause-scan g c = λ at most scan.
     let rows : old ≡ run.rows.items = c.deref_mut-in-Some-2.ensures.value in
     let only : old ≡ any ∷ [] = rows ∙ scan.rows in
     let back = written_back c.put.new.rows run.rows.items run.rows.len (omega (arith, c.put.auto.rows, ap length rows)) run.rows.ok.0 in
-    let takes = subst (λ (found : Option Item). IfSome found (λ item. TakesVertex at (space.state c.args.space.now).reads (space.state c.next.new.space).reads item c.next.new.self)) c.in-Some-2.is
+    let takes = subst (λ (found : Option Item). IfSome found (λ item. TakesVertex at (space.state c.args.space.now).reads (space.state c.next.new.space).reads
+    item c.next.new.self)) c.in-Some-2.is
     (c.in_ok-item.ensures.vertex at scan.source) in
     let outs : c.one-outs.result ≡ c.in-Some-2.item ∷ [] = c.one-outs.ensures in
-    let one : length old ≡ 1 = ap length only in
-    (c.in-Some-2.item, takes, back ∙ c.put.ensures.rows any ∙ (λ i. set (only i) 0 (record (get_or (only i) 0 any) { waiting = outs i })), c.put.ensures.passed (omega arith))
+    let one : length old ≡ 1 = ap length only in (
+      c.in-Some-2.item,
+      takes,
+      back ∙ c.put.ensures.rows any ∙ (λ i. set (only i) 0 (record (get_or (only i) 0 any) { waiting = outs i })),
+      c.put.ensures.passed
+          (omega arith),
+    )
 
 pub returns-in-Some-first_open-clause-near : goal.returns-in-Some-first_open-clause-near
 returns-in-Some-first_open-clause-near g c = λ tells store d most degrees near.
@@ -90,11 +98,13 @@ returns-in-Some-first_open-clause-near g c = λ tells store d most degrees near.
     let at = c.in-Some-first_open.at in
     let plain : ArePlain rows = subst ArePlain (sym c.deref-2.ensures.value) near.plain in
     let opens : is_open (get_or rows at any).stage ≡ true = c.in-Some-first_open.ensures.opens any in
-    absurd (clash (is_open (get_or rows at any).stage) opens (plain_quiet (get_or rows at any).stage (plain_at rows at any c.in-Some-first_open.ensures.some.0 plain)))
+    absurd (clash (is_open (get_or rows at any).stage) opens (plain_quiet (get_or rows at any).stage (plain_at rows at any c.in-Some-first_open.ensures.some.0
+    plain)))
 
 pub returns-in-Some-first_open-clause-scan : goal.returns-in-Some-first_open-clause-scan
 returns-in-Some-first_open-clause-scan g c = λ at most scan.
-    absurd (quiet_scan c.deref-2.result.now most c.in-Some-first_open.at (limit_row most []) (c.deref-2.ensures.value ∙ scan.rows) c.in-Some-first_open.ensures.some.0 (c.in-Some-first_open.ensures.opens (limit_row most [])))
+    absurd (quiet_scan c.deref-2.result.now most c.in-Some-first_open.at (limit_row most []) (c.deref-2.ensures.value ∙ scan.rows)
+    c.in-Some-first_open.ensures.some.0 (c.in-Some-first_open.ensures.opens (limit_row most [])))
 
 pub returns-in_err-advance_row-clause-cause : goal.returns-in_err-advance_row-clause-cause
 returns-in_err-advance_row-clause-cause g c =
@@ -124,7 +134,8 @@ returns-in_err-advance_row-clause-stops g c = λ tells store.
     let left = stream (left_of graph run.source) in
     let rows : c.deref_mut.result.now ≡ run.rows.items = c.deref_mut.ensures.value in
     let p = err_from_is_err_and c.from_residual.result c.from_residual.ensures.1 in
-    rw (p.1, p.2) (may_stop ⊥ ((coming : Stream) → (through graph c.deref_mut.result.now coming).past ≡ true) (to_come graph run ≡ stream []) ((to_come graph run).past ≡ true) c.in_err-advance_row.field-0.0 (λ none. absurd none)
+    rw (p.1, p.2) (may_stop ⊥ ((coming : Stream) → (through graph c.deref_mut.result.now coming).past ≡ true) (to_come graph run ≡ stream [])
+    ((to_come graph run).past ≡ true) c.in_err-advance_row.field-0.0 (λ none. absurd none)
     (λ past. subst (λ (rs : List Row). (through graph rs left).past ≡ true) rows (past left)) (c.in_err-advance_row.ensures.stops tells store))
 
 pub returns-in-Some-clause-same : goal.returns-in-Some-clause-same
@@ -255,12 +266,14 @@ returns-in_err-finish_row-clause-read g c = c.in_ok-item.ensures.read
 
 pub returns-in_err-advance_row-clause-hop : goal.returns-in_err-advance_row-clause-hop
 returns-in_err-advance_row-clause-hop g c = λ alone vertices.
-    absurd (idle_alone c.args.self.now.rows.items alone c.in-Some.at alone.row (subst (λ (rs : List Row). c.in-Some.at < length rs) c.deref.ensures.value c.in-Some.ensures.some.0)
+    absurd (idle_alone c.args.self.now.rows.items alone c.in-Some.at alone.row (subst (λ (rs : List Row). c.in-Some.at < length rs) c.deref.ensures.value
+    c.in-Some.ensures.some.0)
     (subst (λ (rs : List Row). ¬ ((get_or rs c.in-Some.at alone.row).waiting ≡ [])) c.deref.ensures.value (c.in-Some.ensures.waits alone.row)))
 
 pub returns-in-Some-clause-hop : goal.returns-in-Some-clause-hop
 returns-in-Some-clause-hop g c = λ alone vertices.
-    absurd (idle_alone c.args.self.now.rows.items alone c.in-Some.at alone.row (subst (λ (rs : List Row). c.in-Some.at < length rs) c.deref.ensures.value c.in-Some.ensures.some.0)
+    absurd (idle_alone c.args.self.now.rows.items alone c.in-Some.at alone.row (subst (λ (rs : List Row). c.in-Some.at < length rs) c.deref.ensures.value
+    c.in-Some.ensures.some.0)
     (subst (λ (rs : List Row). ¬ ((get_or rs c.in-Some.at alone.row).waiting ≡ [])) c.deref.ensures.value (c.in-Some.ensures.waits alone.row)))
 
 pub returns-in_err-feed_rows-clause-hop : goal.returns-in_err-feed_rows-clause-hop
@@ -285,7 +298,13 @@ returns-in_err-item-clause-hop g c = λ alone vertices.
     let run = c.args.self.now in
     let over : is_over run.source.left ≡ true = elim c.else-not-is_over.branch [
       | else-not-is_over-via-then-not-is_over+else-is_fed w ↦
-          absurd (clash w.is_fed.result (w.is_fed.ensures.hop (record { row = alone.row; is = w.deref-then-not-is_over.ensures.value ∙ alone.is; idle = alone.idle; hop = alone.hop })) w.if-is_fed.false)
+          absurd (clash w.is_fed.result (w.is_fed.ensures.hop (record {
+            row = alone.row;
+            is = w.deref-then-not-is_over.ensures.value ∙ alone.is;
+            idle =
+                alone.idle;
+            hop = alone.hop;
+          })) w.if-is_fed.false)
       | else-not-is_over-via-else-not-is_over w ↦ sym c.is_over.ensures ∙ w.if-not-is_over.false
     ] in
     let feeds = feeds_nothing g.R.Reads c.args.names.now.names alone.row.stage c.args.space.now run.source c.next.new.space c.next.new.self
@@ -294,12 +313,14 @@ returns-in_err-item-clause-hop g c = λ alone vertices.
 
 pub returns-in_err-finish_row-clause-hop : goal.returns-in_err-finish_row-clause-hop
 returns-in_err-finish_row-clause-hop g c = λ alone vertices.
-    absurd (quiet_alone c.deref-2.result.now (record { row = alone.row; is = c.deref-2.ensures.value ∙ alone.is; idle = alone.idle; hop = alone.hop }) c.in-Some-first_open.at alone.row
+    absurd (quiet_alone c.deref-2.result.now (record { row = alone.row; is = c.deref-2.ensures.value ∙ alone.is; idle = alone.idle; hop = alone.hop })
+    c.in-Some-first_open.at alone.row
     c.in-Some-first_open.ensures.some.0 (c.in-Some-first_open.ensures.opens alone.row))
 
 pub returns-in-Some-first_open-clause-hop : goal.returns-in-Some-first_open-clause-hop
 returns-in-Some-first_open-clause-hop g c = λ alone vertices.
-    absurd (quiet_alone c.deref-2.result.now (record { row = alone.row; is = c.deref-2.ensures.value ∙ alone.is; idle = alone.idle; hop = alone.hop }) c.in-Some-first_open.at alone.row
+    absurd (quiet_alone c.deref-2.result.now (record { row = alone.row; is = c.deref-2.ensures.value ∙ alone.is; idle = alone.idle; hop = alone.hop })
+    c.in-Some-first_open.at alone.row
     c.in-Some-first_open.ensures.some.0 (c.in-Some-first_open.ensures.opens alone.row))
 
 pub returns-clause-hop : goal.returns-clause-hop
@@ -307,7 +328,13 @@ returns-clause-hop g c = λ alone vertices.
     let run = c.args.self.now in
     let over : is_over run.source.left ≡ true = elim c.else-not-is_over.branch [
       | else-not-is_over-via-then-not-is_over+else-is_fed w ↦
-          absurd (clash w.is_fed.result (w.is_fed.ensures.hop (record { row = alone.row; is = w.deref-then-not-is_over.ensures.value ∙ alone.is; idle = alone.idle; hop = alone.hop })) w.if-is_fed.false)
+          absurd (clash w.is_fed.result (w.is_fed.ensures.hop (record {
+            row = alone.row;
+            is = w.deref-then-not-is_over.ensures.value ∙ alone.is;
+            idle =
+                alone.idle;
+            hop = alone.hop;
+          })) w.if-is_fed.false)
       | else-not-is_over-via-else-not-is_over w ↦ sym c.is_over.ensures ∙ w.if-not-is_over.false
     ] in
     let feeds = feeds_nothing g.R.Reads c.args.names.now.names alone.row.stage c.args.space.now run.source c.next.new.space c.next.new.self

@@ -31,7 +31,8 @@ returns-in_ok-left-in-Found-clause-found g c = λ tells store.
     let graph = graph_of (g.R.Reads.state c.args.space.now).records in
     let left = c.in_ok-left-in-Found.left in
     subst (λ (asked : Asked). elements_left graph false left ≡ source_of graph asked) (sym c.in-Found.is)
-    (found-left graph c.in-Found.label c.in-Found.key c.in-Found.value c.in_ok-nodes-in-Found.nodes.items left (c.in_ok-nodes-in-Found.ensures.found tells store)
+    (found-left graph c.in-Found.label c.in-Found.key c.in-Found.value c.in_ok-nodes-in-Found.nodes.items left (c.in_ok-nodes-in-Found.ensures.found tells
+    store)
     (λ id. c.in_ok-left-in-Found.ensures.among id ∙ ap (list_any (nat_eq id)) c.deref.ensures.value))
 
 pub returns-in_err-left-in-Vertices-clause-all : goal.returns-in_err-left-in-Vertices-clause-all
@@ -98,8 +99,11 @@ ids_are : (asked : Asked) (ids list : List ℕ) → asked ≡ sources.Vertices i
 ids_are asked ids list one two = cc
 
 pub returns-in_ok-left-in-Vertices-clause-one : goal.returns-in_ok-left-in-Vertices-clause-one
-returns-in_ok-left-in-Vertices-clause-one g c = λ id is.
-    (refl, one_asked c.in_ok-left-in-Vertices.left c.as_slice.result.now id (c.as_slice.ensures ∙ ids_are c.args.asked.now c.in-Vertices.ids (id ∷ []) c.in-Vertices.is is) c.in_ok-left-in-Vertices.ensures.asked)
+returns-in_ok-left-in-Vertices-clause-one g c = λ id is. (
+  refl,
+  one_asked c.in_ok-left-in-Vertices.left c.as_slice.result.now id (c.as_slice.ensures ∙ ids_are c.args.asked.now c.in-Vertices.ids (id ∷ [])
+      c.in-Vertices.is is) c.in_ok-left-in-Vertices.ensures.asked,
+)
 
 pub returns-in_ok-left-in-Edges-clause-one : goal.returns-in_ok-left-in-Edges-clause-one
 returns-in_ok-left-in-Edges-clause-one g c = λ id is. absurd (let e = sym is ∙ c.in-Edges.is in cc)

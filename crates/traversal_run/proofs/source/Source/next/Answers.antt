@@ -81,7 +81,8 @@ pub returns-in_err-item-clause-damaged : goal.returns-in_err-item-clause-damaged
 returns-in_err-item-clause-damaged g c = λ tells.
     let space = g.R.Reads in
     let p = err_from_is_err_and c.from_residual.result c.from_residual.ensures.1 in
-    rw (p.1, p.2) (blamed_before (space.state c.args.space.now) (space.state c.loop-id.space) c.loop-id.invariant.read.same c.in_err-item.field-0.0 (c.in_err-item.ensures.damaged tells))
+    rw (p.1, p.2) (blamed_before (space.state c.args.space.now) (space.state c.loop-id.space) c.loop-id.invariant.read.same c.in_err-item.field-0.0
+    (c.in_err-item.ensures.damaged tells))
 
 pub returns-in_err-item-clause-cause : goal.returns-in_err-item-clause-cause
 returns-in_err-item-clause-cause g c =

@@ -26,8 +26,10 @@ returns-in_err-self-clause-failed g c =
     rw p.1 (record {
       failed = refl;
       stored = on_disk_at g.D.Disk b.disk.now c.append.new.disk _ g.met.D.Disk.counts_now
-          (λ reads. read_before_or_after g.D.Disk b.disk.now c.append.new.disk b.metas.records b.changed.pairs b.own.pairs b.tail kept reads (c.append.ensures.read reads) (c.append.ensures.elsewhere reads))
-          (λ reads images. before_or_after g.D.Disk b.disk.now c.append.new.disk b.metas.records b.changed.pairs b.own.pairs b.tail kept reads images (c.append.ensures.crash reads images));
+          (λ reads. read_before_or_after g.D.Disk b.disk.now c.append.new.disk b.metas.records b.changed.pairs b.own.pairs b.tail kept reads
+          (c.append.ensures.read reads) (c.append.ensures.elsewhere reads))
+          (λ reads images. before_or_after g.D.Disk b.disk.now c.append.new.disk b.metas.records b.changed.pairs b.own.pairs b.tail kept reads images
+          (c.append.ensures.crash reads images));
     })
 
 pub invariant_of-self-2 : goal.invariant_of-self-2
@@ -37,7 +39,13 @@ invariant_of-self-2 g c =
       allowed = b.allowed;
       room = b.room;
       cached = λ reads. cached_appended g.D.Disk b.disk.now c.append.new.disk b.cache b.own.pairs b.tail (c.append.ensures.elsewhere reads) (b.cached reads);
-      bounded = record { room = omega (arith, c.merge.ensures.room, b.bounded.room); few = b.bounded.few; closed = b.bounded.closed; most = omega (arith, ap (λ (pairs : Pairs). length pairs) c.merge.ensures.pairs, c.requires.few) };
+      bounded = record {
+        room = omega (arith, c.merge.ensures.room, b.bounded.room);
+        few = b.bounded.few;
+        closed = b.bounded.closed;
+        most = omega
+            (arith, ap (λ (pairs : Pairs). length pairs) c.merge.ensures.pairs, c.requires.few);
+      };
       marked = marks-appended b.metas.records b.changed.pairs b.own.pairs c.merge.new.self.pairs b.marks.of_files c.merge.ensures.finds b.marked;
       kept = λ live.
           kept_appended g.D.Disk b.disk.now c.append.new.disk b.metas.records b.changed.pairs b.own.pairs c.merge.new.self.pairs b.tail c.in_ok-self.field-0

@@ -26,8 +26,10 @@ returns-in_err-checkpoint-clause-failed g c =
     rw p.1 (record {
       failed = refl;
       stored = on_disk_at g.D.Disk b.disk.now c.checkpoint.new.disk _ g.met.D.Disk.counts_now
-          (λ reads. checkpoint_read g.D.Disk b.disk.now c.checkpoint.new.disk b.metas.records b.changed.pairs b.tail kept reads (c.checkpoint.ensures.read reads))
-          (λ reads images. checkpoint_crash g.D.Disk b.disk.now c.checkpoint.new.disk b.metas.records b.changed.pairs b.tail kept reads images (c.checkpoint.ensures.crash reads images));
+          (λ reads. checkpoint_read g.D.Disk b.disk.now c.checkpoint.new.disk b.metas.records b.changed.pairs b.tail kept reads
+          (c.checkpoint.ensures.read reads))
+          (λ reads images. checkpoint_crash g.D.Disk b.disk.now c.checkpoint.new.disk b.metas.records b.changed.pairs b.tail kept reads images
+          (c.checkpoint.ensures.crash reads images));
     })
 
 pub invariant_of-self : goal.invariant_of-self
@@ -51,12 +53,19 @@ invariant_of-self-2 g c =
       allowed = b.allowed;
       room = ap (λ (pages : Pages). pages.cap) c.forget_all.ensures.pages ∙ without_pages-room b.changed.pairs b.cache ∙ b.room;
       cached = λ reads. c.forget_all.ensures.agrees (disk.reads b.disk.now) (disk.reads c.checkpoint.new.disk) c.checkpoint.ensures.elsewhere (b.cached reads);
-      bounded = record { room = omega (arith, c.clear.ensures.room, ap (λ (pairs : Pairs). length pairs) c.clear.ensures.pairs, b.bounded.room); few = b.bounded.few; closed = b.bounded.closed; most = omega (arith, ap (λ (pairs : Pairs). length pairs) c.clear.ensures.pairs) };
+      bounded = record {
+        room = omega (arith, c.clear.ensures.room, ap (λ (pairs : Pairs). length pairs) c.clear.ensures.pairs, b.bounded.room);
+        few =
+            b.bounded.few;
+        closed = b.bounded.closed;
+        most = omega (arith, ap (λ (pairs : Pairs). length pairs) c.clear.ensures.pairs);
+      };
       marked = c.over-self.ensures;
       kept = λ live.
           kept_settled disk c.checkpoint.new.disk c.refresh.new.self.records c.clear.new.self.pairs c.clear.ensures.pairs c.in_ok-checkpoint.ensures.emptied
           c.in_ok-checkpoint.ensures.settled
-          (λ reads. subst (λ (records : Key → Rec). AreMetasOf records c.refresh.new.self.records) (sym (c.in_ok-checkpoint.ensures.space reads)) (c.refresh.ensures (record_at (disk.reads b.disk.now)) ((b.kept c.requires.live).held reads)));
+          (λ reads. subst (λ (records : Key → Rec). AreMetasOf records c.refresh.new.self.records) (sym (c.in_ok-checkpoint.ensures.space reads))
+          (c.refresh.ensures (record_at (disk.reads b.disk.now)) ((b.kept c.requires.live).held reads)));
     }
 
 pub returns-clause-crash : goal.returns-clause-crash
@@ -73,7 +82,8 @@ returns-clause-done g c =
     let now =
     kept_settled disk c.checkpoint.new.disk c.refresh.new.self.records c.clear.new.self.pairs c.clear.ensures.pairs c.in_ok-checkpoint.ensures.emptied
     c.in_ok-checkpoint.ensures.settled
-    (λ reads. subst (λ (records : Key → Rec). AreMetasOf records c.refresh.new.self.records) (sym (c.in_ok-checkpoint.ensures.space reads)) (c.refresh.ensures (record_at (disk.reads b.disk.now)) (kept.held reads))) in
+    (λ reads. subst (λ (records : Key → Rec). AreMetasOf records c.refresh.new.self.records) (sym (c.in_ok-checkpoint.ensures.space reads))
+    (c.refresh.ensures (record_at (disk.reads b.disk.now)) (kept.held reads))) in
     let space = λ (reads : disk.tells_reads).
     plain_space disk c.checkpoint.new.disk c.refresh.new.self.records c.clear.new.self.pairs 0 now reads
     ∙ ap (laid_over (record_at (disk.reads c.checkpoint.new.disk))) c.clear.ensures.pairs

@@ -61,5 +61,6 @@ returns-clause-told g c =
     (unfound c.find.result c.in_default.not-Some ∙ ap is_some c.find.ensures) in
     IfOk-weaker c.get_into.result
     (λ (held : Bool). held ≡ is_some (kept_page c.args.key c.get_into.new.self))
-    (λ (held : Bool). held ≡ ((has_key b.changed.pairs c.args.key || is_some (find_meta b.metas.records c.args.key)) || is_some (kept_page c.args.key c.get_into.new.self)))
+    (λ (held : Bool). held ≡ ((has_key b.changed.pairs c.args.key || is_some (find_meta b.metas.records c.args.key)) || is_some
+    (kept_page c.args.key c.get_into.new.self)))
     (λ held is. is ∙ ap (λ (b : Bool). b || is_some (kept_page c.args.key c.get_into.new.self)) none) c.get_into.ensures.told

@@ -42,5 +42,8 @@ returns-clause-failed g c =
     on_err_weaker {P = HasFailed {D = g.row.D.Denot} {g = g.D.Disk} c.args.self.now b} c.checkpoint.result
     (λ failed. record {
       failed = failed.failed;
-      stored = record { read = λ reads. inl (failed.stored.read reads); images = λ reads images image left. inl (failed.stored.images reads images image left) };
+      stored = record {
+        read = λ reads. inl (failed.stored.read reads);
+        images = λ reads images image left. inl (failed.stored.images reads images image left);
+      };
     }) c.checkpoint.ensures.failed

@@ -15,7 +15,13 @@ invariant_of-self-2 g c =
       allowed = b.allowed;
       room = ap (λ (pages : Pages). pages.cap) c.clear.ensures.empty ∙ b.room;
       cached = λ reads. c.clear.ensures.agrees (g.D.Disk.reads c.find_again.new.disk);
-      bounded = record { room = omega (arith, c.clear-2.ensures.room, ap (λ (pairs : Pairs). length pairs) c.clear-2.ensures.pairs, b.bounded.room); few = b.bounded.few; closed = b.bounded.closed; most = omega (arith, ap (λ (pairs : Pairs). length pairs) c.clear-2.ensures.pairs) };
+      bounded = record {
+        room = omega (arith, c.clear-2.ensures.room, ap (λ (pairs : Pairs). length pairs) c.clear-2.ensures.pairs, b.bounded.room);
+        few =
+            b.bounded.few;
+        closed = b.bounded.closed;
+        most = omega (arith, ap (λ (pairs : Pairs). length pairs) c.clear-2.ensures.pairs);
+      };
       marked = c.over-self.ensures;
       kept = λ live. kept_settled g.D.Disk c.find_again.new.disk c.in_ok-self.field-0.records c.clear-2.new.self.pairs c.clear-2.ensures.pairs
           c.in_ok-self.ensures.emptied c.in_ok-self.ensures.settled c.in_ok-self.ensures.metas;
@@ -33,7 +39,8 @@ returns-clause-done g c =
           ∙ c.in_ok-self.ensures.space reads space redoes;
       store = c.in_ok-self.ensures.store;
       newest = λ reads old.
-          c.in_ok-self.ensures.newest reads (subst IsOld (plain_space disk c.find_again.new.disk c.in_ok-self.field-0.records c.clear-2.new.self.pairs 0 now reads ∙ ap (laid_over (record_at (disk.reads c.find_again.new.disk))) c.clear-2.ensures.pairs) old);
+          c.in_ok-self.ensures.newest reads (subst IsOld (plain_space disk c.find_again.new.disk c.in_ok-self.field-0.records c.clear-2.new.self.pairs 0 now
+          reads ∙ ap (laid_over (record_at (disk.reads c.find_again.new.disk))) c.clear-2.ensures.pairs) old);
       changed = c.clear-2.ensures.pairs;
       tail = refl;
       no_entry = c.in_ok-self.ensures.emptied;

@@ -36,7 +36,8 @@ returns-clause-crash g c reads images =
     at_each_moment_on disk b.disk.now mid.disk.now c.append_own.new.self.disk.now _ _
     (at_each_moment_weaker disk b.disk.now mid.disk.now _ _ (c.make_room.ensures.crash reads images) (λ left redoes. inl redoes))
     (c.append_own.ensures.crash reads images)
-    (λ left. Either-same left (committed mid) (committed b) b.own.pairs mid.own.pairs (c.in_ok-make_room.ensures.done reads) (ap (λ (held : Held). held.pairs) c.make_room.ensures.own))
+    (λ left. Either-same left (committed mid) (committed b) b.own.pairs mid.own.pairs (c.in_ok-make_room.ensures.done reads) (ap (λ (held : Held). held.pairs)
+    c.make_room.ensures.own))
 
 pub returns-clause-failed : goal.returns-clause-failed
 returns-clause-failed g c =
@@ -49,7 +50,11 @@ returns-clause-failed g c =
     (c.in_ok-make_room.ensures.done reads) (ap (λ (held : Held). held.pairs) c.make_room.ensures.own) in
     record {
       failed = failed.failed;
-      stored = record { read = λ reads. same reads _ (failed.stored.read reads); images = λ reads images image left. same reads image (failed.stored.images reads images image left) };
+      stored = record {
+        read = λ reads. same reads _ (failed.stored.read reads);
+        images = λ reads images image left. same reads image
+            (failed.stored.images reads images image left);
+      };
     }) c.append_own.ensures.failed
 
 pub returns-in_err-make_room-clause-done : goal.returns-in_err-make_room-clause-done

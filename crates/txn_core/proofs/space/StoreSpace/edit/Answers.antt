@@ -17,7 +17,11 @@ returns-in-Ok-edit g c =
         }),
         tt,
       ),
-      record { lends = tt; got = λ tells. c.in-Ok-edit.ensures.got ∙ state_edited g.D.Disk old mid c.args.key c.in-Ok.below c.get.ensures.state (c.in-Ok.ensures.got tells) },
+      record {
+        lends = tt;
+        got = λ tells. c.in-Ok-edit.ensures.got ∙ state_edited g.D.Disk old mid c.args.key c.in-Ok.below c.get.ensures.state
+            (c.in-Ok.ensures.got tells);
+      },
     )
 
 pub returns-in-Err-edit : goal.returns-in-Err-edit
@@ -37,6 +41,15 @@ returns-in-Err-edit g c = (
 
 pub returns-in-Err : goal.returns-in-Err
 returns-in-Err g c = (
-  (refl, (λ w e. absurd (false≢true e)), record { state = c.in-Err.ensures.state; onward = c.in-Err.ensures.onward; cause = record { later = c.in-Err.ensures.cause.later; disk = search rules } }),
+  (
+    refl,
+    (λ w e. absurd (false≢true e)),
+    record {
+      state = c.in-Err.ensures.state;
+      onward = c.in-Err.ensures.onward;
+      cause =
+          record { later = c.in-Err.ensures.cause.later; disk = search rules };
+    },
+  ),
   record { lends = tt; got = λ _. tt },
 )

@@ -61,7 +61,8 @@ returns-in-Err-clause-crash g c =
 pub returns-in-Err-clause-failed : goal.returns-in-Err-clause-failed
 returns-in-Err-clause-failed g c =
     let kept = c.keep_old.ensures in
-    inl (dropped_on c.args.self.now c.keep_old.new.space c.drop_transaction.new.self kept.space.onward kept.space.committed c.drop_transaction.ensures.same_disk c.drop_transaction.ensures.stored c.drop_transaction.ensures.live c.drop_transaction.ensures.committed)
+    inl (dropped_on c.args.self.now c.keep_old.new.space c.drop_transaction.new.self kept.space.onward kept.space.committed c.drop_transaction.ensures.same_disk
+    c.drop_transaction.ensures.stored c.drop_transaction.ensures.live c.drop_transaction.ensures.committed)
 
 pub returns-in-Ok-clause-alone : goal.returns-in-Ok-clause-alone
 returns-in-Ok-clause-alone g c =

@@ -29,7 +29,8 @@ returns-clause-told g c =
     IfOk-weaker c.fetch_into.result
     (λ (held : Bool). held ≡ (holds_working new c.args.key || is_some (kept_page c.args.key new.cache)))
     (λ (held : Bool). held ≡ ((has_key s.draft.pairs c.args.key || holds_working new c.args.key) || is_some (kept_page c.args.key new.cache)))
-    (λ held is. told_beneath (has_key s.draft.pairs c.args.key) (holds_working new c.args.key) (is_some (kept_page c.args.key new.cache)) held (sym c.if-found_into.false ∙ c.found_into.ensures.found) is)
+    (λ held is. told_beneath (has_key s.draft.pairs c.args.key) (holds_working new c.args.key) (is_some (kept_page c.args.key new.cache)) held
+    (sym c.if-found_into.false ∙ c.found_into.ensures.found) is)
     c.fetch_into.ensures.told
 
 pub returns-clause-state : goal.returns-clause-state

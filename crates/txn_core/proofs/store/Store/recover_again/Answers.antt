@@ -15,7 +15,8 @@ returns-clause-crash g c reads images =
     let disk = g.D.Disk in
     let now = c.recover_again.new.self.disk.now in
     subst
-    (λ (b : Base g.row.D.Denot disk). (space : Key → Rec) → Redoes (content b) space → AtEachMoment disk b.disk.now now (λ left. disk.may_leave b.disk.now left ⊎ Redoes left space))
+    (λ (b : Base g.row.D.Denot disk). (space : Key → Rec) → Redoes (content b) space → AtEachMoment disk b.disk.now now (λ left. disk.may_leave b.disk.now left
+    ⊎ Redoes left space))
     c.discard.ensures.base (c.recover_again.ensures.crash reads images)
 
 pub returns-clause-careful : goal.returns-clause-careful
