@@ -34,7 +34,6 @@ use Rattle.chain_edit.specs.Walking.IsWalkDamage.{HighMark, NoWalk}
 use Rattle.chain_edit.proofs.Walks.{mark_then, walk_is}
 use Rattle.group_store.proofs.GroupWalks.{records_then}
 use Rattle.expand.proofs.ChainWalks.{chain_walk, room_then}
-use Rattle.group_store.specs.declared.group_row.GroupRow.{GroupRow}
 use Rattle.group_store.specs.declared.side.Side.{Side}
 use Rattle.group_store.specs.declared.side.Side.TheVariants.{Out, In as Into, Loop}
 use Rattle.group_store.specs.GroupChain.{IsGroupOf, next_group, type_of}

@@ -16,7 +16,6 @@ use Rattle.store_rules.proofs.ChainLaws.{walk_of_chain}
 use Rattle.store_rules.proofs.OnceLaws.{in_left, in_right}
 use Rattle.rel_store.specs.declared.edge_row.EdgeRow.{EdgeRow}
 use Rattle.rel_store.specs.Loading.{rel_mark, rel_room}
-use Rattle.rec_bytes.specs.declared.fault.Fault.TheVariants as chain
 use Rattle.chain_edit.specs.Chains.{IsChainFrom, next_of, prev_of}
 use Rattle.chain_edit.specs.Walking.{HasWalked, IsSoundWalk, ReadsAtMost, edge_at}
 use Rattle.chain_edit.proofs.Walks.{mark_then, walk_is}

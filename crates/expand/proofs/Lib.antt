@@ -15,3 +15,4 @@ pub mod ModelEdges
 pub mod ReadCounts
 pub mod RowCounts
 pub mod TypeCounts
+pub mod UnknownTypes

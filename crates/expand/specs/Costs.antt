@@ -1,6 +1,6 @@
 -- What the edges of a node cost.
-use Rattle.std.specs.Prelude.{ℕ, ◌+◌, nat_eq, if◌then◌else◌, Bool, false, not, ◌||◌, List, [], ◌∷◌}
-use Rattle.std.specs.Prelude.{length, map}
+use Rattle.std.specs.Prelude.{ℕ, ◌+◌, nat_eq, nat_lt, if◌then◌else◌, Bool, false, not, ◌||◌}
+use Rattle.std.specs.Prelude.{List, [], ◌∷◌, length, map}
 use Rattle.std.specs.List.{filter, list_any}
 use Rattle.std.specs.Set.{distinct_count}
 use Rattle.plain_graph.specs.Graph.{Edge, Graph, degree_in, is_at}
@@ -11,7 +11,7 @@ use Rattle.plain_graph.specs.declared.direction.Direction.TheVariants as directi
 use Rattle.rec_bytes.specs.Format as format
 use Rattle.rec_bytes.specs.Space.{State}
 use Rattle.store_rules.specs.Graph.{names_of}
-use Rattle.store_rules.specs.Views.{Records, kind_at}
+use Rattle.store_rules.specs.Views.{Records, high, kind_at}
 use Rattle.expand.specs.Expanding.{graph_in, name_of}
 
 -- how many types the edges at a node have
@@ -41,6 +41,17 @@ abbrev pub most_reads : State → Direction → List ℕ → ℕ → ℕ
 most_reads s direction labels node =
     if nat_eq (kind_at s.records format.nodes_file node) format.dense
     then dense_reads s direction labels node else degree_in (graph_in s) node + 1
+
+-- ---- types that are no names of the store
+
+abbrev pub is_below : ℕ → ℕ → Bool
+is_below mark label = nat_lt label mark
+
+-- types are given by their numbers, and none of these is a name's
+abbrev pub are_no_names : Records → List ℕ → Bool
+are_no_names records [] = false
+are_no_names records (label ∷ labels) =
+    not (list_any (is_below (high records format.names_file)) (label ∷ labels))
 
 -- types are written, and none of them is a name of the store
 abbrev pub are_unknown : Records → List (List ℕ) → Bool

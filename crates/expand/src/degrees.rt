@@ -1,6 +1,7 @@
 //! How many edges a node has.
 
 ghost use Rattle.std.specs.Prelude.{◌≡◌, ◌+◌, ℕ, List, IfErr, IfOk, false, filter, length, map};
+ghost use Rattle.std.specs.Prelude.{true};
 ghost use Rattle.plain_graph.specs.Graph.{has_node};
 ghost use Rattle.plain_graph.specs.Meaning.{edges_at};
 ghost use Rattle.rel_store.specs.Loading.{rel_mark};
@@ -10,7 +11,7 @@ ghost use Rattle.group_store.specs.GroupChain.{IsDense};
 ghost use Rattle.group_store.specs.Loading.{group_mark};
 ghost use Rattle.group_store.specs.Spreading.{HasCountedGroups};
 ghost use Rattle.group_store.specs.Walking.{IsWalkable, group_row_at};
-ghost use Rattle.expand.specs.Costs.{most_reads, type_count};
+ghost use Rattle.expand.specs.Costs.{are_no_names, most_reads, type_count};
 ghost use Rattle.expand.specs.Degrees.{
   IsDenseDegree,
   as_number,
@@ -37,6 +38,7 @@ ghost use Rattle.expand.specs.Matching.{is_met_at, rows_at};
 use crate::ExpandFault;
 use crate::first_links::first_links;
 use crate::matching::{End, end_of, is_wanted};
+use crate::unknown_types::{are_no_names, find_node};
 use crate::walking::walk_all;
 use chain_edit::{Chain, walk};
 use group_store::{GroupRow, groups};
@@ -51,7 +53,8 @@ use std::alloc::Global;
 ///
 /// It costs a read for the node. A sparse node costs one more for each relationship at it, a dense
 /// one for each type that it has, where its groups of these types are counted. Where one isn't, it
-/// costs as many besides as relationships are met.
+/// costs as many besides as relationships are met. Where the number is no name's, it costs the read
+/// for the node alone.
 pub fn degree<R: Reads>(
     alloc: Global,
     space: &mut R,
@@ -79,6 +82,9 @@ pub fn degree<R: Reads>(
         → HasCountedGroups (R.state space.old).records node
         → ReadsAtMost (1 + type_count (graph_in (R.state space.old)) node)
         (R.state space.old) (R.state space.new) }
+    // where the number is no name's, the node alone is read
+    ensures unknown { are_no_names (R.state space.old).records (option_list label) ≡ true
+        → ReadsAtMost 1 (R.state space.old) (R.state space.new) }
     ensures at_most { ReadsAtMost
         (group_mark (R.state space.old) + rel_mark (R.state space.old) + 1)
         (R.state space.old) (R.state space.new) }
@@ -93,6 +99,42 @@ pub fn degree<R: Reads>(
 
 /// So many edges of these types, or of all types where none is given.
 fn degree_of<R: Reads>(
+    alloc: Global,
+    space: &mut R,
+    node: u32,
+    direction: Direction,
+    labels: &[u32],
+) -> Result<u64, ExpandFault>
+    ensures rows { R.tells → IfOk result (λ count. IsStore (R.state space.old)
+        → count ≡ rows_count direction labels.now node (rows_of (R.state space.old).records)) }
+    ensures missing { R.tells → IsStore (R.state space.old)
+        → TellsNode result node (has_node (graph_in (R.state space.old)) node) }
+    ensures damaged { R.tells → IfErr result (IsExpandFault (R.state space.old) node) }
+    ensures reads { R.tells → IsStore (R.state space.old)
+        → ReadsAtMost (most_reads (R.state space.old) direction labels.now node)
+        (R.state space.old) (R.state space.new) }
+    ensures counted_reads { R.tells → IsStore (R.state space.old)
+        → IsDense (R.state space.old).records node
+        → HasCountedGroups (R.state space.old).records node
+        → ReadsAtMost (1 + type_count (graph_in (R.state space.old)) node)
+        (R.state space.old) (R.state space.new) }
+    ensures unknown { are_no_names (R.state space.old).records labels.now ≡ true
+        → ReadsAtMost 1 (R.state space.old) (R.state space.new) }
+    ensures at_most { ReadsAtMost
+        (group_mark (R.state space.old) + rel_mark (R.state space.old) + 1)
+        (R.state space.old) (R.state space.new) }
+    ensures onward { R.onward space.old space.new }
+    ensures cause { HasExpandCause (R.faults space.old) (R.faults space.new) result }
+{
+    if are_no_names(space, labels) {
+        find_node(space, node)?;
+        return Ok(0);
+    }
+    met_count(alloc, space, node, direction, labels)
+}
+
+/// The same, by the rows of the relationships or of the groups.
+fn met_count<R: Reads>(
     alloc: Global,
     space: &mut R,
     node: u32,

@@ -10,6 +10,7 @@ mod expanding;
 mod first_links;
 mod loading;
 mod matching;
+mod unknown_types;
 mod walking;
 
 pub use degrees::degree;

@@ -1,56 +1,66 @@
-use Rattle.std.proofs.Common.{◌+◌, ◌∙◌, List, ap, subst, sym, arith, rules}
+use Rattle.std.proofs.Common.{◌+◌, sym, ◌∙◌, arith}
 use Rattle.std.proofs.lemmas.Bool.{true≢false}
-use Rattle.std.proofs.lemmas.Result.{err_from_is_err_and}
-use Rattle.rec_bytes.specs.declared.meta.Meta.{Meta}
-use Rattle.rel_store.specs.declared.edge_row.EdgeRow.{EdgeRow}
+use Rattle.rec_bytes.proofs.Causes.{never_ok, ok_cause}
 use Rattle.rel_store.specs.Loading.{rel_mark}
-use Rattle.store_rules.proofs.NumberLaws.{eq_true}
-use Rattle.chain_edit.specs.Walking.{ReadsAtMost}
+use Rattle.chain_edit.proofs.Causes.{same_has}
 use Rattle.group_store.specs.Loading.{group_mark}
 use Rattle.expand.specs.Costs.{type_count}
-use Rattle.expand.specs.Degrees.{as_number, rows_count}
-use Rattle.expand.specs.Expanding.{graph_in, rows_of}
-use Rattle.expand.proofs.DenseDegrees.{if_degree, loaded_counted, loaded_degree, number_is, one_read}
-use Rattle.expand.proofs.LoadedRows.{can_walk, chain_fault, chain_tells, dense_at_most, dense_fault, dense_most}
-use Rattle.expand.proofs.LoadedRows.{load_most, mid_row, dense_tells, dense_test, members, none_there, one_there}
-use Rattle.expand.proofs.LoadedRows.{row_fault, sound, sparse_at_most, sparse_part, sparse_reads}
-use Rattle.expand.proofs.ReadCounts.{load_reads}
-use Rattle.expand.proofs.RowCounts.{part_count}
-use Rattle.rec_bytes.proofs.Causes.{never_ok, ok_cause}
-use Rattle.expand.proofs.Causes.{expand_cause_passed, row_cause_passed}
+use Rattle.expand.specs.Expanding.{graph_in}
+use Rattle.expand.proofs.Causes.{same_cause_passed}
+use Rattle.expand.proofs.UnknownTypes.{no_count, one_first, one_more, one_most}
 use Rattle.expand.proofs.degrees.degree_of.Goals as goal
 
-pub returns-in_err-row-clause-damaged : goal.returns-in_err-row-clause-damaged
-returns-in_err-row-clause-damaged g c = λ tells.
-    let p = err_from_is_err_and c.from_residual.result c.from_residual.ensures.1 in
-    rw (p.1, p.2) (row_fault (g.R.Reads.state c.args.space.now) c.args.node c.in_err-row.field-0.0 (c.in_err-row.ensures.damaged tells))
+-- ---- no number is a name's, and the node isn't found out about
 
-pub returns-in_err-row-clause-at_most : goal.returns-in_err-row-clause-at_most
-returns-in_err-row-clause-at_most g c =
+pub returns-in_err-find_node-clause-rows : goal.returns-in_err-find_node-clause-rows
+returns-in_err-find_node-clause-rows g c _ = never_ok c.from_residual.result _ _ c.from_residual.ensures.1
+
+pub returns-in_err-find_node-clause-damaged : goal.returns-in_err-find_node-clause-damaged
+returns-in_err-find_node-clause-damaged g c tells = same_has _ c.from_residual.result _ c.from_residual.ensures.1 (c.in_err-find_node.ensures.damaged tells)
+
+pub returns-in_err-find_node-clause-reads : goal.returns-in_err-find_node-clause-reads
+returns-in_err-find_node-clause-reads g c tells store = one_most _ _ c.args.direction c.args.labels.now c.args.node c.in_err-find_node.ensures.reads
+
+pub returns-in_err-find_node-clause-counted_reads : goal.returns-in_err-find_node-clause-counted_reads
+returns-in_err-find_node-clause-counted_reads g c tells store dense all =
+    one_first (type_count (graph_in (g.R.Reads.state c.args.space.now)) c.args.node) _ _ c.in_err-find_node.ensures.reads
+
+pub returns-in_err-find_node-clause-unknown : goal.returns-in_err-find_node-clause-unknown
+returns-in_err-find_node-clause-unknown g c _ = c.in_err-find_node.ensures.reads
+
+pub returns-in_err-find_node-clause-at_most : goal.returns-in_err-find_node-clause-at_most
+returns-in_err-find_node-clause-at_most g c =
     let s = g.R.Reads.state c.args.space.now in
-    load_reads s (g.R.Reads.state c.load.new.space) c.args.node (group_mark s + rel_mark s) c.in_err-row.ensures.state
+    one_more (group_mark s + rel_mark s) _ _ c.in_err-find_node.ensures.reads
 
-pub returns-in_default-clause-missing : goal.returns-in_default-clause-missing
-returns-in_default-clause-missing g c = λ tells store. (
-  λ i. c.args.node,
-  none_there (g.R.Reads.state c.args.space.now) c.args.node (sym c.in_default.is ∙ c.in_ok-row.ensures.found tells),
-)
+pub returns-in_err-find_node-clause-onward : goal.returns-in_err-find_node-clause-onward
+returns-in_err-find_node-clause-onward g c = c.in_err-find_node.ensures.onward
 
-pub returns-in_default-clause-at_most : goal.returns-in_default-clause-at_most
-returns-in_default-clause-at_most g c =
+pub returns-in_err-find_node-clause-cause : goal.returns-in_err-find_node-clause-cause
+returns-in_err-find_node-clause-cause g c =
+    same_cause_passed _ _ _ c.from_residual.result c.in_err-find_node.field-0.0 (omega arith) c.in_err-find_node.ensures.cause c.from_residual.ensures.1
+
+-- ---- none is, and the node is there
+
+pub returns-then-are_no_names-clause-rows : goal.returns-then-are_no_names-clause-rows
+returns-then-are_no_names-clause-rows g c = λ tells store.
     let s = g.R.Reads.state c.args.space.now in
-    load_reads s (g.R.Reads.state c.load.new.space) c.args.node (group_mark s + rel_mark s) c.in_ok-row.ensures.state
+    no_count s.records c.args.labels.now (sym c.are_no_names.ensures ∙ c.if-are_no_names.true) s.shape store c.args.direction c.args.node
 
--- ---- a dense node
+pub returns-then-are_no_names-clause-reads : goal.returns-then-are_no_names-clause-reads
+returns-then-are_no_names-clause-reads g c tells store = one_most _ _ c.args.direction c.args.labels.now c.args.node c.in_ok-find_node.ensures.reads
 
-pub returns-then-row-clause-rows : goal.returns-then-row-clause-rows
-returns-then-row-clause-rows g c = λ tells.
+pub returns-then-are_no_names-clause-counted_reads : goal.returns-then-are_no_names-clause-counted_reads
+returns-then-are_no_names-clause-counted_reads g c tells store dense all =
+    one_first (type_count (graph_in (g.R.Reads.state c.args.space.now)) c.args.node) _ _ c.in_ok-find_node.ensures.reads
+
+pub returns-then-are_no_names-clause-unknown : goal.returns-then-are_no_names-clause-unknown
+returns-then-are_no_names-clause-unknown g c _ = c.in_ok-find_node.ensures.reads
+
+pub returns-then-are_no_names-clause-at_most : goal.returns-then-are_no_names-clause-at_most
+returns-then-are_no_names-clause-at_most g c =
     let s = g.R.Reads.state c.args.space.now in
-    let mid = g.R.Reads.state c.load.new.space in
-    let found = sym c.in-Some.is ∙ c.in_ok-row.ensures.found tells in
-    if_degree c.dense_degree.result (λ count h store.
-    loaded_degree s c.args.node c.in-Some.row found mid c.in_ok-row.ensures.state c.if-row.true store c.args.direction c.args.labels.now
-    (g.R.Reads.state c.dense_degree.new.space) count h) (c.dense_degree.ensures.count tells)
+    one_more (group_mark s + rel_mark s) _ _ c.in_ok-find_node.ensures.reads
 
 pub returns-then-row-clause-missing : goal.returns-then-row-clause-missing
 returns-then-row-clause-missing g c = λ tells store.
@@ -66,15 +76,13 @@ returns-then-row-clause-damaged g c = λ tells.
     c.dense_degree.result (c.dense_degree.ensures.damaged tells (mid_row (g.R.Reads.state c.args.space.now) c.args.node c.in-Some.row found
     (g.R.Reads.state c.load.new.space) c.in_ok-row.ensures.state c.if-row.true))
 
-pub returns-then-row-clause-reads : goal.returns-then-row-clause-reads
-returns-then-row-clause-reads g c = λ tells store.
-    let s = g.R.Reads.state c.args.space.now in
-    let mid = g.R.Reads.state c.load.new.space in
-    let found = sym c.in-Some.is ∙ c.in_ok-row.ensures.found tells in
-    let can = can_walk s c.args.node c.in-Some.row found mid c.in_ok-row.ensures.state c.if-row.true store c.args.direction c.args.labels.now in
-    dense_most s c.args.node c.in-Some.row found mid c.in_ok-row.ensures.state c.if-row.true store c.args.direction c.args.labels.now
-    (g.R.Reads.state c.dense_degree.new.space)
-    (c.dense_degree.ensures.few_reads tells _ _ can)
+pub returns-then-are_no_names-clause-onward : goal.returns-then-are_no_names-clause-onward
+returns-then-are_no_names-clause-onward g c = c.in_ok-find_node.ensures.onward
+
+pub returns-then-are_no_names-clause-cause : goal.returns-then-are_no_names-clause-cause
+returns-then-are_no_names-clause-cause g c = ok_cause _ _ _ _ c.in_ok-find_node.ensures.cause.later
+
+-- ---- one may be
 
 pub returns-then-row-clause-counted_reads : goal.returns-then-row-clause-counted_reads
 returns-then-row-clause-counted_reads g c = λ tells store dense all.
@@ -226,3 +234,6 @@ returns-in_err-rows-clause-cause g c =
 pub returns-in_err-rows-clause-onward : goal.returns-in_err-rows-clause-onward
 returns-in_err-rows-clause-onward g c =
     g.met.R.Reads.further_onward _ _ _ c.in_ok-row.ensures.onward c.in_err-rows.ensures.onward
+
+pub returns-clause-unknown : goal.returns-clause-unknown
+returns-clause-unknown g c = λ unknown. absurd (true≢false (sym unknown ∙ sym c.are_no_names.ensures ∙ c.if-are_no_names.false))
