@@ -1,7 +1,7 @@
 -- The edges of a type at a node, by their rows.
 use Rattle.std.proofs.Common.{◌≡◌, ◌<◌, ◌≤◌, ◌∙◌, ℕ, zero, suc, nat_eq, Bool, true, false, ◌&&◌, ◌||◌, cond, Option}
 use Rattle.std.proofs.Common.{None, Some, Result, Ok, Err, IfOk, List, [], ◌∷◌, ◌++◌, length, map, slice_get, Contains}
-use Rattle.std.proofs.Common.{IfNone, IfSome, unwrap_or, true≢false, refl, sym, ap, subst, ⊎_elim, arith}
+use Rattle.std.proofs.Common.{IfNone, IfSome, is_some, unwrap_or, true≢false, refl, sym, ap, subst, ⊎_elim, arith}
 use Rattle.std.specs.List.{AllByRecursion, filter}
 use borrow.Author.Tests.{eqb-true}
 use Rattle.std.proofs.lemmas.Bool.{cases_lt}
@@ -17,13 +17,16 @@ use Rattle.rec_bytes.specs.Space.{SameButReads, State, after_get, after_gets}
 use Rattle.rec_bytes.specs.declared.shape.Shape.{Shape}
 use Rattle.rec_bytes.specs.declared.space.Reads.{Ghosts as SpaceGhosts}
 use Rattle.store_rules.specs.Graph.{graph_of}
+use Rattle.store_rules.specs.Rows.{option_list}
 use Rattle.store_rules.specs.Rules.{IsWellFormed}
 use Rattle.store_rules.specs.Views.{Records}
 use Rattle.name_store.specs.Names.{AreDistinct}
 use Rattle.rel_store.specs.declared.edge_row.EdgeRow.{EdgeRow}
+use Rattle.expand.specs.Costs.{are_no_names, are_unknown}
 use Rattle.expand.specs.Expanding.{AreRowsOf, IsRowOf, rows_of}
 use Rattle.expand.specs.Matching.{rows_at}
 use Rattle.expand.proofs.ModelEdges.{StandFor, rows_at_are}
+use Rattle.expand.proofs.UnknownTypes.{unknown_numbers}
 use Rattle.traversal_run.specs.Naming.{FindsName, name_at, name_count}
 use Rattle.traversal_run.specs.Reading.{IsNamedStore, IsRead}
 use Rattle.traversal_run.proofs.Asked.{same_tests}
@@ -143,3 +146,11 @@ rows-degree records shape store numbers label stand direction id =
 pub ok-then : {T E : Type 0} {P Q : T → Type 0} (result : Result T E) → ((value : T) → P value → Q value) → IfOk result P → IfOk result Q
 ok-then (Ok value) more holds = more value holds
 ok-then (Err fault) more holds = tt
+
+-- the number of a type that is no name of the store is no name's
+pub unknown_numbers_in : (s : Records) (number : Option ℕ) (label : Option (List ℕ)) → is_some number ≡ is_some label
+    → StandFor s (option_list number) (types_of label) → are_unknown s (types_of label) ≡ true → are_no_names s (option_list number) ≡ true
+unknown_numbers_in s None None given stand unknown = cc
+unknown_numbers_in s None (Some text) given stand unknown = cc
+unknown_numbers_in s (Some number) None given stand unknown = cc
+unknown_numbers_in s (Some number) (Some text) given stand unknown = unknown_numbers s number [] (text ∷ []) stand unknown

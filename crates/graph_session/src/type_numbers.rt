@@ -1,4 +1,4 @@
-ghost use Rattle.std.specs.Prelude.{◌≡◌, ◌≤◌, ◌∷◌, [], length};
+ghost use Rattle.std.specs.Prelude.{◌≡◌, ◌≤◌, ◌∷◌, [], is_some, length};
 ghost use Rattle.plain_graph.specs.Lines.{types_of};
 ghost use Rattle.rec_bytes.specs.Format.{most_names};
 ghost use Rattle.rec_bytes.specs.declared.shape.Shape.{Shape as AShape};
@@ -33,8 +33,9 @@ pub(crate) fn number_of(names: &Names, label: &Text) -> u32
 
 /// The number of the type that a line names, or none for all types.
 pub(crate) fn number_in(names: &Names, label: &Option<Text>) -> Option<u32>
-    ensures { (records : Records) (shape : AShape) → IsNamedStore records shape names.now.names
+    ensures stands { (records : Records) (shape : AShape) → IsNamedStore records shape names.now.names
         → StandFor records (option_list result) (types_of label.now) }
+    ensures given { is_some result ≡ is_some label.now }
 {
     match label {
         Some(label) => Some(number_of(names, label)),

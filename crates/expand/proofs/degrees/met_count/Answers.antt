@@ -56,13 +56,15 @@ pub returns-then-row-clause-missing : goal.returns-then-row-clause-missing
 returns-then-row-clause-missing g c = λ tells store.
     let found = sym c.in-Some.is ∙ c.in_ok-row.ensures.found tells in
     dense_tells (g.R.Reads.state c.args.space.now) c.args.node c.in-Some.row found (g.R.Reads.state c.load.new.space) c.in_ok-row.ensures.state c.if-row.true
-    c.dense_degree.result (c.dense_degree.ensures.damaged tells (mid_row (g.R.Reads.state c.args.space.now) c.args.node c.in-Some.row found (g.R.Reads.state c.load.new.space) c.in_ok-row.ensures.state c.if-row.true))
+    c.dense_degree.result (c.dense_degree.ensures.damaged tells (mid_row (g.R.Reads.state c.args.space.now) c.args.node c.in-Some.row found
+    (g.R.Reads.state c.load.new.space) c.in_ok-row.ensures.state c.if-row.true))
 
 pub returns-then-row-clause-damaged : goal.returns-then-row-clause-damaged
 returns-then-row-clause-damaged g c = λ tells.
     let found = sym c.in-Some.is ∙ c.in_ok-row.ensures.found tells in
     dense_fault (g.R.Reads.state c.args.space.now) c.args.node c.in-Some.row found (g.R.Reads.state c.load.new.space) c.in_ok-row.ensures.state c.if-row.true
-    c.dense_degree.result (c.dense_degree.ensures.damaged tells (mid_row (g.R.Reads.state c.args.space.now) c.args.node c.in-Some.row found (g.R.Reads.state c.load.new.space) c.in_ok-row.ensures.state c.if-row.true))
+    c.dense_degree.result (c.dense_degree.ensures.damaged tells (mid_row (g.R.Reads.state c.args.space.now) c.args.node c.in-Some.row found
+    (g.R.Reads.state c.load.new.space) c.in_ok-row.ensures.state c.if-row.true))
 
 pub returns-then-row-clause-reads : goal.returns-then-row-clause-reads
 returns-then-row-clause-reads g c = λ tells store.
@@ -103,7 +105,8 @@ returns-in_err-rows-clause-damaged g c = λ tells.
     let found = sym c.in-Some.is ∙ c.in_ok-row.ensures.found tells in
     let marked = ap (λ (meta : Meta). meta.high) c.meta-mark.ensures in
     let p = err_from_is_err_and c.from_residual-in_err-rows.result c.from_residual-in_err-rows.ensures.1 in
-    rw (p.1, p.2) (chain_fault (g.R.Reads.state c.args.space.now) c.args.node c.in-Some.row found (g.R.Reads.state c.load.new.space) c.in_ok-row.ensures.state c.meta-mark.result.high marked c.if-row.false
+    rw (p.1, p.2) (chain_fault (g.R.Reads.state c.args.space.now) c.args.node c.in-Some.row found (g.R.Reads.state c.load.new.space) c.in_ok-row.ensures.state
+    c.meta-mark.result.high marked c.if-row.false
     (c.in_ok-row.ensures.known tells) c.in_err-rows.field-0.0 (c.in_err-rows.ensures.damaged tells))
 
 pub returns-in_err-rows-clause-at_most : goal.returns-in_err-rows-clause-at_most
@@ -141,7 +144,8 @@ returns-clause-reads g c = λ tells store.
     let mark = c.meta-mark.result.high in
     let marked = ap (λ (meta : Meta). meta.high) c.meta-mark.ensures in
     sparse_reads s n row found mid loaded mark marked c.if-row.false store c.args.direction c.args.labels.now (g.R.Reads.state c.walk.new.space)
-    (c.in_ok-rows.ensures.few_reads tells (members s n row found mid loaded mark marked c.if-row.false store) (sound s n row found mid loaded mark marked c.if-row.false store))
+    (c.in_ok-rows.ensures.few_reads tells (members s n row found mid loaded mark marked c.if-row.false store) (sound s n row found mid loaded mark marked
+    c.if-row.false store))
 
 pub returns-in_err-rows-clause-reads : goal.returns-in_err-rows-clause-reads
 returns-in_err-rows-clause-reads g c = λ tells store.
@@ -154,7 +158,8 @@ returns-in_err-rows-clause-reads g c = λ tells store.
     let mark = c.meta-mark.result.high in
     let marked = ap (λ (meta : Meta). meta.high) c.meta-mark.ensures in
     sparse_reads s n row found mid loaded mark marked c.if-row.false store c.args.direction c.args.labels.now (g.R.Reads.state c.walk.new.space)
-    (c.in_err-rows.ensures.few_reads tells (members s n row found mid loaded mark marked c.if-row.false store) (sound s n row found mid loaded mark marked c.if-row.false store))
+    (c.in_err-rows.ensures.few_reads tells (members s n row found mid loaded mark marked c.if-row.false store) (sound s n row found mid loaded mark marked
+    c.if-row.false store))
 
 pub returns-in_err-row-clause-reads : goal.returns-in_err-row-clause-reads
 returns-in_err-row-clause-reads g c = λ tells store. load_most (g.R.Reads.state c.args.space.now) (g.R.Reads.state c.load.new.space) c.args.node
@@ -180,12 +185,14 @@ returns-in_err-rows-clause-counted_reads g c = λ tells store dense all.
 pub returns-in_err-row-clause-counted_reads : goal.returns-in_err-row-clause-counted_reads
 returns-in_err-row-clause-counted_reads g c = λ tells store dense all. one_read (type_count (graph_in (g.R.Reads.state c.args.space.now)) c.args.node)
     (g.R.Reads.state c.args.space.now) (g.R.Reads.state c.load.new.space)
-    (load_reads (g.R.Reads.state c.args.space.now) (g.R.Reads.state c.load.new.space) c.args.node (type_count (graph_in (g.R.Reads.state c.args.space.now)) c.args.node) c.in_err-row.ensures.state)
+    (load_reads (g.R.Reads.state c.args.space.now) (g.R.Reads.state c.load.new.space) c.args.node (type_count (graph_in (g.R.Reads.state c.args.space.now))
+    c.args.node) c.in_err-row.ensures.state)
 
 pub returns-in_default-clause-counted_reads : goal.returns-in_default-clause-counted_reads
 returns-in_default-clause-counted_reads g c = λ tells store dense all. one_read (type_count (graph_in (g.R.Reads.state c.args.space.now)) c.args.node)
     (g.R.Reads.state c.args.space.now) (g.R.Reads.state c.load.new.space)
-    (load_reads (g.R.Reads.state c.args.space.now) (g.R.Reads.state c.load.new.space) c.args.node (type_count (graph_in (g.R.Reads.state c.args.space.now)) c.args.node) c.in_ok-row.ensures.state)
+    (load_reads (g.R.Reads.state c.args.space.now) (g.R.Reads.state c.load.new.space) c.args.node (type_count (graph_in (g.R.Reads.state c.args.space.now))
+    c.args.node) c.in_ok-row.ensures.state)
 
 pub returns-clause-at_most : goal.returns-clause-at_most
 returns-clause-at_most g c =

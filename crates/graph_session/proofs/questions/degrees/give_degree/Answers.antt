@@ -5,7 +5,7 @@ use Rattle.plain_graph.specs.declared.direction.Direction.{Direction}
 use Rattle.store_rules.specs.Graph.{graph_of}
 use Rattle.store_rules.specs.Rows.{option_list}
 use Rattle.graph_session.specs.EdgeResults.ReadsForEdges.{ByNumbers}
-use Rattle.graph_session.proofs.Expansion.{is_read-gets, rows-degree}
+use Rattle.graph_session.proofs.Expansion.{is_read-gets, rows-degree, unknown_numbers_in}
 use Rattle.graph_session.proofs.NodeQuestions.{AsksElements, gives-told, gives-unknown, one-blamed, one-missing}
 use Rattle.graph_session.proofs.questions.degrees.give_degree.Goals as goal
 
@@ -21,7 +21,7 @@ returns-in-Ok-clause-gives g c =
     (λ told store. met.missing told store.store)
     (λ told store.
     ap (λ (edges : ℕ). one_line (degree_text edges))
-    (met.rows told store.store ∙ rows-degree s.records s.shape store.store (option_list c.number_in.result) c.args.label.now (c.number_in.ensures s.records s.shape store) c.args.direction c.args.id))
+    (met.rows told store.store ∙ rows-degree s.records s.shape store.store (option_list c.number_in.result) c.args.label.now (c.number_in.ensures.stands s.records s.shape store) c.args.direction c.args.id))
     (rw (c.as_bytes.ensures, c.degree-in-Ok.ensures) at c.give_line.ensures)
 
 pub returns-in-Err-clause-gives : goal.returns-in-Err-clause-gives
@@ -39,11 +39,19 @@ returns-in-Ok-clause-cost g c =
     λ tells store.
     let s = g.R.Reads.state c.args.space.now in
     let met = c.in-Ok.ensures.reads tells store.store in
-    ByNumbers (option_list c.number_in.result) (c.number_in.ensures s.records s.shape store) (record { count = met.count; within = met.within; is = met.is })
+    let stand = c.number_in.ensures.stands s.records s.shape store in
+    ByNumbers (option_list c.number_in.result) stand (record { count = met.count; within = met.within; is = met.is })
+    (λ unknown.
+    let one = c.in-Ok.ensures.unknown (unknown_numbers_in s.records c.number_in.result c.args.label.now c.number_in.ensures.given stand unknown) in
+    record { count = one.count; within = one.within; is = one.is })
 
 pub returns-in-Err-clause-cost : goal.returns-in-Err-clause-cost
 returns-in-Err-clause-cost g c =
     λ tells store.
     let s = g.R.Reads.state c.args.space.now in
     let met = c.in-Err.ensures.reads tells store.store in
-    ByNumbers (option_list c.number_in.result) (c.number_in.ensures s.records s.shape store) (record { count = met.count; within = met.within; is = met.is })
+    let stand = c.number_in.ensures.stands s.records s.shape store in
+    ByNumbers (option_list c.number_in.result) stand (record { count = met.count; within = met.within; is = met.is })
+    (λ unknown.
+    let one = c.in-Err.ensures.unknown (unknown_numbers_in s.records c.number_in.result c.args.label.now c.number_in.ensures.given stand unknown) in
+    record { count = one.count; within = one.within; is = one.is })

@@ -1,6 +1,7 @@
 use Rattle.std.proofs.Common.{[], ◌∷◌, Vec}
 use Rattle.std.specs.declared.alloc.Global.{Global}
 use Rattle.rel_store.specs.declared.edge_row.EdgeRow.{EdgeRow}
+use Rattle.expand.proofs.UnknownTypes.{unknown_numbers}
 use Rattle.graph_session.specs.EdgeResults.ReadsForEdges.{ByNumbers}
 use Rattle.graph_session.proofs.Expansion.{is_read-gets, items-expansion, ok-then}
 use Rattle.graph_session.proofs.questions.edge_results.edges_of.Goals as goal
@@ -22,4 +23,8 @@ returns-clause-cost g c =
     λ tells store.
     let s = g.R.Reads.state c.args.space.now in
     let met = c.expand.ensures.reads tells store.store in
-    ByNumbers (c.number_of.result ∷ []) (c.number_of.ensures s.records s.shape store) (record { count = met.count; within = met.within; is = met.is })
+    let stand = c.number_of.ensures s.records s.shape store in
+    ByNumbers (c.number_of.result ∷ []) stand (record { count = met.count; within = met.within; is = met.is })
+    (λ unknown.
+    let one = c.expand.ensures.unknown (unknown_numbers s.records c.number_of.result [] (c.args.label.now ∷ []) stand unknown) in
+    record { count = one.count; within = one.within; is = one.is })
