@@ -71,27 +71,24 @@ abbrev pub BlamesMaking : State → State → ChangeFault → Type 0
 BlamesMaking s named fault = IfBlames (λ damage. IsBroken s damage ⊎ IsBroken named damage) fault
 
 -- A record that is blamed where a value is given breaks the rule in the space as it was, or in this
--- one, where the key is a name. Or it is one of the indexes, which are changed last: it breaks the
--- rule in the space as it is left, and it is as it was found, unless the key had a value, whose
--- entry may have been taken out before.
-abbrev pub BlamesGiven : State → State → State → Type 0 → ChangeFault → Type 0
-BlamesGiven s named t had fault =
+-- one, where the key is a name. Or it is one of the indexes, which are changed last: it is as it was
+-- found, and breaks the rule in the space as it is left.
+abbrev pub BlamesGiven : State → State → State → ChangeFault → Type 0
+BlamesGiven s named t fault =
     IfBlames (λ damage. IsBroken s damage ⊎ (IsBroken named damage
-    ⊎ (IsEntryDamage t damage × (IsAsFound s t damage ⊎ had)))) fault
+    ⊎ (IsEntryDamage t damage × IsAsFound s t damage))) fault
 
--- One that is blamed where a value is taken away breaks it in the space as it was. Or it is one of
--- the indexes, which are changed last: it is as it was found, and breaks it in the space as it is
--- left.
-abbrev pub BlamesUnset : State → State → ChangeFault → Type 0
-BlamesUnset s t fault =
+-- One that is blamed where a value is taken away, or where a node is added or deleted, breaks it in
+-- the space as it was. Or it is one of the indexes, which are changed last: it is as it was found,
+-- and breaks it in the space as it is left.
+abbrev pub BlamesEntries : State → State → ChangeFault → Type 0
+BlamesEntries s t fault =
     IfBlames (λ damage. IsBroken s damage ⊎ (IsEntryDamage t damage × IsAsFound s t damage)) fault
 
--- So it is where a node is added or deleted. But where it may have several entries, one of the
--- indexes that is blamed may have been written for an earlier one.
-abbrev pub BlamesEntries : State → State → Type 0 → ChangeFault → Type 0
-BlamesEntries s t several fault =
-    IfBlames (λ damage. IsBroken s damage
-    ⊎ (IsEntryDamage t damage × (IsAsFound s t damage ⊎ several))) fault
+-- what is wrong with the free list of the indexes, or a record that is as it was found
+abbrev pub IsListOrFound : State → State → Damage → Type 0
+IsListOrFound s t damage =
+    IsListDamage s.records s.shape format.index_file damage ⊎ IsAsFound s t damage
 
 -- it is what is wrong with the free list of the properties or of the blocks
 abbrev pub IsOfLists : State → Damage → Type 0

@@ -13,7 +13,6 @@ use Rattle.store_rules.specs.Writes.{WritesAtMost}
 use Rattle.change_parts.specs.Causes.{IsStillCaused}
 use Rattle.change_parts.specs.Change.{full_of}
 use Rattle.change_parts.specs.Damage.{BlamesBroken, BlamesEntries}
-use Rattle.node_changes.specs.Entries.{HasIndexes}
 use Rattle.change_parts.specs.Store.{IsStore, graph_in}
 use Rattle.change_parts.specs.declared.change_fault.ChangeFault.{ChangeFault}
 use Rattle.change_parts.specs.declared.change_fault.ChangeFault.TheVariants.{NoNode, NoEdge}
@@ -126,5 +125,5 @@ IsListCaused commands t names now fault =
 
 -- what is so of a record that is blamed where this element is taken away
 abbrev pub BlamesDeletion : State → State → Target → ChangeFault → Type 0
-BlamesDeletion s t (targets.Node id) fault = BlamesEntries s t (HasIndexes s.records) fault
+BlamesDeletion s t (targets.Node id) fault = BlamesEntries s t fault
 BlamesDeletion s t (targets.Edge id) fault = BlamesBroken s fault

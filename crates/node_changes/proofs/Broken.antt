@@ -25,7 +25,6 @@ use Rattle.change_parts.specs.declared.change_fault.ChangeFault.{ChangeFault}
 use Rattle.change_parts.specs.declared.change_fault.ChangeFault.TheVariants.{NoNode, NoEdge, HasRelationships, IndexThere, TooManyIndexes, IndexTooLarge, Full}
 use Rattle.change_parts.specs.declared.change_fault.ChangeFault.TheVariants.{NamesFull, PropsFull, Memory, Disk, Damaged}
 use Rattle.change_parts.specs.Damage.{BlamesBroken, BlamesEntry, BlamesGiven, IfBlames, IsAsFound, IsBroken, IsEntryDamage, IsOfIndex}
-use Rattle.node_changes.specs.Entries.{HasIndexes}
 use Rattle.node_changes.specs.NodeDeleting.{IsDeleteCause}
 use Rattle.change_parts.specs.Owners.{owner_of}
 use Rattle.change_parts.proofs.Broken.{blames_more, node_breaks}
@@ -72,7 +71,7 @@ held_cause s t id (Damaged damage) fails told = inl told
 
 -- and their entries leave last
 pub entry_cause : (s t : State) (id : ℕ) (fault : ChangeFault) → IsFailure fault
-    → IfBlames (λ damage. IsEntryDamage t damage × (IsAsFound s t damage ⊎ HasIndexes s.records)) fault → IsDeleteCause s t id fault
+    → IfBlames (λ damage. IsBroken s damage ⊎ (IsEntryDamage t damage × IsAsFound s t damage)) fault → IsDeleteCause s t id fault
 entry_cause s t id (NoNode missing) fails told = absurd fails
 entry_cause s t id (NoEdge missing) fails told = absurd fails
 entry_cause s t id (HasRelationships of degree) fails told = absurd fails
@@ -84,12 +83,12 @@ entry_cause s t id (NamesFull count) fails told = absurd fails
 entry_cause s t id (PropsFull count) fails told = absurd fails
 entry_cause s t id Memory fails told = tt
 entry_cause s t id Disk fails told = tt
-entry_cause s t id (Damaged damage) fails told = inr told
+entry_cause s t id (Damaged damage) fails told = told
 
-pub key_blamed : (s named t : State) (had : Type 0) (fault : InternFault) → BlamesGiven s named t had (of_intern fault)
-key_blamed s named t had (interns.NamesFull count) = tt
-key_blamed s named t had interns.Memory = tt
-key_blamed s named t had interns.Disk = tt
+pub key_blamed : (s named t : State) (fault : InternFault) → BlamesGiven s named t (of_intern fault)
+key_blamed s named t (interns.NamesFull count) = tt
+key_blamed s named t interns.Memory = tt
+key_blamed s named t interns.Disk = tt
 
 -- reads before a key becomes a name are counted after it
 pub interned_read : (s m : State) (names : List (List ℕ)) (key : List ℕ) → SameButReads s m → SameButReads (interned s names key) (interned m names key)
@@ -117,13 +116,13 @@ interned_in_use s names key (targets.Edge id) used = by (list_any (pointwise nat
     by true = used
     by false = used
 
-pub value_blamed : (s named t last : State) (had : Type 0) → SameButReads named t → (fault : SetFault) → SetBlamesBroken t fault
-    → BlamesGiven s named last had (of_set fault)
-value_blamed s named t last had same (sets.PropsFull count) told = tt
-value_blamed s named t last had same (sets.Full file live) told = tt
-value_blamed s named t last had same sets.Memory told = tt
-value_blamed s named t last had same sets.Disk told = tt
-value_blamed s named t last had same (sets.Damaged damage) told = inr (inl (inl (subst (λ (z : State). Breaks z.records z.shape damage) same told)))
+pub value_blamed : (s named t last : State) → SameButReads named t → (fault : SetFault) → SetBlamesBroken t fault
+    → BlamesGiven s named last (of_set fault)
+value_blamed s named t last same (sets.PropsFull count) told = tt
+value_blamed s named t last same (sets.Full file live) told = tt
+value_blamed s named t last same sets.Memory told = tt
+value_blamed s named t last same sets.Disk told = tt
+value_blamed s named t last same (sets.Damaged damage) told = inr (inl (inl (subst (λ (z : State). Breaks z.records z.shape damage) same told)))
 
 pub entry_left : (t : State) (fault : ChangeFault) → BlamesEntry t fault → BlamesBroken t fault
 entry_left t fault told = blames_more (IsEntryDamage t) (IsBroken t) (λ damage k. k.1) fault told

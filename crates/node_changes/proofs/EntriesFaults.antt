@@ -29,7 +29,7 @@ use Rattle.store_rules.specs.Views.{key_in}
 use Rattle.store_rules.specs.Writes.{ChangesOnly}
 use Rattle.change_parts.specs.Damage.{BlamesEntry, BlamesUntouched, IsAsFound, LeavesIndexes}
 use Rattle.change_parts.specs.Owners.{owner_of}
-use Rattle.node_changes.specs.Entries.{HasMet, HasValue, IsEntryFault, IsEntryRefusal, IsEntryUndamaged, old_weight, value_weight}
+use Rattle.node_changes.specs.Entries.{IsEntryFault, IsEntryRefusal, IsEntryUndamaged, old_weight, value_weight}
 use Rattle.change_parts.specs.Rooms.{LacksRoom}
 use Rattle.node_changes.specs.declared.entries.IndexedValue.{IndexedValue}
 use Rattle.change_parts.specs.declared.change_fault.ChangeFault.{ChangeFault}
@@ -75,21 +75,6 @@ take_untouched s t takes.Memory same = tt
 take_untouched s t takes.Disk same = tt
 take_untouched s t (takes.Damaged damage) same = ap (λ (z : State). z.records (key_in damage.file damage.id)) same
 
--- where no entry of an old value left before
-pub held_untouched : (s m t : State) (weight : ℕ) (damage : Damage) → (weight ≡ 0 → m ≡ s) → IsAsFound m t damage → IsAsFound s t damage ⊎ (0 < weight)
-held_untouched s m t zero damage calm found = inl (found ∙ ap (λ (z : State). z.records (key_in damage.file damage.id)) (calm refl))
-held_untouched s m t (suc weight) damage calm found = inr (omega arith)
-
--- then the element had a value
-pub held_value : (s : State) (target : Target) (names : List (List ℕ)) (number : ℕ) (key : List ℕ) (held : Option IndexedValue)
-    → slice_get names number ≡ Some key → IfSome held (HasMet s target number) → 0 < old_weight held → HasValue s target names key
-held_value s target names number key None named met some = absurd (let z : 0 < 0 = some in omega arith)
-held_value s target names number key (Some held) named met some = by held.value refl
-  where
-    by : (o : Option Value) → held.value ≡ o → HasValue s target names key
-    by None is = absurd (let w = ap value_weight is in omega (arith, w, some))
-    by (Some value) is = record { number = number; named = named; value = value; met = sym met ∙ is }
-
 -- ---- what is changed before
 
 pub owner_file : (owner : Owner) (target : Target) → owner ≡ owner_of target → (owner.key.file ≡ format.nodes_file)
@@ -115,11 +100,6 @@ given_beside s t file id changes q other no_meta = ⊎_elim (λ e. e)
 
 pub reads_leave : (s t : State) → SameButReads s t → LeavesIndexes s t
 reads_leave s t same damage of = ap (λ (z : State). z.records (key_in damage.file damage.id)) same
-
--- where only the first value of a list comes before no other
-pub first_untouched : (s m t : State) (i count : ℕ) (damage : Damage) → i < count → (i ≡ 0 → m ≡ s) → IsAsFound m t damage → IsAsFound s t damage ⊎ (1 < count)
-first_untouched s m t zero count damage lt same found = inl (found ∙ ap (λ (z : State). z.records (key_in damage.file damage.id)) (same refl))
-first_untouched s m t (suc i) count damage lt same found = inr (omega (arith, lt))
 
 -- a file of the indexes that is full has no room for one more
 full_lacks : (s : State) (file live : ℕ) → IsIndexFull s (takes.Full file live) → LacksRoom s file 1 (Full file live)

@@ -14,6 +14,7 @@ use Rattle.plain_graph.specs.declared.value.Value.{Value}
 use Rattle.prop_index.specs.Entering.{entry_of}
 use Rattle.prop_index.specs.Listing.{pair_of}
 use Rattle.prop_index.specs.Reading.{KeepsStore}
+use Rattle.prop_index.specs.Sparing.{SparesDefinitions}
 use Rattle.prop_index.specs.Touching.{TouchesIndex}
 use Rattle.prop_index.specs.declared.listing.IndexPair.{IndexPair}
 use Rattle.rec_bytes.specs.Format as format
@@ -214,8 +215,7 @@ pub record IsEntering (tells onward : Type 0) (s t : State) (before now : ℕ) (
       × (indexes_of t.records ≡ indexes_of s.records)
   pub counted : tells → (meta_of t format.index_file).live ≤ (meta_of s format.index_file).live + length (indexed_of listed label (take i assigned))
   pub touched : TouchesIndex tells (3 * length (indexed_of listed label (take i assigned))) s t
-  -- nothing was written before the first one
-  pub first : i ≡ 0 → t ≡ s
+  pub spared : tells → SparesDefinitions s t
   pub onward_is : onward
   pub later : before ≤ now
 

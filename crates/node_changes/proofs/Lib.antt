@@ -5,6 +5,7 @@ pub mod EntriesFaults
 pub mod EntriesGone
 pub mod EntriesHeld
 pub mod EntriesMade
+mod EntriesNamed
 pub mod EntryChanges
 pub mod HeldValues
 pub mod HeldWeights

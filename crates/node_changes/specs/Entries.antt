@@ -53,12 +53,6 @@ pub record ArePairsOf (s : State) (wanted : Entries) (pairs : List IndexPair) : 
   pub indexed : AreIndexed s.records wanted
   pub are : pairs ≡ map (pair_of s.records) indexed.definitions
 
--- The chain of definitions leads through two or more.
-pub record HasIndexes (records : Records) : Type 0 where
-  pub definitions : List ℕ
-  pub walk : IsWalk (next_definition records) (first_definition records) definitions
-  pub several : 1 < length definitions
-
 -- ---- the values of a new node
 
 -- the assignments whose keys have an index with the label
@@ -119,14 +113,6 @@ WantsHeld wanted (Some held) = WantsValue wanted held.label held.key held.node h
 abbrev pub HasMet : State → Target → ℕ → IndexedValue → Type 0
 HasMet s target key held =
     held.value ≡ value_of (properties_met s.records (owner_of target)) key
-
--- the element has a value of the key, as its records lead to it
-pub record HasValue (s : State) (target : Target) (names : List (List ℕ)) (key : List ℕ) : Type 0
-  where
-    pub number : ℕ
-    pub named : slice_get names number ≡ Some key
-    pub value : Value
-    pub met : value_of (properties_met s.records (owner_of target)) number ≡ Some value
 
 -- ---- what entries weigh
 

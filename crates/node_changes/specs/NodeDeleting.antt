@@ -6,7 +6,6 @@ use Rattle.rec_bytes.specs.Space.{State}
 use Rattle.store_rules.specs.Views.{kind_at}
 use Rattle.node_store.specs.Loading.{row_at}
 use Rattle.change_parts.specs.Damage.{IsAsFound, IsBroken, IsEntryDamage, IsOfIndex}
-use Rattle.node_changes.specs.Entries.{HasIndexes}
 use Rattle.change_parts.specs.declared.change_fault.ChangeFault.{ChangeFault}
 use Rattle.change_parts.specs.declared.change_fault.ChangeFault.TheVariants.{NoNode, NoEdge}
 use Rattle.change_parts.specs.declared.change_fault.ChangeFault.TheVariants.{HasRelationships, Full}
@@ -28,8 +27,7 @@ KeepsOtherKinds s t id =
     → kind_at t.records format.nodes_file n ≡ kind_at s.records format.nodes_file n
 
 -- Why a node of any records isn't deleted, by what was read of them. Or an entry is changed: a
--- record of the indexes is told by the space as it is left, and it is as it was found, unless there
--- are two indexes or more.
+-- record of the indexes is told by the space as it is left, and it is as it was found.
 abbrev pub IsDeleteCause : State → State → ℕ → ChangeFault → Type 0
 IsDeleteCause s t id (NoNode missing) = (missing ≡ id) × (row_at s.records id ≡ None)
 IsDeleteCause s t id (NoEdge missing) = ⊥
@@ -44,7 +42,7 @@ IsDeleteCause s t id (PropsFull count) = ⊥
 IsDeleteCause s t id Memory = Unit {0}
 IsDeleteCause s t id Disk = Unit {0}
 IsDeleteCause s t id (Damaged damage) = IsBroken s damage
-    ⊎ (IsEntryDamage t damage × (IsAsFound s t damage ⊎ HasIndexes s.records))
+    ⊎ (IsEntryDamage t damage × IsAsFound s t damage)
 
 -- The record is one that a deletion of the node may write: the node's own, one of a property, of a
 -- block or of the indexes, or the meta record of one of these four files.

@@ -1,12 +1,14 @@
 //! The entries that the indexes have of the values of a node.
 
-ghost use Rattle.std.specs.Prelude.{◌≡◌, ◌≢◌, ◌⊎◌, ◌++◌, ◌+◌, ◌*◌, ◌<◌, ◌≤◌, [], IfErr, IfOk};
+ghost use Rattle.std.specs.Prelude.{◌≡◌, ◌≢◌, ◌++◌, ◌+◌, ◌*◌, ◌<◌, ◌≤◌, [], IfErr, IfOk};
 ghost use Rattle.std.specs.Prelude.{IfSome, OnOk, Some, false, true};
 ghost use Rattle.std.specs.Prelude.{length, map};
 ghost use Rattle.plain_graph.specs.Forms.{IsKept};
 ghost use Rattle.plain_graph.specs.declared.command.Target.TheVariants as targets;
 ghost use Rattle.prop_index.specs.Listing.{pair_of};
+ghost use Rattle.prop_index.specs.Naming.{IsDefinitionOrList};
 ghost use Rattle.prop_index.specs.Reading.{KeepsStore};
+ghost use Rattle.prop_index.specs.Sparing.{SparesDefinitions};
 ghost use Rattle.prop_index.specs.Touching.{TouchesIndex};
 ghost use Rattle.prop_store.specs.Owner.{IsInUse};
 ghost use Rattle.prop_store.specs.Reading.{ReadsAtMost};
@@ -15,6 +17,7 @@ ghost use Rattle.rec_bytes.specs.Key.{IsKey};
 ghost use Rattle.rec_bytes.specs.Record.{field};
 ghost use Rattle.rec_bytes.specs.Space.{SameButReads, meta_of};
 ghost use Rattle.store_rules.specs.Graph.{indexes_of};
+ghost use Rattle.store_rules.specs.IndexBreaking.{HasDefinitions};
 ghost use Rattle.store_rules.specs.Indexes.{AreIndexed, Entries, IsIndexed};
 ghost use Rattle.store_rules.specs.Rows.{option_list};
 ghost use Rattle.store_rules.specs.Views.{high, key_in, rec_at};
@@ -22,8 +25,8 @@ ghost use Rattle.change_parts.specs.Assigning.{ArePlaced};
 ghost use Rattle.change_parts.specs.Causes.{IsNodeTarget};
 ghost use Rattle.change_parts.specs.ChangeFault.{HasChangeCause, IsFailure, IsOutside, MayComeLate};
 ghost use Rattle.change_parts.specs.Damage.{BlamesBroken, BlamesEntry, BlamesUntouched, IfBlames};
-ghost use Rattle.change_parts.specs.Damage.{IsAsFound, IsOfIndex};
-ghost use Rattle.node_changes.specs.Entries.{AreKeysOnce, ArePairsOf, HasIndexes, HasMet, IsEntryFault, IsEntryRefusal, IsEntryUndamaged, IsIndexedValue, LacksEntries, LacksHeld, WantsHeld, held_at, held_is_listed, held_of, held_weight, indexed_of, is_listed, new_weight, old_weight, with_new, without_held, without_old, value_weight};
+ghost use Rattle.change_parts.specs.Damage.{IsListOrFound, IsOfIndex};
+ghost use Rattle.node_changes.specs.Entries.{AreKeysOnce, ArePairsOf, HasMet, IsEntryFault, IsEntryRefusal, IsEntryUndamaged, IsIndexedValue, LacksEntries, LacksHeld, WantsHeld, held_at, held_is_listed, held_of, held_weight, indexed_of, is_listed, new_weight, old_weight, with_new, without_held, without_old, value_weight};
 ghost use Rattle.change_parts.specs.GivenValues.{with_assigned};
 ghost use Rattle.change_parts.specs.Owners.{owner_of};
 ghost use Rattle.change_parts.specs.Rooms.{HasRoom};
@@ -62,8 +65,8 @@ pub(crate) fn listed_pairs<R: Reads>(
     ensures failure { IfErr result IsFailure }
     ensures damaged { R.tells → IfErr result (BlamesBroken (R.state space.old)) }
     ensures names { R.tells → IfErr result (IfBlames IsOfIndex) }
-    ensures several { R.tells → IfOk result (λ pairs. 1 < length pairs.items
-        → HasIndexes (R.state space.old).records) }
+    ensures walked { R.tells → IfOk result (λ pairs. 0 < length pairs.items
+        → HasDefinitions (R.state space.old).records) }
     ensures few { IfOk result (λ pairs. length pairs.items ≤ 16) }
     ensures none { (meta_of (R.state space.old) index_file).live ≡ 0
         → IfOk result (λ pairs. pairs.items ≡ []) }
@@ -142,8 +145,9 @@ pub(crate) fn enter_values<S: Space>(
     ensures touches { TouchesIndex S.tells (3 * length (indexed_of listed.now label assigned.now))
         (S.state space.old) (S.state space.new) }
     ensures blames { S.tells → IfErr result (BlamesEntry (S.state space.new)) }
-    ensures untouched { S.tells → IfErr result (IfBlames (λ damage.
-        IsAsFound (S.state space.old) (S.state space.new) damage ⊎ (1 < length assigned.now))) }
+    ensures found { S.tells
+        → (0 < length listed.now → HasDefinitions (S.state space.old).records)
+        → IfErr result (IfBlames (IsListOrFound (S.state space.old) (S.state space.new))) }
     ensures onward { S.onward space.old space.new }
     ensures cause { HasChangeCause (S.faults space.old) (S.faults space.new) result }
 {
@@ -179,8 +183,8 @@ pub(crate) fn held_values<R: Reads>(
     ensures damaged { R.tells
         → IsInUse (R.state space.old).records (owner_of (targets.Node node))
         → IfErr result (BlamesBroken (R.state space.old)) }
-    ensures several { R.tells → IfOk result (λ held. 1 < length held.items
-        → HasIndexes (R.state space.old).records) }
+    ensures walked { R.tells → IfOk result (λ held. 0 < length held.items
+        → HasDefinitions (R.state space.old).records) }
     ensures few { IfOk result (λ held. length held.items ≤ 16) }
     ensures same { SameButReads (R.state space.old) (R.state space.new) }
     ensures onward { R.onward space.old space.new }
@@ -266,8 +270,9 @@ pub(crate) fn leave_values<S: Space>(
         → KeepsStore (S.state space.old) → IfErr result IsOutside }
     ensures failure { IfErr result IsFailure }
     ensures blames { S.tells → IfErr result (BlamesEntry (S.state space.new)) }
-    ensures untouched { S.tells → IfErr result (IfBlames (λ damage.
-        IsAsFound (S.state space.old) (S.state space.new) damage ⊎ (1 < length held.now))) }
+    ensures found { S.tells
+        → (0 < length held.now → HasDefinitions (S.state space.old).records)
+        → IfErr result (IfBlames (IsListOrFound (S.state space.old) (S.state space.new))) }
     ensures weight { IfOk result (λ weight. weight ≡ held_weight held.now) }
     ensures few { IfOk result (λ weight. weight ≤ 48) }
     ensures touches { IfOk result (λ weight. TouchesIndex S.tells weight
@@ -308,6 +313,8 @@ pub(crate) fn indexed_value<R: Reads>(
     ensures kept { IfOk result (λ held. IfSome held (λ indexed. IfSome indexed.value IsKept)) }
     ensures met { R.tells → IfOk result (λ held. IfSome held
         (HasMet (R.state space.old) target key)) }
+    ensures walked { R.tells → IfOk result (λ held. IfSome held
+        (λ _. HasDefinitions (R.state space.old).records)) }
     ensures unread { (meta_of (R.state space.old) index_file).live ≡ 0
         → R.state space.new ≡ R.state space.old }
     ensures same { SameButReads (R.state space.old) (R.state space.new) }
@@ -368,9 +375,9 @@ pub(crate) fn change_entry<S: Space>(
         (indexes_of (S.state space.new).records ≡ indexes_of (S.state space.old).records) }
     ensures idle { held.now ≡ None → S.state space.new ≡ S.state space.old }
     ensures blames { S.tells → IfErr result (BlamesEntry (S.state space.new)) }
-    ensures untouched { S.tells → IfErr result (IfBlames (λ damage.
-        IsAsFound (S.state space.old) (S.state space.new) damage
-        ⊎ (0 < old_weight held.now))) }
+    ensures found { S.tells
+        → IfSome held.now (λ _. HasDefinitions (S.state space.old).records)
+        → IfErr result (IfBlames (IsListOrFound (S.state space.old) (S.state space.new))) }
     ensures onward { S.onward space.old space.new }
     ensures cause { HasChangeCause (S.faults space.old) (S.faults space.new) result }
 {
@@ -418,6 +425,10 @@ pub(crate) fn leave_entry<S: Space>(
     ensures blames { S.tells → IfErr result (BlamesEntry (S.state space.new)) }
     ensures untouched { S.tells → IfErr result
         (BlamesUntouched (S.state space.old) (S.state space.new)) }
+    ensures named { S.tells → IfSome held.now (λ _. HasDefinitions (S.state space.old).records)
+        → IfErr result (IfBlames (IsDefinitionOrList (S.state space.old))) }
+    ensures spares { S.tells
+        → OnOk result (SparesDefinitions (S.state space.old) (S.state space.new)) }
     ensures onward { S.onward space.old space.new }
     ensures cause { HasChangeCause (S.faults space.old) (S.faults space.new) result }
 {
@@ -462,6 +473,10 @@ fn leave_held<S: Space>(space: &mut S, held: &IndexedValue) -> Result<u32, Chang
     ensures blames { S.tells → IfErr result (BlamesEntry (S.state space.new)) }
     ensures untouched { S.tells → IfErr result
         (BlamesUntouched (S.state space.old) (S.state space.new)) }
+    ensures named { S.tells → HasDefinitions (S.state space.old).records
+        → IfErr result (IfBlames (IsDefinitionOrList (S.state space.old))) }
+    ensures spares { S.tells
+        → OnOk result (SparesDefinitions (S.state space.old) (S.state space.new)) }
     ensures onward { S.onward space.old space.new }
     ensures cause { HasChangeCause (S.faults space.old) (S.faults space.new) result }
 {
@@ -507,6 +522,8 @@ fn enter_entry<S: Space>(
     ensures blames { S.tells → IfErr result (BlamesEntry (S.state space.new)) }
     ensures untouched { S.tells → IfErr result
         (BlamesUntouched (S.state space.old) (S.state space.new)) }
+    ensures named { S.tells → IfSome held.now (λ _. HasDefinitions (S.state space.old).records)
+        → IfErr result (IfBlames (IsDefinitionOrList (S.state space.old))) }
     ensures onward { S.onward space.old space.new }
     ensures cause { HasChangeCause (S.faults space.old) (S.faults space.new) result }
 {

@@ -54,8 +54,7 @@ pub fn add_node<S: Space>(
     ensures still { S.tells → IfErr result (IsStillCaused (commands.Node label.now pairs.now)
         (S.state space.new) names.old.names names.new.names) }
     ensures damaged { S.tells → IfErr result
-        (BlamesEntries (S.state space.old) (S.state space.new)
-        (1 < maps.len (with_pairs no_properties pairs.now))) }
+        (BlamesEntries (S.state space.old) (S.state space.new)) }
     ensures counts { S.tells → IsStore (S.state space.old) names.old.names
         → IfErr result (IsCounted (S.state space.old)) }
     ensures full { IsStore (S.state space.old) names.old.names → IsFullOfNodes (S.state space.old)

@@ -11,8 +11,7 @@ ghost use Rattle.store_rules.specs.Writes.{WritesAtMost};
 ghost use Rattle.change_parts.specs.Causes.{IsCaused, IsStillCaused};
 ghost use Rattle.change_parts.specs.Change.{IsRefusal, IsSetCount, MakesChange};
 ghost use Rattle.change_parts.specs.ChangeFault.{HasChangeCause, LeavesSpace};
-ghost use Rattle.change_parts.specs.Damage.{BlamesGiven, BlamesUnset};
-ghost use Rattle.node_changes.specs.Entries.{HasValue};
+ghost use Rattle.change_parts.specs.Damage.{BlamesGiven, BlamesEntries};
 ghost use Rattle.change_parts.specs.Store.{IsStore, graph_in};
 
 use crate::entries::{change_entry, indexed_value, leave_entry};
@@ -46,8 +45,7 @@ pub fn set<S: Space>(
         names.old.names names.new.names) }
     ensures damaged { S.tells → IfErr result
         (BlamesGiven (S.state space.old)
-        (interned (S.state space.old) names.old.names key.now) (S.state space.new)
-        (HasValue (S.state space.old) target names.new.names key.now)) }
+        (interned (S.state space.old) names.old.names key.now) (S.state space.new)) }
     ensures counts { S.tells → IfErr result (IsSetCount (S.state space.old).shape) }
     ensures names_full { (used : List (List ℕ)) → UsesNames names.old.names (key.now ∷ []) used
         → most_names < length used → IsErr result }
@@ -90,7 +88,7 @@ pub fn unset<S: Space>(
     ensures still { S.tells → IfErr result (IsStillCaused (commands.Unset target key.now)
         (S.state space.new) names.now.names names.now.names) }
     ensures damaged { S.tells
-        → IfErr result (BlamesUnset (S.state space.old) (S.state space.new)) }
+        → IfErr result (BlamesEntries (S.state space.old) (S.state space.new)) }
     ensures leaves { IfErr result (LeavesSpace (S.state space.old) (S.state space.new)) }
     ensures light { IfOk result (λ weight. weight + start_weight ≤ most_weight) }
     ensures writes { IfOk result (λ weight.

@@ -100,8 +100,6 @@ outcome_takes outcomes.End d a b c new p f = elim p.is_part [
 outcome_takes outcomes.SourceFault d a b c new p f = drops_joined d p f
 outcome_takes outcomes.Exhausted d a b c new p f = drops_joined d p f
 
-module _ (tells : Type 0) (start now new : Reading) (left_start left : List ℕ) where
-
 -- a step further
 pub passed_on : (tells : Type 0) (start now new : Reading) (left_start left left_new : List ℕ) (d e : Bool) → Passed tells start left_start d now left
     → (tells → PassesPart d e (ahead now left) (ahead new left_new)) → StepCounts (steps.GoOn e) d now new → Passed tells start left_start e new left_new

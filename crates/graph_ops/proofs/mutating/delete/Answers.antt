@@ -2,7 +2,6 @@ use Rattle.std.proofs.Common.{ℕ, [], ◌∷◌, sym, subst}
 use Rattle.std.proofs.lemmas.Result.{IfErr-weaker}
 use Rattle.rec_bytes.specs.Space.{State}
 use Rattle.change_parts.specs.Damage.{BlamesEntries}
-use Rattle.node_changes.specs.Entries.{HasIndexes}
 use Rattle.node_changes.specs.NodeDeleting.{IsDeleteCause}
 use Rattle.change_parts.specs.declared.change_fault.ChangeFault.{ChangeFault}
 use Rattle.change_parts.specs.declared.change_fault.ChangeFault.TheVariants.{NoNode, NoEdge, HasRelationships, IndexThere}
@@ -51,7 +50,7 @@ returns-in-Edge-clause-still g c tells =
 
 -- ---- which record is blamed
 
-found_blames : (s t : State) (id : ℕ) (fault : ChangeFault) → IsDeleteCause s t id fault → BlamesEntries s t (HasIndexes s.records) fault
+found_blames : (s t : State) (id : ℕ) (fault : ChangeFault) → IsDeleteCause s t id fault → BlamesEntries s t fault
 found_blames s t id (NoNode missing) why = tt
 found_blames s t id (NoEdge missing) why = absurd why
 found_blames s t id (HasRelationships of degree) why = tt
@@ -70,7 +69,7 @@ returns-in-Node-clause-damaged g c tells =
     let s = g.S.Reads.state c.args.space.now in
     let t = g.S.Reads.state c.delete_node.new.space in
     subst (λ (target : Target). IfErr c.delete_node.result (BlamesDeletion s t target)) (sym c.in-Node.is)
-    (IfErr-weaker c.delete_node.result (IsDeleteCause s t c.in-Node.id) (BlamesEntries s t (HasIndexes s.records)) (found_blames s t c.in-Node.id) (c.delete_node.ensures.found tells))
+    (IfErr-weaker c.delete_node.result (IsDeleteCause s t c.in-Node.id) (BlamesEntries s t) (found_blames s t c.in-Node.id) (c.delete_node.ensures.found tells))
 
 pub returns-in-Edge-clause-damaged : goal.returns-in-Edge-clause-damaged
 returns-in-Edge-clause-damaged g c tells =

@@ -1,5 +1,5 @@
 use Rattle.std.specs.Prelude.{IfSome, Option}
-use Rattle.std.proofs.Common.{◌≡◌, ◌⊎◌, ◌+◌, ◌<◌, ℕ, true, false, None, Some, inl, map, ◌∙◌, subst, arith}
+use Rattle.std.proofs.Common.{◌≡◌, ◌⊎◌, ◌+◌, ◌<◌, ℕ, true, false, None, Some, inl, inr, map, ◌∙◌, subst, arith}
 use Rattle.plain_graph.specs.declared.value.Value.{Value}
 use Rattle.prop_index.specs.Listing.{pair_of}
 use Rattle.rec_bytes.specs.Space.{SameButReads, State}
@@ -9,11 +9,13 @@ use Rattle.prop_index.proofs.FillSteps.{elsewhere_of}
 use Rattle.prop_index.proofs.IndexTouches.{index_then}
 use Rattle.prop_index.proofs.LeftValues.{left-unwanted}
 use Rattle.change_parts.specs.ChangeFault.{IsFailure}
-use Rattle.change_parts.specs.Damage.{IfBlames, IsAsFound}
+use Rattle.change_parts.specs.Damage.{IfBlames, IsListOrFound}
 use Rattle.node_changes.specs.Entries.{IsEntryFault, IsEntryRefusal, IsEntryUndamaged, LacksHeld, WantsHeld, held_is_listed, old_weight, without_old}
 use Rattle.node_changes.specs.declared.entries.IndexedValue.{IndexedValue}
 use Rattle.change_parts.proofs.Broken.{blames_more}
-use Rattle.node_changes.proofs.EntriesFaults.{entry_refusal, fails_full, held_untouched, undamaged_outside}
+use Rattle.node_changes.proofs.EntriesFaults.{entry_refusal, fails_full, undamaged_outside}
+use Rattle.change_parts.proofs.Broken.{blames_both}
+use Rattle.node_changes.proofs.EntriesNamed.{held_still, named_found}
 use Rattle.node_changes.proofs.EntriesHeld.{on_bool, store_live}
 use Rattle.change_parts.proofs.Exits.{fault_exit}
 use Rattle.node_changes.proofs.entries.change_entry.Goals as goal
@@ -107,21 +109,20 @@ returns-in_err-entered-clause-refused g c tells wanted ix store wants low =
     (on_bool (held_is_listed pairs held) with_index no_index)
 
 -- ---- which record is blamed
-pub returns-in_err-left-clause-untouched : goal.returns-in_err-left-clause-untouched
-returns-in_err-left-clause-untouched g c tells =
+pub returns-in_err-left-clause-found : goal.returns-in_err-left-clause-found
+returns-in_err-left-clause-found g c tells has =
     let s = g.S.Reads.state c.args.space.now in
     let t = g.S.Reads.state c.leave_entry.new.space in
-    let held = c.args.held.now in
-    fault_exit (λ f. f) (IfBlames (λ damage. IsAsFound s t damage ⊎ (0 < old_weight held))) c.in_err-left.field-0.0 c.from_residual.result
-    c.from_residual.ensures.1
-    (blames_more _ _ (λ damage found. inl found) c.in_err-left.field-0.0 (c.in_err-left.ensures.untouched tells))
+    fault_exit (λ f. f) (IfBlames (IsListOrFound s t)) c.in_err-left.field-0.0 c.from_residual.result c.from_residual.ensures.1
+    (blames_more _ _ (λ damage found. inr found) c.in_err-left.field-0.0 (c.in_err-left.ensures.untouched tells))
 
-pub returns-in_err-entered-clause-untouched : goal.returns-in_err-entered-clause-untouched
-returns-in_err-entered-clause-untouched g c tells =
+pub returns-in_err-entered-clause-found : goal.returns-in_err-entered-clause-found
+returns-in_err-entered-clause-found g c tells has =
     let s = g.S.Reads.state c.args.space.now in
     let m = g.S.Reads.state c.leave_entry.new.space in
     let t = g.S.Reads.state c.enter_entry.new.space in
-    let held = c.args.held.now in
-    fault_exit (λ f. f) (IfBlames (λ damage. IsAsFound s t damage ⊎ (0 < old_weight held))) c.in_err-entered.field-0.0 c.from_residual-in_err-entered.result
-    c.from_residual-in_err-entered.ensures.1
-    (blames_more _ _ (λ damage found. held_untouched s m t (old_weight held) damage c.in_ok-left.ensures.calm found) c.in_err-entered.field-0.0 (c.in_err-entered.ensures.untouched tells))
+    let spared = c.in_ok-left.ensures.spares tells in
+    let fault = c.in_err-entered.field-0.0 in
+    fault_exit (λ f. f) (IfBlames (IsListOrFound s t)) fault c.from_residual-in_err-entered.result c.from_residual-in_err-entered.ensures.1
+    (blames_more _ _ (λ damage k. named_found s m t damage spared k.0 k.1) fault
+    (blames_both _ _ fault (c.in_err-entered.ensures.named tells (held_still s m c.args.held.now spared has)) (c.in_err-entered.ensures.untouched tells)))

@@ -6,7 +6,10 @@ use Rattle.rec_bytes.specs.Format.{nodes_file}
 use Rattle.store_rules.specs.Indexes.{AreIndexed}
 use Rattle.store_rules.specs.Views.{high}
 use Rattle.change_parts.specs.ChangeFault.{IsFailure, of_take}
-use Rattle.change_parts.specs.Damage.{BlamesEntry, BlamesUntouched}
+use Rattle.change_parts.specs.Damage.{BlamesEntry, BlamesUntouched, IfBlames}
+use Rattle.prop_index.specs.Naming.{IsDefinitionOrList}
+use Rattle.store_rules.specs.IndexBreaking.{HasDefinitions}
+use Rattle.node_changes.proofs.EntriesNamed.{take_named}
 use Rattle.node_changes.specs.Entries.{IsEntryFault, IsEntryUndamaged, LacksHeld, held_is_listed, with_new}
 use Rattle.node_changes.specs.declared.entries.IndexedValue.{IndexedValue}
 use Rattle.node_changes.proofs.EntriesFaults.{take_blames, take_fails, take_full, take_undamaged, take_untouched}
@@ -63,3 +66,10 @@ returns-in_err-enter-clause-unlisted g c tells wanted ix none =
     fault_exit of_take IsFailure c.in_err-enter.field-0.0 c.from_residual.result c.from_residual.ensures.1
     (take_fails c.in_err-enter.field-0.0 (c.in_err-enter.ensures.unlisted tells wanted ix
     (no_definition s.records ix.definitions held.label held.key (sym (ap (held_is_listed (map (pair_of s.records) ix.definitions)) c.in-Some.is) ∙ none))))
+
+pub returns-in_err-enter-clause-named : goal.returns-in_err-enter-clause-named
+returns-in_err-enter-clause-named g c tells has =
+    let s = g.S.Reads.state c.args.space.now in
+    let h = subst (λ (o : Option IndexedValue). IfSome o (λ _. HasDefinitions s.records)) c.in-Some.is has in
+    fault_exit of_take (IfBlames (IsDefinitionOrList s)) c.in_err-enter.field-0.0 c.from_residual.result c.from_residual.ensures.1
+    (take_named s c.in_err-enter.field-0.0 (c.in_err-enter.ensures.listed tells h.members h.list))

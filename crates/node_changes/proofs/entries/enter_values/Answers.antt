@@ -12,12 +12,15 @@ use Rattle.rec_bytes.specs.Space.{meta_of}
 use Rattle.rec_bytes.specs.declared.shape.Shape.{Shape}
 use Rattle.change_parts.specs.Assigning.{pair_at}
 use Rattle.change_parts.specs.ChangeFault.{IsOutside, of_take}
-use Rattle.change_parts.specs.Damage.{BlamesEntry, IfBlames, IsAsFound}
+use Rattle.change_parts.specs.Damage.{BlamesEntry, IfBlames, IsListOrFound}
 use Rattle.change_parts.proofs.Broken.{blames_more}
 use Rattle.node_changes.specs.Entries.{IsEntryFault, indexed_of, is_listed}
 use Rattle.change_parts.specs.declared.assigning.Assignment.{Assignment}
 use Rattle.node_changes.proofs.EntriesMade.{IsEntering, count_few, count_more, entered_all, entered_lacks, entered_more, entered_none, entered_skip}
-use Rattle.node_changes.proofs.EntriesFaults.{first_untouched, take_blames, take_full, take_outside, take_untouched}
+use Rattle.node_changes.proofs.EntriesFaults.{take_blames, take_full, take_outside, take_untouched}
+use Rattle.change_parts.proofs.Broken.{blames_both}
+use Rattle.node_changes.proofs.EntriesNamed.{listed_some, named_found, still_has, take_named}
+use Rattle.prop_index.proofs.Sparing.{spares_none, spares_then}
 use Rattle.change_parts.proofs.Exits.{fault_exit}
 use Rattle.rec_bytes.proofs.Causes.{never_ok, ok_cause}
 use Rattle.node_changes.proofs.entries.enter_values.Goals as goal
@@ -30,7 +33,7 @@ loop-assignment-init g c =
       entered = λ tells wanted right low lacks once. (entered_none c.args.listed.now c.args.label c.args.node c.args.pairs.now wanted c.args.assigned.now s.records right.indexed right.are, right.kept, refl);
       counted = λ tells. omega arith;
       touched = record { ids = []; few = omega arith; only = record { writes = record { each = λ q w. inl w }; stays = λ told. record { each = λ q. inl refl } } };
-      first = λ _. refl;
+      spared = λ tells. spares_none s s refl;
       onward_is = g.met.S.Reads.stays_onward c.args.space.now;
       later = omega arith;
     }
@@ -72,7 +75,7 @@ loop-assignment-preserved g c =
             counted = λ tells. let before = inv.counted tells in let one = w.in_ok-enter.ensures.counted tells in omega (arith, before, one, count);
             touched = index_then (3 * length (indexed_of listed label (take i assigned))) 3 (3 * length (indexed_of listed label (take (i + 1) assigned))) s m t
                 (omega (arith, count)) inv.touched w.enter.ensures.touches;
-            first = λ e. absurd (omega (arith, e));
+            spared = λ tells. spares_then s m t (inv.spared tells) (w.in_ok-enter.ensures.spares tells);
             onward_is = g.met.S.Reads.further_onward _ _ _ inv.onward_is w.enter.ensures.onward;
             later = let a = inv.later in let b = w.enter.ensures.cause.later in omega arith;
           })
@@ -86,7 +89,7 @@ loop-assignment-preserved g c =
                 (entered_skip listed label node pairs wanted assigned i d lt none m.records was.0, was.1, was.2);
             counted = λ tells. let before = inv.counted tells in omega (arith, before, count);
             touched = record { ids = inv.touched.ids; few = let few = inv.touched.few in omega (arith, few, count); only = inv.touched.only };
-            first = λ e. absurd (omega (arith, e));
+            spared = inv.spared;
             onward_is = inv.onward_is;
             later = inv.later;
           })
@@ -128,16 +131,18 @@ returns-in_err-enter-clause-blames g c tells =
     fault_exit of_take (BlamesEntry t) c.in_err-enter.field-0.0 c.from_residual.result c.from_residual.ensures.1
     (take_blames t c.in_err-enter.field-0.0 (c.in_err-enter.ensures.still tells) (c.in_err-enter.ensures.names tells))
 
-pub returns-in_err-enter-clause-untouched : goal.returns-in_err-enter-clause-untouched
-returns-in_err-enter-clause-untouched g c tells =
+pub returns-in_err-enter-clause-found : goal.returns-in_err-enter-clause-found
+returns-in_err-enter-clause-found g c tells has =
     let s = g.S.Reads.state c.args.space.now in
     let m = g.S.Reads.state c.loop-assignment.space in
     let t = g.S.Reads.state c.enter.new.space in
-    let count = length c.args.assigned.now in
+    let spared = c.loop-assignment.invariant.spared tells in
     let fault = c.in_err-enter.field-0.0 in
-    fault_exit of_take (IfBlames (λ damage. IsAsFound s t damage ⊎ (1 < count))) fault c.from_residual.result c.from_residual.ensures.1
-    (blames_more _ _ (λ damage found. first_untouched s m t c.loop-assignment.assignment-index count damage c.loop-assignment-test.true c.loop-assignment.invariant.first found) (of_take fault)
-    (take_untouched m t fault c.in_err-enter.ensures.unwritten))
+    let there = sym c.has_pair.ensures ∙ c.if-has_pair.true in
+    let h = still_has s m spared (has (listed_some c.args.listed.now c.args.label _ there)) in
+    fault_exit of_take (IfBlames (IsListOrFound s t)) fault c.from_residual.result c.from_residual.ensures.1
+    (blames_more _ _ (λ damage k. named_found s m t damage spared k.0 k.1) (of_take fault)
+    (blames_both _ _ (of_take fault) (take_named m fault (c.in_err-enter.ensures.listed tells h.members h.list)) (take_untouched m t fault c.in_err-enter.ensures.unwritten)))
 
 pub returns-in_err-enter-clause-touches : goal.returns-in_err-enter-clause-touches
 returns-in_err-enter-clause-touches g c =

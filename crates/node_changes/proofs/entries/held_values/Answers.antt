@@ -33,7 +33,7 @@ loop-pair-init g c =
       pairs = omega (arith, few, ap length items);
       within = omega arith;
       few = let none = ap length c.new-held.ensures.items in omega (arith, none);
-      several = λ tells more. c.in_ok-listed.ensures.several tells (let len = ap length items in omega (arith, more, len));
+      walked = λ tells more. c.in_ok-listed.ensures.walked tells (let len = ap length items in omega (arith, more, len));
       same = reads_same 17 s b c.listed_pairs.ensures.reads;
       onward = c.listed_pairs.ensures.onward;
       later = c.listed_pairs.ensures.cause.later;
@@ -59,7 +59,7 @@ loop-pair-preserved g c =
           let here : c.in_ok-value.value ≡ held_at s.records label node (get_or listed i none) = c.in_ok-value.ensures.held tells in_use labelled
           ∙ ap (λ (z : State). held_at z.records label node (get_or listed i none)) inv.same in
           c.in_ok-hold.ensures.held ∙ (λ k. before k ++ option_list (here k)) ∙ sym (held_more s.records label node listed i none lt);
-      several = inv.several;
+      walked = inv.walked;
       listed = inv.listed;
       pairs = inv.pairs;
       within = omega (arith, lt);
@@ -162,10 +162,10 @@ returns-in_err-hold-clause-few g c = never_ok c.from_residual-in_err-hold.result
 pub returns-clause-cause : goal.returns-clause-cause
 returns-clause-cause g c = ok_cause _ _ _ _ c.loop-pair.invariant.later
 
--- ---- two indexes or more
-pub returns-clause-several : goal.returns-clause-several
-returns-clause-several g c tells more =
+-- ---- the definitions
+pub returns-clause-walked : goal.returns-clause-walked
+returns-clause-walked g c tells more =
     let inv = c.loop-pair.invariant in
     let few = inv.few in
     let within = inv.within in
-    inv.several tells (omega (arith, more, few, within))
+    inv.walked tells (omega (arith, more, few, within))

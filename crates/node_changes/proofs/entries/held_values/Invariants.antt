@@ -5,7 +5,8 @@ use Rattle.rec_bytes.specs.Space.{SameButReads}
 use Rattle.store_rules.specs.Indexes.{IsIndexed}
 use Rattle.store_rules.specs.Views.{kind_at, rec_at}
 use Rattle.prop_index.specs.Listing.{pair_of}
-use Rattle.node_changes.specs.Entries.{HasIndexes, held_of}
+use Rattle.store_rules.specs.IndexBreaking.{HasDefinitions}
+use Rattle.node_changes.specs.Entries.{held_of}
 use Rattle.node_changes.proofs.entries.held_values.Given as goal
 
 abbrev pub invariant-loop-pair : goal.invariant-loop-pair
@@ -19,7 +20,7 @@ invariant-loop-pair g l =
       pairs : length l.pair-items ≤ 16;
       within : l.pair-index ≤ length l.pair-items;
       few : length l.held.items ≤ l.pair-index;
-      several : g.R.Reads.tells → 1 < length l.pair-items → HasIndexes old.records;
+      walked : g.R.Reads.tells → 0 < length l.pair-items → HasDefinitions old.records;
       same : SameButReads old now;
       onward : g.R.Reads.onward l.fn.space l.space;
       later : g.R.Reads.faults l.fn.space ≤ g.R.Reads.faults l.space;

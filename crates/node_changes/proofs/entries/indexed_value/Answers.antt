@@ -27,6 +27,7 @@ use Rattle.node_changes.proofs.Broken.{read_broken}
 use Rattle.node_changes.proofs.EntriesFaults.{row_outside}
 use Rattle.node_changes.proofs.EntriesGone.{eq_of, own_met, owner_known}
 use Rattle.node_changes.proofs.EntriesHeld.{none_of}
+use Rattle.node_changes.proofs.EntriesNamed.{listed_some}
 use Rattle.change_parts.proofs.Exits.{fault_exit, fault_outside}
 use Rattle.rec_bytes.proofs.Causes.{never_ok, ok_cause}
 use Rattle.change_parts.proofs.DiskCauses.{later_on}
@@ -238,3 +239,9 @@ returns-clause-met g c tells =
     c.in_ok-value.ensures.met tells
     ∙ ap (λ (o : Owner). value_of (properties_met n.records o) c.args.key) (c.node_owner.ensures ∙ ap owner_of (sym c.in-Node.is))
     ∙ ap (λ (z : State). value_of (properties_met z.records (owner_of c.args.target)) c.args.key) same
+
+pub returns-clause-walked : goal.returns-clause-walked
+returns-clause-walked g c tells =
+    let label = c.in-Some.row.label in
+    c.in_ok-listed.ensures.walked tells (listed_some c.in_ok-listed.listed.items label c.args.key
+    (ap (λ (pairs : List IndexPair). is_listed pairs label c.args.key) (sym c.deref.ensures.value) ∙ sym c.has_pair.ensures ∙ c.if-not-has_pair.false))

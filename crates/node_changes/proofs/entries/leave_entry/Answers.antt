@@ -1,4 +1,8 @@
-use Rattle.std.proofs.Common.{map, ap, sym, ◌∙◌, subst, arith}
+use Rattle.std.specs.Prelude.{IfSome, Option}
+use Rattle.std.proofs.Common.{map, ap, refl, sym, ◌∙◌, subst, arith}
+use Rattle.store_rules.specs.IndexBreaking.{HasDefinitions}
+use Rattle.prop_index.proofs.Sparing.{spares_none}
+use Rattle.node_changes.specs.declared.entries.IndexedValue.{IndexedValue}
 use Rattle.prop_index.specs.Listing.{pair_of}
 use Rattle.node_changes.specs.Entries.{WantsHeld, held_is_listed, old_weight}
 use Rattle.node_changes.proofs.entries.leave_entry.Goals as goal
@@ -20,3 +24,11 @@ returns-in-Some-clause-unlisted g c tells wanted ix none =
 
 pub returns-in-Some-clause-calm : goal.returns-in-Some-clause-calm
 returns-in-Some-clause-calm g c none = let weight = ap old_weight c.in-Some.is in c.leave_held.ensures.calm (omega (arith, weight, none))
+
+pub returns-in-Some-clause-named : goal.returns-in-Some-clause-named
+returns-in-Some-clause-named g c tells has =
+    let s = g.S.Reads.state c.args.space.now in
+    c.leave_held.ensures.named tells (subst (λ (o : Option IndexedValue). IfSome o (λ _. HasDefinitions s.records)) c.in-Some.is has)
+
+pub returns-in-None-clause-spares : goal.returns-in-None-clause-spares
+returns-in-None-clause-spares g c tells = spares_none _ _ refl

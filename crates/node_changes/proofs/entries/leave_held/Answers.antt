@@ -8,7 +8,10 @@ use Rattle.store_rules.specs.IndexChange.{without_value}
 use Rattle.store_rules.specs.Indexes.{AreIndexed, has_hash}
 use Rattle.store_rules.proofs.NumberLaws.{eq_true}
 use Rattle.change_parts.specs.ChangeFault.{IsOutside, of_fault}
-use Rattle.change_parts.specs.Damage.{BlamesEntry, BlamesUntouched}
+use Rattle.change_parts.specs.Damage.{BlamesEntry, BlamesUntouched, IfBlames}
+use Rattle.prop_index.specs.Naming.{IsDefinitionOrList}
+use Rattle.prop_index.proofs.Sparing.{spares_none}
+use Rattle.node_changes.proofs.EntriesNamed.{fault_named}
 use Rattle.node_changes.specs.Entries.{value_weight}
 use Rattle.node_changes.proofs.EntriesFaults.{fault_blames, fault_untouched}
 use Rattle.node_changes.proofs.EntriesHeld.{definition_of, no_definition, some_live}
@@ -102,3 +105,15 @@ returns-in_err-leave-clause-onward g c = search rules
 
 pub returns-clause-cause : goal.returns-clause-cause
 returns-clause-cause g c = ok_cause _ _ _ _ c.in_ok-leave.ensures.cause.later
+
+pub returns-in_err-leave-clause-named : goal.returns-in_err-leave-clause-named
+returns-in_err-leave-clause-named g c tells has =
+    let s = g.S.Reads.state c.args.space.now in
+    fault_exit of_fault (IfBlames (IsDefinitionOrList s)) c.in_err-leave.field-0.0 c.from_residual.result c.from_residual.ensures.1
+    (fault_named s c.in_err-leave.field-0.0 (c.in_err-leave.ensures.listed tells has.members has.list))
+
+pub returns-in_err-leave-clause-spares : goal.returns-in_err-leave-clause-spares
+returns-in_err-leave-clause-spares g c _ = never_ok c.from_residual.result _ _ c.from_residual.ensures.1
+
+pub returns-in_default-clause-spares : goal.returns-in_default-clause-spares
+returns-in_default-clause-spares g c tells = spares_none _ _ refl

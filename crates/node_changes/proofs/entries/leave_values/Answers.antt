@@ -8,9 +8,11 @@ use Rattle.node_changes.specs.Entries.{held_weight, old_weight, without_held, wi
 use Rattle.node_changes.specs.declared.entries.IndexedValue.{IndexedValue}
 use Rattle.change_parts.proofs.DiskCauses.{change_cause_passed}
 use Rattle.node_changes.proofs.EntriesHeld.{without_more}
-use Rattle.change_parts.specs.Damage.{IfBlames, IsAsFound}
+use Rattle.change_parts.specs.Damage.{IfBlames, IsListOrFound}
 use Rattle.change_parts.proofs.Broken.{blames_more}
-use Rattle.node_changes.proofs.EntriesFaults.{first_untouched}
+use Rattle.change_parts.proofs.Broken.{blames_both}
+use Rattle.node_changes.proofs.EntriesNamed.{named_found, still_has}
+use Rattle.prop_index.proofs.Sparing.{spares_none, spares_then}
 use Rattle.change_parts.proofs.Exits.{fault_exit}
 use Rattle.rec_bytes.proofs.Causes.{never_ok, ok_cause}
 use Rattle.node_changes.proofs.entries.leave_values.Goals as goal
@@ -20,7 +22,7 @@ loop-value-init g c = record {
   left = λ tells wanted ix store. (ix, store, refl);
   within = omega arith;
   few = omega arith;
-  first = λ _. refl;
+  spared = λ tells. spares_none _ _ refl;
   weighs = refl;
   touched = record { ids = []; few = omega arith; only = record { writes = record { each = λ q w. inl w }; stays = λ told. record { each = λ q. inl refl } } };
   onward = g.met.S.Reads.stays_onward c.args.space.now;
@@ -49,7 +51,7 @@ loop-value-preserved g c =
           );
       within = omega (arith, lt);
       few = let a = inv.few in let b = c.in_ok-more.ensures.few in omega arith;
-      first = λ e. absurd (omega (arith, e));
+      spared = λ tells. spares_then s m t (inv.spared tells) (c.in_ok-more.ensures.spares tells);
       weighs =
           let before = inv.weighs in
           let here = c.in_ok-more.ensures.weight ∙ ap (λ (h : IndexedValue). old_weight (Some h)) item in
@@ -66,15 +68,17 @@ returns-in_err-more-clause-sound g c tells wanted ix store =
     let was = c.loop-value.invariant.left tells wanted ix store in
     fault_exit (λ f. f) IsOutside c.in_err-more.field-0.0 c.from_residual.result c.from_residual.ensures.1 (c.in_err-more.ensures.sound tells _ was.0 was.1)
 
-pub returns-in_err-more-clause-untouched : goal.returns-in_err-more-clause-untouched
-returns-in_err-more-clause-untouched g c tells =
+pub returns-in_err-more-clause-found : goal.returns-in_err-more-clause-found
+returns-in_err-more-clause-found g c tells has =
     let s = g.S.Reads.state c.args.space.now in
     let m = g.S.Reads.state c.loop-value.space in
     let t = g.S.Reads.state c.leave_held.new.space in
-    let count = length c.args.held.now in
+    let spared = c.loop-value.invariant.spared tells in
     let fault = c.in_err-more.field-0.0 in
-    fault_exit (λ f. f) (IfBlames (λ damage. IsAsFound s t damage ⊎ (1 < count))) fault c.from_residual.result c.from_residual.ensures.1
-    (blames_more _ _ (λ damage found. first_untouched s m t c.loop-value.value-index count damage c.loop-value-test.true c.loop-value.invariant.first found) fault (c.in_err-more.ensures.untouched tells))
+    let h = still_has s m spared (has (omega (arith, c.loop-value-test.true))) in
+    fault_exit (λ f. f) (IfBlames (IsListOrFound s t)) fault c.from_residual.result c.from_residual.ensures.1
+    (blames_more _ _ (λ damage k. named_found s m t damage spared k.0 k.1) fault
+    (blames_both _ _ fault (c.in_err-more.ensures.named tells h) (c.in_err-more.ensures.untouched tells)))
 
 pub returns-in_err-more-clause-at_most : goal.returns-in_err-more-clause-at_most
 returns-in_err-more-clause-at_most g c =

@@ -2,6 +2,7 @@ use Rattle.std.proofs.Common.{◌≡◌, ◌≤◌, ◌*◌, length, take}
 use Rattle.store_rules.specs.Graph.{indexes_of}
 use Rattle.store_rules.specs.Indexes.{AreIndexed, Entries}
 use Rattle.prop_index.specs.Reading.{KeepsStore}
+use Rattle.prop_index.specs.Sparing.{SparesDefinitions}
 use Rattle.prop_index.specs.Touching.{TouchesIndex}
 use Rattle.node_changes.specs.Entries.{held_weight, without_held}
 use Rattle.node_changes.proofs.entries.leave_values.Given as goal
@@ -15,7 +16,7 @@ invariant-loop-value g l =
           → AreIndexed now.records (without_held wanted (take l.value-index l.held)) × KeepsStore now × (indexes_of now.records ≡ indexes_of old.records);
       within : l.value-index ≤ length l.held;
       few : l.weight ≤ 3 * l.value-index;
-      first : l.value-index ≡ 0 → now ≡ old;
+      spared : g.S.Reads.tells → SparesDefinitions old now;
       weighs : l.weight ≡ held_weight (take l.value-index l.held);
       touched : TouchesIndex g.S.Reads.tells l.weight old now;
       onward : g.S.Reads.onward l.fn.space l.space;

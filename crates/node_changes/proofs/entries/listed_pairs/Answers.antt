@@ -70,14 +70,16 @@ returns-in_err-pairs-clause-onward g c = search rules
 pub returns-clause-cause : goal.returns-clause-cause
 returns-clause-cause g c = ok_cause _ _ _ _ c.in_ok-pairs.ensures.cause.later
 
--- ---- two indexes or more
-pub returns-clause-several : goal.returns-clause-several
-returns-clause-several g c tells more =
+-- ---- the definitions
+pub returns-clause-walked : goal.returns-clause-walked
+returns-clause-walked g c tells some =
     let met = c.in_ok-pairs.ensures.walked tells in
-    record { definitions = met.definitions; walk = met.walk; several = let len = ap length met.pairs_are ∙ length-map met.definitions (pair_of (g.R.Reads.state c.args.space.now).records) in omega (arith, more, len) }
+    let few = c.in_ok-pairs.ensures.few in
+    let len = ap length met.pairs_are ∙ length-map met.definitions (pair_of (g.R.Reads.state c.args.space.now).records) in
+    record { members = met.definitions; list = record { walk = met.walk; few = omega (arith, few, len); defined = met.defined } }
 
-pub returns-then-meta-eq0-clause-several : goal.returns-then-meta-eq0-clause-several
-returns-then-meta-eq0-clause-several g c tells more = absurd (let none = ap length c.new.ensures.items in omega (arith, more, none))
+pub returns-then-meta-eq0-clause-walked : goal.returns-then-meta-eq0-clause-walked
+returns-then-meta-eq0-clause-walked g c tells some = absurd (let none = ap length c.new.ensures.items in omega (arith, some, none))
 
-pub returns-in_err-pairs-clause-several : goal.returns-in_err-pairs-clause-several
-returns-in_err-pairs-clause-several g c _ = never_ok c.from_residual.result _ _ c.from_residual.ensures.1
+pub returns-in_err-pairs-clause-walked : goal.returns-in_err-pairs-clause-walked
+returns-in_err-pairs-clause-walked g c _ = never_ok c.from_residual.result _ _ c.from_residual.ensures.1

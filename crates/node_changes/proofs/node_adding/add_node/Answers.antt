@@ -41,7 +41,8 @@ use Rattle.store_rules.specs.Views.{Records}
 use Rattle.change_parts.specs.Causes.{AsksRoom, IsCaused, IsStillCaused}
 use Rattle.change_parts.proofs.Causes.{broken_left, failure_caused, line_node, put_caused, room_caused}
 use Rattle.node_changes.proofs.EntriesFaults.{entry_caused}
-use Rattle.change_parts.specs.Damage.{BlamesEntries, IsAsFound, IsBroken, IsOfIndex, KeepsButNames}
+use Rattle.node_changes.proofs.EntriesNamed.{found_before, some_leaves}
+use Rattle.change_parts.specs.Damage.{BlamesEntries, LeavesIndexes, IsAsFound, IsBroken, IsOfIndex, KeepsButNames}
 use Rattle.node_changes.proofs.EntriesFaults.{names_leave, other_leaves}
 use Rattle.change_parts.proofs.Adding.{index_beside, line_blamed, lists_before, lists_broken, names_harm_no_lists}
 use Rattle.change_parts.proofs.Adding.{no_lists_then, node_damage, node_harms_no_lists, room_blamed}
@@ -192,7 +193,7 @@ returns-in_err-listed-clause-damaged g c tells =
     let u = g.S.Reads.state c.listed_pairs.new.space in
     let after = (goal.at.returns-in_err-listed-clause-damaged g c).After-listed_pairs in
     let fault = c.in_err-listed.field-0.0 in
-    fault_exit (λ f. f) (BlamesEntries s u (1 < maps.len (with_pairs no_properties c.args.pairs.now))) c.in_err-listed.field-0.0
+    fault_exit (λ f. f) (BlamesEntries s u) c.in_err-listed.field-0.0
     c.from_residual-in_err-listed.result c.from_residual-in_err-listed.ensures.1
     (blames_more _ _ (λ damage k. inr ((k.0, subst (λ (y : State). IsBroken y damage) (sym c.listed_pairs.ensures.same) k.1), inl (names_leave s u (beside_names g after tells) damage k.0))) fault (blames_both IsOfIndex (IsBroken z) fault (c.in_err-listed.ensures.names tells) (c.in_err-listed.ensures.damaged tells)))
 
@@ -275,7 +276,7 @@ pub returns-in_err-test_room-2-clause-damaged : goal.returns-in_err-test_room-2-
 returns-in_err-test_room-2-clause-damaged g c tells =
     let s = g.S.Reads.state c.args.space.now in
     let u = g.S.Reads.state c.listed_pairs.new.space in
-    fault_exit (λ f. f) (BlamesEntries s u (1 < maps.len (with_pairs no_properties c.args.pairs.now))) c.in_err-test_room-2.field-0.0
+    fault_exit (λ f. f) (BlamesEntries s u) c.in_err-test_room-2.field-0.0
     c.from_residual-in_err-test_room-2.result c.from_residual-in_err-test_room-2.ensures.1
     (room_blamed _ u format.index_file c.entry_count-entries.result c.in_err-test_room-2.field-0.0 c.in_err-test_room-2.ensures.full)
 
@@ -500,28 +501,22 @@ pub returns-in_err-enter_values-clause-damaged : goal.returns-in_err-enter_value
 returns-in_err-enter_values-clause-damaged g c tells =
     let after = (goal.at.After-enter_values g (goal.at.returns-in_err-enter_values-clause-damaged g c).After-enter_values).After-listed_pairs in
     let s = g.S.Reads.state c.args.space.now in
+    let p = g.S.Reads.state c.prepare.new.space in
     let u = g.S.Reads.state c.listed_pairs.new.space in
     let v = g.S.Reads.state c.put_node.new.space in
     let w = g.S.Reads.state c.put_properties.new.space in
     let x = g.S.Reads.state c.enter_values.new.space in
     let fault = c.in_err-enter_values.field-0.0 in
-    fault_exit (λ f. f) (BlamesEntries s x (1 < maps.len (with_pairs no_properties c.args.pairs.now))) fault c.from_residual-in_err-enter_values.result
-    c.from_residual-in_err-enter_values.ensures.1
-    (blames_more _ _ (λ damage told.
-    let left : IsAsFound s w damage = c.in_ok-put_properties.ensures.beside tells damage told.0.0
-    ∙ other_leaves u v format.nodes_file (λ e. omega arith) (λ e. omega arith) (c.in_ok-id.ensures.beside tells) damage told.0.0
-    ∙ names_leave s u (beside_names g after tells) damage told.0.0 in
-    inr (
-      told.0,
-      ⊎_elim (λ found. inl (found ∙ left)) (λ more. inr (⊎_elim
-          (λ (k : (format.properties_file ≡ format.properties_file) × (length c.in_ok-prepared.prepared.assigned.items ≡ maps.len (with_pairs no_properties c.as_slice-pairs.result.now))).
-          let same = ap length c.deref-5.ensures.0 in
-          let len = k.1 in
-          let slice = ap (λ l. maps.len (with_pairs no_properties l)) c.as_slice-pairs.ensures in
-          omega (arith, more, same, len, slice))
-          (λ (k : (format.properties_file ≡ format.strings_file) × (length c.in_ok-prepared.prepared.assigned.items ≡ blocks_in (with_pairs no_properties c.as_slice-pairs.result.now))). absurd (omega (arith, k.0))) c.in_ok-prepared.ensures.needs.0)) told.1,
-    )) fault
-    (blames_both _ _ fault (c.in_err-enter_values.ensures.blames tells) (c.in_err-enter_values.ensures.untouched tells)))
+    let later : LeavesIndexes u w = λ damage of. c.in_ok-put_properties.ensures.beside tells damage of
+    ∙ other_leaves u v format.nodes_file (λ e. omega arith) (λ e. omega arith) (c.in_ok-id.ensures.beside tells) damage of in
+    let left : LeavesIndexes s w = λ damage of. later damage of ∙ names_leave s u (beside_names g after tells) damage of in
+    let shape : w.shape ≡ s.shape = g.met.S.Reads.onward_shape _ _ c.put_properties.ensures.onward
+    ∙ g.met.S.Reads.onward_shape _ _ c.put_node.ensures.onward ∙ same_shape g after in
+    let from : LeavesIndexes p w = λ damage of. later damage of ∙ ap (λ (z : State). z.records (key_in damage.file damage.id)) c.listed_pairs.ensures.same in
+    let has = some_leaves p w (0 < length c.deref.result.now) from (λ some. c.in_ok-listed.ensures.walked tells some) in
+    fault_exit (λ f. f) (BlamesEntries s x) fault c.from_residual-in_err-enter_values.result c.from_residual-in_err-enter_values.ensures.1
+    (blames_more _ _ (λ damage told. found_before s w x damage left shape told.0 told.1) fault
+    (blames_both _ _ fault (c.in_err-enter_values.ensures.blames tells) (c.in_err-enter_values.ensures.found tells has)))
 
 pub returns-in_err-enter_values-clause-refused_writes : goal.returns-in_err-enter_values-clause-refused_writes
 returns-in_err-enter_values-clause-refused_writes g c =
@@ -719,14 +714,14 @@ returns-in_err-put_properties-clause-caused g c tells =
 pub returns-in_err-test_room-clause-damaged : goal.returns-in_err-test_room-clause-damaged
 returns-in_err-test_room-clause-damaged g c tells =
     let s = g.S.Reads.state c.args.space.now in
-    fault_exit (λ f. f) (BlamesEntries s s (1 < maps.len (with_pairs no_properties c.args.pairs.now))) c.in_err-test_room.field-0.0 c.from_residual.result
+    fault_exit (λ f. f) (BlamesEntries s s) c.in_err-test_room.field-0.0 c.from_residual.result
     c.from_residual.ensures.1
     (room_blamed _ s format.nodes_file 1 c.in_err-test_room.field-0.0 c.in_err-test_room.ensures.full)
 
 pub returns-in_err-prepared-clause-damaged : goal.returns-in_err-prepared-clause-damaged
 returns-in_err-prepared-clause-damaged g c tells =
     let s = g.S.Reads.state c.args.space.now in
-    fault_exit (λ f. f) (BlamesEntries s (g.S.Reads.state c.prepare.new.space) (1 < maps.len (with_pairs no_properties c.args.pairs.now)))
+    fault_exit (λ f. f) (BlamesEntries s (g.S.Reads.state c.prepare.new.space))
     c.in_err-prepared.field-0.0 c.from_residual-in_err-prepared.result c.from_residual-in_err-prepared.ensures.1
     (line_blamed _ s c.args.names.now.names c.args.label.now c.as_slice-pairs.result.now c.in_err-prepared.field-0.0 (c.in_err-prepared.ensures.caused tells))
 
@@ -735,7 +730,7 @@ returns-in_err-id-clause-damaged g c tells =
     let s = g.S.Reads.state c.args.space.now in
     let u = g.S.Reads.state c.listed_pairs.new.space in
     let after = (goal.at.returns-in_err-id-clause-damaged g c).After-listed_pairs in
-    fault_exit (λ f. f) (BlamesEntries s (g.S.Reads.state c.put_node.new.space) (1 < maps.len (with_pairs no_properties c.args.pairs.now)))
+    fault_exit (λ f. f) (BlamesEntries s (g.S.Reads.state c.put_node.new.space))
     c.in_err-id.field-0.0 c.from_residual-in_err-id.result c.from_residual-in_err-id.ensures.1
     (blames_more _ _ (λ damage told. inl (node_damage s u (same_shape g after) (beside_names g after tells) damage told)) c.in_err-id.field-0.0 (c.in_err-id.ensures.damaged tells))
 
@@ -747,7 +742,7 @@ returns-in_err-put_properties-clause-damaged g c tells =
     let v = g.S.Reads.state c.put_node.new.space in
     let harmless = no_lists_then s u v (names_harm_no_lists s u (same_shape g after) (beside_names g after tells))
     (node_harms_no_lists u v (g.met.S.Reads.onward_shape _ _ c.put_node.ensures.onward) (c.in_ok-id.ensures.beside tells)) in
-    fault_exit (λ f. f) (BlamesEntries s (g.S.Reads.state c.put_properties.new.space) (1 < maps.len (with_pairs no_properties c.args.pairs.now)))
+    fault_exit (λ f. f) (BlamesEntries s (g.S.Reads.state c.put_properties.new.space))
     c.in_err-put_properties.field-0.0 c.from_residual-in_err-put_properties.result c.from_residual-in_err-put_properties.ensures.1
     (blames_more _ _ (λ damage told. inl (lists_broken s damage (lists_before s v harmless damage told))) c.in_err-put_properties.field-0.0 (c.in_err-put_properties.ensures.damaged tells))
 

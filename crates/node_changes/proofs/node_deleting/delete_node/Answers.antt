@@ -1,4 +1,4 @@
-use Rattle.std.proofs.Common.{◌≡◌, ◌≢◌, ◌∙◌, ℕ, ◌+◌, Some, List, [], ◌∷◌, length, map, sym, ap, subst, inl, inr, ⊎_elim, arith, refl, rules}
+use Rattle.std.proofs.Common.{◌<◌, ◌≡◌, ◌≢◌, ◌∙◌, ℕ, ◌+◌, Some, List, [], ◌∷◌, length, map, sym, ap, subst, inl, inr, ⊎_elim, arith, refl, rules}
 use Rattle.plain_graph.specs.Reply.{Done}
 use Rattle.plain_graph.specs.declared.command.Command.TheVariants as commands
 use Rattle.plain_graph.specs.declared.command.Target.TheVariants as targets
@@ -47,8 +47,9 @@ use Rattle.node_changes.proofs.IndexBeside.{index_written, touched_beside}
 use Rattle.change_parts.proofs.KeptIndexes.{whole_read}
 use Rattle.node_changes.proofs.LiveIndexes.{node_owned}
 use Rattle.node_changes.proofs.NodeGone.{gone_between, gone_kinds, gone_left, gone_made, label_found}
-use Rattle.change_parts.specs.Damage.{BlamesBroken, IsAsFound, IsBroken}
-use Rattle.node_changes.specs.Entries.{HasIndexes, held_of}
+use Rattle.change_parts.specs.Damage.{BlamesBroken, IsBroken, LeavesIndexes}
+use Rattle.node_changes.proofs.EntriesNamed.{found_before, some_leaves}
+use Rattle.node_changes.specs.Entries.{held_of}
 use Rattle.node_changes.proofs.EntriesFaults.{given_beside, other_leaves, owner_file, reads_leave}
 use Rattle.change_parts.proofs.IndexesLeft.{properties_leave}
 use Rattle.graph_ops.proofs.IndexBeside.{index_written, touched_beside}
@@ -312,15 +313,18 @@ returns-in_err-entries-clause-found g c tells =
     let v = g.S.Reads.state c.leave_values.new.space in
     let fault = c.in_err-entries.field-0.0 in
     let owner = owner_file c.node_owner.result (targets.Node c.args.id) c.node_owner.ensures in
+    let later : LeavesIndexes n e = λ damage of. other_leaves d e format.nodes_file (λ z. omega arith) (λ z. omega arith)
+    (given_beside d e format.nodes_file c.args.id (c.in_ok-give.ensures.stays tells)) damage of
+    ∙ properties_leave g.S.Reads.tells _ _ n d c.node_owner.result owner tells c.drop_all.ensures.at_most damage of in
+    let left : LeavesIndexes s e = λ damage of. later damage of ∙ reads_leave s n (read g after) damage of in
+    let shape : e.shape ≡ s.shape = g.met.S.Reads.onward_shape _ _ c.give.ensures.onward ∙ g.met.S.Reads.onward_shape _ _ c.drop_all.ensures.onward
+    ∙ ap (λ (z : State). z.shape) (read g after) in
+    let from : LeavesIndexes m e = λ damage of. later damage of ∙ ap (λ (z : State). z.records (key_in damage.file damage.id)) c.held_values.ensures.same in
+    let has = some_leaves m e (0 < length c.deref.result.now) from (λ some. c.in_ok-held.ensures.walked tells (let len = ap length c.deref.ensures.value in omega (arith, some, len))) in
     fault_exit (λ f. f) (IsDeleteCause s v c.args.id) fault c.from_residual-in_err-entries.result c.from_residual-in_err-entries.ensures.1
-    (entry_cause s v c.args.id fault c.in_err-entries.ensures.failure (blames_more _ _ (λ damage told.
-    let left : IsAsFound s e damage = other_leaves d e format.nodes_file (λ z. omega arith) (λ z. omega arith)
-    (given_beside d e format.nodes_file c.args.id (c.in_ok-give.ensures.stays tells)) damage told.0.0
-    ∙ properties_leave g.S.Reads.tells _ _ n d c.node_owner.result owner tells c.drop_all.ensures.at_most damage told.0.0
-    ∙ reads_leave s n (read g after) damage told.0.0 in
-    let several = subst (λ (z : State). HasIndexes z.records) (loaded g after) in
-    (told.0, ⊎_elim (λ found. inl (found ∙ left)) (λ more. inr (several (c.in_ok-held.ensures.several tells (let len = ap length c.deref.ensures.value in omega (arith, more, len))))) told.1)) fault
-    (blames_both _ _ fault (c.in_err-entries.ensures.blames tells) (c.in_err-entries.ensures.untouched tells))))
+    (entry_cause s v c.args.id fault c.in_err-entries.ensures.failure
+    (blames_more _ _ (λ damage told. found_before s e v damage left shape told.0 told.1) fault
+    (blames_both _ _ fault (c.in_err-entries.ensures.blames tells) (c.in_err-entries.ensures.found tells has))))
 
 pub returns-clause-made : goal.returns-clause-made
 returns-clause-made g c tells whole =

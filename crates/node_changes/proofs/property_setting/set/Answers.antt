@@ -32,12 +32,13 @@ use Rattle.change_parts.proofs.Readings.{made_read, store_read, there_read}
 use Rattle.store_rules.proofs.WriteLaws.{more_written, none_written, then_written}
 use Rattle.change_parts.proofs.Writes.{on_any_err, own_record, touched_written}
 use Rattle.change_parts.specs.Causes.{IsCaused, IsNodeTarget, IsStillCaused}
-use Rattle.change_parts.specs.Damage.{BlamesGiven, IsAsFound, IsBroken}
+use Rattle.change_parts.specs.Damage.{BlamesGiven, IsBroken, LeavesIndexes}
+use Rattle.node_changes.proofs.EntriesNamed.{found_before, held_leaves}
 use Rattle.node_changes.specs.Entries.{HasValue}
 use Rattle.change_parts.specs.Owners.{owner_of}
 use Rattle.prop_store.specs.Owner.{IsInUse}
 use Rattle.rec_bytes.specs.Space.{SameButReads, State}
-use Rattle.node_changes.proofs.EntriesFaults.{held_value, other_leaves, owner_file}
+use Rattle.node_changes.proofs.EntriesFaults.{other_leaves, owner_file}
 use Rattle.change_parts.proofs.IndexesLeft.{properties_leave}
 use Rattle.node_changes.proofs.Broken.{interned_in_use, interned_read, key_blamed, value_blamed}
 use Rattle.change_parts.proofs.Broken.{blames_both, blames_more}
@@ -434,7 +435,7 @@ pub returns-in_err-owner-clause-damaged : goal.returns-in_err-owner-clause-damag
 returns-in_err-owner-clause-damaged g c tells =
     let s = g.S.Reads.state c.args.space.now in
     let named = interned s c.args.names.now.names c.args.key.now in
-    fault_exit (λ f. f) (BlamesGiven s named (g.S.Reads.state c.find_owner.new.space) (HasValue s c.args.target c.args.names.now.names c.args.key.now))
+    fault_exit (λ f. f) (BlamesGiven s named (g.S.Reads.state c.find_owner.new.space))
     c.in_err-owner.field-0.0 c.from_residual.result c.from_residual.ensures.1
     (blames_more _ _ (λ damage broken. inl broken) c.in_err-owner.field-0.0 (c.in_err-owner.ensures.damaged tells))
 
@@ -442,9 +443,9 @@ pub returns-in_err-number-clause-damaged : goal.returns-in_err-number-clause-dam
 returns-in_err-number-clause-damaged g c tells =
     let s = g.S.Reads.state c.args.space.now in
     let named = interned s c.args.names.now.names c.args.key.now in
-    fault_exit of_intern (BlamesGiven s named (g.S.Reads.state c.intern.new.space) (HasValue s c.args.target c.intern.new.self.names c.args.key.now))
+    fault_exit of_intern (BlamesGiven s named (g.S.Reads.state c.intern.new.space))
     c.in_err-number.field-0.0 c.from_residual-in_err-number.result c.from_residual-in_err-number.ensures.1
-    (key_blamed s named (g.S.Reads.state c.intern.new.space) _ c.in_err-number.field-0.0)
+    (key_blamed s named (g.S.Reads.state c.intern.new.space) c.in_err-number.field-0.0)
 
 pub returns-in_err-released-clause-damaged : goal.returns-in_err-released-clause-damaged
 returns-in_err-released-clause-damaged g c tells =
@@ -462,9 +463,9 @@ returns-in_err-released-clause-damaged g c tells =
     let used = subst (λ (z : State). IsInUse z.records (owner_of c.args.target)) (sym c.find_owner.ensures.state) (c.in_ok-owner.ensures.in_use tells) in
     let kept = subst (λ (z : State). IsInUse z.records (owner_of c.args.target)) (sym c.indexed_value.ensures.same)
     (subst (λ (z : State). IsInUse z.records (owner_of c.args.target)) (sym is) (interned_in_use m names key c.args.target used)) in
-    fault_exit of_set (BlamesGiven s named (g.S.Reads.state c.set.new.space) (HasValue s c.args.target c.intern.new.self.names c.args.key.now))
+    fault_exit of_set (BlamesGiven s named (g.S.Reads.state c.set.new.space))
     c.in_err-released.field-0.0 c.from_residual-in_err-released.result c.from_residual-in_err-released.ensures.1
-    (value_blamed s named v (g.S.Reads.state c.set.new.space) _ same c.in_err-released.field-0.0 (c.in_err-released.ensures.damaged tells (subst (IsInUse v.records) (sym c.in_ok-owner.ensures.owner) kept)))
+    (value_blamed s named v (g.S.Reads.state c.set.new.space) same c.in_err-released.field-0.0 (c.in_err-released.ensures.damaged tells (subst (IsInUse v.records) (sym c.in_ok-owner.ensures.owner) kept)))
 
 pub returns-in_err-number-clause-cause : goal.returns-in_err-number-clause-cause
 returns-in_err-number-clause-cause g c =
@@ -565,7 +566,7 @@ returns-in_err-held-clause-damaged g c tells =
     let named = interned s names key in
     let same : SameButReads named t = subst (SameButReads named) (sym (subst (λ k. t ≡ interned m names k) (text_is g after) (c.in_ok-number.ensures.ok tells)))
     (interned_read s m names key c.find_owner.ensures.state) in
-    fault_exit (λ f. f) (BlamesGiven s named v (HasValue s c.args.target c.intern.new.self.names c.args.key.now)) c.in_err-held.field-0.0
+    fault_exit (λ f. f) (BlamesGiven s named v) c.in_err-held.field-0.0
     c.from_residual-in_err-held.result c.from_residual-in_err-held.ensures.1
     (blames_more _ _ (λ damage broken. inr (inl (subst (λ (z : State). IsBroken z damage) same broken))) c.in_err-held.field-0.0 (c.in_err-held.ensures.damaged tells (used_before g after tells)))
 
@@ -583,20 +584,21 @@ returns-in_err-entries-clause-damaged g c tells =
     let named = interned s names key in
     let is = subst (λ k. t ≡ interned m names k) (text_is g after) (c.in_ok-number.ensures.ok tells) in
     let beside = interned_beside m t names key is in
-    let lead : properties_met t.records (owner_of c.args.target) ≡ properties_met s.records (owner_of c.args.target)
-    = met_beside m.records t.records c.args.target beside ∙ ap (λ (z : State). properties_met z.records (owner_of c.args.target)) c.find_owner.ensures.state in
-    let met = subst (λ ps. IfSome c.in_ok-held.held (λ h. h.value ≡ value_of ps c.in_ok-number.number)) lead (c.in_ok-held.ensures.met tells) in
     let fault = c.in_err-entries.field-0.0 in
-    fault_exit (λ f. f) (BlamesGiven s named v (HasValue s c.args.target c.intern.new.self.names c.args.key.now)) fault c.from_residual-in_err-entries.result
-    c.from_residual-in_err-entries.ensures.1
-    (blames_more _ _ (λ damage told.
-    let read : IsAsFound s m damage = ap (λ (z : State). z.records (key_in damage.file damage.id)) c.find_owner.ensures.state in
-    let later : IsAsFound t n damage = ap (λ (z : State). z.records (key_in damage.file damage.id)) c.indexed_value.ensures.same in
-    let left : IsAsFound s u damage = properties_leave g.S.Reads.tells _ _ n u c.in_ok-owner.owner
-    (owner_file c.in_ok-owner.owner c.args.target c.in_ok-owner.ensures.owner) tells c.set.ensures.at_most damage told.0.0 ∙ later
-    ∙ other_leaves m t format.names_file (λ e. omega arith) (λ e. omega arith) beside damage told.0.0 ∙ read in
-    inr (inr (told.0, ⊎_elim (λ found. inl (found ∙ left)) (λ some. inr (held_value s c.args.target c.intern.new.self.names c.in_ok-number.number key c.in_ok-held.held (at g after) met some)) told.1))) fault
-    (blames_both _ _ fault (c.in_err-entries.ensures.blames tells) (c.in_err-entries.ensures.untouched tells)))
+    let leaves : LeavesIndexes s n = λ damage of.
+    ap (λ (z : State). z.records (key_in damage.file damage.id)) c.indexed_value.ensures.same
+    ∙ other_leaves m t format.names_file (λ e. omega arith) (λ e. omega arith) beside damage of
+    ∙ ap (λ (z : State). z.records (key_in damage.file damage.id)) c.find_owner.ensures.state in
+    let later : LeavesIndexes n u = properties_leave g.S.Reads.tells _ _ n u c.in_ok-owner.owner
+    (owner_file c.in_ok-owner.owner c.args.target c.in_ok-owner.ensures.owner) tells c.set.ensures.at_most in
+    let both : LeavesIndexes s u = λ damage of. later damage of ∙ leaves damage of in
+    let shape : u.shape ≡ s.shape = g.met.S.Reads.onward_shape _ _ (g.met.S.Reads.further_onward _ _ _ c.find_owner.ensures.onward
+    (g.met.S.Reads.further_onward _ _ _ c.in_ok-number.ensures.onward (g.met.S.Reads.further_onward _ _ _ c.indexed_value.ensures.onward c.set.ensures.onward))) in
+    let had = held_leaves t u c.in_ok-held.held
+    (λ damage of. later damage of ∙ ap (λ (z : State). z.records (key_in damage.file damage.id)) c.indexed_value.ensures.same) (c.in_ok-held.ensures.walked tells) in
+    fault_exit (λ f. f) (BlamesGiven s named v) fault c.from_residual-in_err-entries.result c.from_residual-in_err-entries.ensures.1
+    (blames_more _ _ (λ damage told. ⊎_elim (λ broken. inl broken) (λ found. inr (inr found)) (found_before s u v damage both shape told.0 told.1)) fault
+    (blames_both _ _ fault (c.in_err-entries.ensures.blames tells) (c.in_err-entries.ensures.found tells had)))
 
 pub returns-in_err-held-clause-still : goal.returns-in_err-held-clause-still
 returns-in_err-held-clause-still g c tells =

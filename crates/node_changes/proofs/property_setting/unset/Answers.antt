@@ -5,7 +5,7 @@ use Rattle.plain_graph.specs.declared.command.Command.TheVariants as commands
 use Rattle.prop_store.specs.Changing.{UnsetsValue, released_blocks}
 use Rattle.change_parts.specs.Change.{IsRefusal}
 use Rattle.change_parts.specs.ChangeFault.{of_fault}
-use Rattle.change_parts.specs.Damage.{BlamesUnset, IsAsFound, IsBroken}
+use Rattle.change_parts.specs.Damage.{BlamesEntries, IsAsFound, IsBroken}
 use Rattle.change_parts.specs.Owners.{owner_of}
 use Rattle.change_parts.specs.Store.{IsStore, graph_in}
 use Rattle.prop_store.specs.Owner.{IsInUse}
@@ -64,7 +64,7 @@ returns-in_err-owner-clause-refused g c tells whole =
 
 pub returns-in_err-owner-clause-damaged : goal.returns-in_err-owner-clause-damaged
 returns-in_err-owner-clause-damaged g c tells =
-    fault_exit (λ f. f) (BlamesUnset (g.S.Reads.state c.args.space.now) (g.S.Reads.state c.find_owner.new.space)) c.in_err-owner.field-0.0
+    fault_exit (λ f. f) (BlamesEntries (g.S.Reads.state c.args.space.now) (g.S.Reads.state c.find_owner.new.space)) c.in_err-owner.field-0.0
     c.from_residual.result c.from_residual.ensures.1 (blames_more _ _ (λ damage broken. inl broken) c.in_err-owner.field-0.0 (c.in_err-owner.ensures.damaged tells))
 
 -- ---- why it is refused over any records
@@ -190,7 +190,7 @@ returns-in_err-released-clause-damaged g c tells =
     let s = g.S.Reads.state c.args.space.now in
     let n = g.S.Reads.state c.indexed_value.new.space in
     let used = subst (λ (z : State). IsInUse z.records (owner_of c.args.target)) (sym c.indexed_value.ensures.same) (used_then g after tells) in
-    fault_exit of_fault (BlamesUnset s (g.S.Reads.state c.unset.new.space)) c.in_err-released.field-0.0 c.from_residual-in_err-released.result
+    fault_exit of_fault (BlamesEntries s (g.S.Reads.state c.unset.new.space)) c.in_err-released.field-0.0 c.from_residual-in_err-released.result
     c.from_residual-in_err-released.ensures.1
     (blames_more _ _ (λ damage broken. inl broken) (of_fault c.in_err-released.field-0.0) (read_broken s n (read g after) c.in_err-released.field-0.0 (c.in_err-released.ensures.damaged tells (subst (IsInUse n.records) (sym c.in_ok-owner.ensures.owner) used))))
 
@@ -368,7 +368,7 @@ returns-in_err-held-clause-damaged g c tells =
     let after = (goal.at.returns-in_err-held-clause-damaged g c).After-indexed_value in
     let s = g.S.Reads.state c.args.space.now in
     let t = g.S.Reads.state c.indexed_value.new.space in
-    fault_exit (λ f. f) (BlamesUnset s t) c.in_err-held.field-0.0 c.from_residual-in_err-held.result c.from_residual-in_err-held.ensures.1
+    fault_exit (λ f. f) (BlamesEntries s t) c.in_err-held.field-0.0 c.from_residual-in_err-held.result c.from_residual-in_err-held.ensures.1
     (blames_more _ _ (λ damage broken. inl (subst (λ (z : State). IsBroken z damage) c.find_owner.ensures.state broken)) c.in_err-held.field-0.0 (c.in_err-held.ensures.damaged tells (used_then g after tells)))
 
 pub returns-in_err-entries-clause-damaged : goal.returns-in_err-entries-clause-damaged
@@ -379,7 +379,7 @@ returns-in_err-entries-clause-damaged g c tells =
     let u = g.S.Reads.state c.unset.new.space in
     let v = g.S.Reads.state c.leave_entry.new.space in
     let fault = c.in_err-entries.field-0.0 in
-    fault_exit (λ f. f) (BlamesUnset s v) fault c.from_residual-in_err-entries.result c.from_residual-in_err-entries.ensures.1
+    fault_exit (λ f. f) (BlamesEntries s v) fault c.from_residual-in_err-entries.result c.from_residual-in_err-entries.ensures.1
     (blames_more _ _ (λ damage told.
     let found : IsAsFound s n damage = ap (λ (z : State). z.records (key_in damage.file damage.id)) (read g after) in
     inr (told.0, told.1 ∙ properties_leave g.S.Reads.tells 2 22 n u c.in_ok-owner.owner (owner_file c.in_ok-owner.owner c.args.target c.in_ok-owner.ensures.owner) tells c.unset.ensures.at_most damage told.0.0 ∙ found)) fault

@@ -72,7 +72,7 @@ returns-in-Index-clause-drafts g c =
     rw (c.in-Index.is, c.drafted_done-in-Index.ensures)
     (drafts-call (λ (weight : ℕ). answers.Done) (λ (weight : ℕ). weight) (commands.Index c.in-Index.label.now c.in-Index.key.now) (λ weight. refl) (returns-in-Index-clause-only g c) c.index.result (λ told. met.made told) met.light met.writes
     (λ told has. met.refused told has)
-    (λ told. index-blames c.in-Index.label.now c.in-Index.key.now (state_of c.args.self.now.store) _ c.args.self.now.names.names _ c.index.result (met.damaged told)) (λ made is told. tt) met.cause)
+    (λ told. index-blames c.in-Index.label.now c.in-Index.key.now (state_of c.args.self.now.store) (state_of c.index.new.space) c.args.self.now.names.names c.index.new.names.names c.index.result (met.damaged told)) (λ made is told. tt) met.cause)
 
 pub returns-in-Mutate-clause-only : goal.returns-in-Mutate-clause-only
 returns-in-Mutate-clause-only g c = c.draft_mutation.ensures.only

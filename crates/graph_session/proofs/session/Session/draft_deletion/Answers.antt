@@ -2,6 +2,7 @@ use Rattle.std.proofs.Common.{ℕ, [], refl, sym}
 use Rattle.std.proofs.lemmas.List.{append-nil}
 use Rattle.plain_graph.specs.declared.command.Command.TheVariants as commands
 use Rattle.plain_graph.specs.declared.command.Target.TheVariants as targets
+use Rattle.txn_core.specs.Store.{drafted}
 use Rattle.graph_session.specs.declared.answer.Answer.TheVariants as answers
 use Rattle.graph_session.proofs.LineDrafts.{deletion-left, drafts-call}
 use Rattle.graph_session.proofs.session.Session.draft_deletion.Goals as goal
@@ -17,7 +18,7 @@ returns-in-Node-clause-drafts g c =
     rw (c.in-Node.is, c.drafted_done.ensures)
     (drafts-call (λ (weight : ℕ). answers.Done) (λ (weight : ℕ). weight) (commands.Delete (targets.Node c.in-Node.id)) (λ weight. refl) (returns-in-Node-clause-only g c) c.delete_node.result (λ told. met.made told) met.light met.writes
     (λ told has. met.refused told has) (λ told. met.found told)
-    (λ made is told. deletion-left c.in-Node.id _ _ c.delete_node.result (met.lone told) (met.gone told) made is) met.cause)
+    (λ made is told. deletion-left c.in-Node.id (drafted c.args.self.now.store) (drafted c.delete_node.new.space) c.delete_node.result (met.lone told) (met.gone told) made is) met.cause)
 
 pub returns-in-Edge-clause-only : goal.returns-in-Edge-clause-only
 returns-in-Edge-clause-only g c =
