@@ -1,9 +1,7 @@
 -- Which record a change calls damaged, whatever the records are.
-use Rattle.std.specs.Prelude.{◌≡◌, ◌⊎◌, ◌<◌, ℕ, List, [], ◌∷◌}
-use Rattle.std.specs.FinMap as maps
+use Rattle.std.specs.Prelude.{◌≡◌, ◌⊎◌, ℕ, List, [], ◌∷◌}
 use Rattle.plain_graph.specs.Graph.{UsesName}
 use Rattle.plain_graph.specs.Mutations.{changes_of, elements_of, targets_once}
-use Rattle.plain_graph.specs.Properties.{no_properties, with_pairs}
 use Rattle.plain_graph.specs.declared.command.Command.{Command}
 use Rattle.plain_graph.specs.declared.command.Command.TheVariants as commands
 use Rattle.plain_graph.specs.declared.command.Target.{Target}
@@ -15,9 +13,8 @@ use Rattle.rec_bytes.specs.Space.{State as Space}
 use Rattle.rec_bytes.specs.declared.damage.Damage.{Damage}
 use Rattle.name_store.specs.Interning.{interned}
 use Rattle.change_parts.specs.Damage.{BlamesBroken, BlamesEntries, BlamesGiven, BlamesMaking}
-use Rattle.change_parts.specs.Damage.{BlamesUnset, IfBlames, IsBroken}
-use Rattle.edge_changes.specs.EdgeAdding.{BlamesLinking}
-use Rattle.node_changes.specs.Entries.{HasValue}
+use Rattle.change_parts.specs.Damage.{IfBlames, IsBroken}
+use Rattle.edge_changes.specs.EdgeAdding.{BlamesAdded}
 use Rattle.graph_ops.specs.Mutating.{BlamesDeletion, IsListCaused}
 use Rattle.node_changes.specs.NodeDeleting.{IsDeleteCause}
 use Rattle.change_parts.specs.declared.change_fault.ChangeFault.{ChangeFault}
@@ -40,11 +37,12 @@ pub record BlamesMutation (mutation : Mutation) (found left : Space) (names now 
 -- what breaks a rule in the space as it was found.
 abbrev pub Blames : Command → Space → Space → List (List ℕ) → List (List ℕ) → ChangeFault → Type 0
 Blames (commands.Node label pairs) found left names now fault =
-    BlamesEntries found left (1 < maps.len (with_pairs no_properties pairs)) fault
-Blames (commands.Edge from label to pairs) found left names now fault = BlamesLinking left fault
+    BlamesEntries found left fault
+Blames (commands.Edge from label to pairs) found left names now fault =
+    BlamesAdded found left from to fault
 Blames (commands.Set target key value) found left names now fault =
-    BlamesGiven found (interned found names key) left (HasValue found target now key) fault
-Blames (commands.Unset target key) found left names now fault = BlamesUnset found left fault
+    BlamesGiven found (interned found names key) left fault
+Blames (commands.Unset target key) found left names now fault = BlamesEntries found left fault
 Blames (commands.Delete (targets.Node id)) found left names now fault =
     IsDeleteCause found left id fault
 Blames (commands.Delete (targets.Edge id)) found left names now fault = BlamesBroken found fault
