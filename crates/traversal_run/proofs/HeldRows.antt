@@ -1,10 +1,11 @@
 -- How many elements wait behind the steps of a run.
 use Rattle.std.proofs.Common.{◌≡◌, ◌⊎◌, inl, inr, ⊎_elim, ◌<◌, ◌≤◌, ℕ, ◌+◌, suc, zero, Bool, true, false, cond, List}
-use Rattle.std.proofs.Common.{[], ◌∷◌, length, drop, get_or, set, add-one, refl, sym, ap, ◌∙◌, subst, arith}
+use Rattle.std.proofs.Common.{[], ◌∷◌, ◌++◌, map, length, drop, get_or, set, add-one, refl, sym, ap, ◌∙◌, subst, arith}
 use Rattle.std.proofs.lemmas.Bool.{cases_lt}
 use Rattle.std.proofs.lemmas.List.{length-set}
 use Rattle.std.proofs.lemmas.List.Sums.{count_by-le-length, sum_by-cons}
 use Rattle.plain_graph.specs.declared.item.Item.{Item}
+use Rattle.plain_graph.specs.declared.item.Item.TheVariants as items
 use Rattle.traversal_run.specs.Held.{AreNear, ArePlain, IsBatch, IsNear, elements_in, hops_in, is_element, is_hop, is_plain, room_behind}
 use Rattle.traversal_run.specs.Row.{AreIdle}
 use Rattle.traversal_run.specs.Scan.{limit_row}
@@ -15,6 +16,14 @@ use Rattle.traversal_run.proofs.Rows.{idle_at}
 
 pub elements-cons : (item : Item) (list : List Item) → elements_in (item ∷ list) ≡ cond (is_element item) 1 0 + elements_in list
 elements-cons item list = sum_by-cons (λ x. cond (is_element x) 1 0) item list
+
+-- vertices are elements
+pub elements-vertices : (ids : List ℕ) (list : List Item) → elements_in (map items.Vertex ids ++ list) ≡ length ids + elements_in list
+elements-vertices [] list = omega arith
+elements-vertices (id ∷ ids) list =
+    let rest = elements-vertices ids list in
+    let one = elements-cons (items.Vertex id) (map items.Vertex ids ++ list) in
+    omega (arith, one, rest)
 
 pub elements-few : (list : List Item) → elements_in list ≤ length list
 elements-few list = count_by-le-length is_element list

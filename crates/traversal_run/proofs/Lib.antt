@@ -16,6 +16,7 @@ pub mod HeldSteps
 pub mod HopCosts
 pub mod HopEdges
 pub mod HopRuns
+pub mod KeptItems
 pub mod LeftRows
 pub mod Limits
 pub mod ListedIndexes

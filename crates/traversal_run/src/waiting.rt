@@ -1,5 +1,7 @@
 ghost use Rattle.std.specs.Prelude.{◌≡◌, ◌++◌, [], ◌∷◌, true, IfNone, IfOk, IfSome, OnOk, length};
 ghost use Rattle.std.specs.Prelude.{map};
+ghost use Rattle.std.specs.List.{cons_option};
+ghost use Rattle.std.specs.VecDeque.{deque_items};
 ghost use Rattle.plain_graph.specs.declared.item.Item.TheVariants as items;
 ghost use Rattle.traversal_run.specs.Held.{elements_in};
 
@@ -113,12 +115,7 @@ impl Waiting {
     pub(crate) fn elements(&self) -> usize
         ensures { result ≡ elements_in self.now }
     {
-        let later = self.later.iter().filter(|item| item.is_element()).count();
-        let items = match &self.first {
-            Some(item) => later + usize::from(item.is_element()),
-            None => later,
-        };
-        self.vertices.len() + items
+        self.vertices.len() + elements_of(&self.first, &self.later)
     }
 
     /// Whether no item waits.
@@ -127,5 +124,16 @@ impl Waiting {
         ensures no { self.now ≡ [] → result ≡ true }
     {
         self.len() == 0
+    }
+}
+
+// How many of an item and those behind it are vertices or edges.
+fn elements_of(first: &Option<Shown>, later: &VecDeque<Shown>) -> usize
+    ensures { result ≡ elements_in (cons_option first.now (deque_items later.now)) }
+{
+    let behind = later.iter().filter(|item| item.is_element()).count();
+    match first {
+        Some(item) => behind + usize::from(item.is_element()),
+        None => behind,
     }
 }

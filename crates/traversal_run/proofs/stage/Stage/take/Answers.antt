@@ -1,4 +1,10 @@
-use Rattle.std.proofs.Common.{arith}
+use Rattle.std.proofs.Common.{◌∙◌, ◌++◌, List, ap, arith, refl, sym}
+use Rattle.std.specs.List.{filter_map}
+use Rattle.plain_graph.specs.Meaning.{ranked}
+use Rattle.plain_graph.specs.declared.item.Item.{Item}
+use Rattle.store_rules.specs.Graph.{graph_of}
+use Rattle.traversal_run.specs.Stage.{told_in_order}
+use Rattle.traversal_run.proofs.KeptItems.{one_more_kept}
 use Rattle.traversal_run.proofs.Causes.{cause_passed, memory_cause}
 use Rattle.rec_bytes.proofs.Causes.{never_ok, ok_cause}
 use Rattle.prop_store.proofs.Exits.{same_has}
@@ -64,3 +70,14 @@ returns-in_err-keep-in-Order-clause-read g c = c.in_err-keep-in-Order.ensures.re
 pub returns-in_err-keep-in-Order-clause-damaged : goal.returns-in_err-keep-in-Order-clause-damaged
 returns-in_err-keep-in-Order-clause-damaged g c tells =
     same_has _ c.from_residual-in_err-keep-in-Order.result _ c.from_residual-in_err-keep-in-Order.ensures.1 (c.in_err-keep-in-Order.ensures.damaged tells)
+
+pub returns-in_ok-keep-in-Order-clause-takes : goal.returns-in_ok-keep-in-Order-clause-takes
+returns-in_ok-keep-in-Order-clause-takes g c tells store coming =
+    let graph = graph_of (g.R.Reads.state c.args.space.now).records in
+    let kept = c.in_ok-keep-in-Order.ensures.kept tells store in
+    let then = one_more_kept c.in-Order.told c.in-Order.descending (ranked graph c.in-Order.key) c.args.item coming c.in-Order.kept c.keep.new.kept kept in
+    rw c.in-Order.is (
+      then ∙ ap (λ (first : List Item). first ++ told_in_order c.in-Order.told c.in-Order.descending
+          (c.keep.new.kept ++ filter_map (ranked graph c.in-Order.key) coming)) (sym c.new.ensures),
+      refl,
+    )
