@@ -60,15 +60,6 @@ use Rattle.node_changes.proofs.LeftIndexes.{held_left, held_weighs_all}
 use Rattle.node_changes.proofs.NodeWeights.{held_same, node_entries, value_listed}
 use Rattle.node_changes.proofs.PairWeights.{pair_weight}
 use Rattle.change_parts.proofs.PairsPut.{label_at}
-use Rattle.graph_ops.proofs.Deleting.{node_deleted, node_gone, node_kinds, node_left}
-use Rattle.graph_ops.proofs.GraphPairs.{apart, has_pair, in_any, is_among}
-use Rattle.graph_ops.proofs.HeldWeights.{listed_among}
-use Rattle.graph_ops.proofs.IndexBeside.{KeepsBesideIndex, file_same, graph_beside, kinds_beside, mark_same, names_beside, wanted_beside}
-use Rattle.graph_ops.proofs.KeptIndexes.{midway, node_graph_indexes}
-use Rattle.graph_ops.proofs.LeftIndexes.{held_left, held_weighs_all}
-use Rattle.graph_ops.proofs.NodeWeights.{held_same, node_entries, value_listed}
-use Rattle.graph_ops.proofs.PairWeights.{pair_weight}
-use Rattle.graph_ops.proofs.PairsPut.{label_at}
 
 -- the row of a node in use has the label of its record
 pub label_found : (s : State) (id : ℕ) (node : NodeRow) → Some node ≡ nodes.row_at s.records id → node.label ≡ label_at s.records id

@@ -3,7 +3,7 @@ use Rattle.std.specs.Prelude.{◌≡◌, ◌≢◌, ◌⊎◌, ℕ, None}
 use Rattle.rec_bytes.specs.declared.damage.Damage.{Damage}
 use Rattle.rec_bytes.specs.Format as format
 use Rattle.rec_bytes.specs.Space.{State}
-use Rattle.store_rules.specs.Views.{kind_at}
+use Rattle.store_rules.specs.Views.{Records, kind_at}
 use Rattle.node_store.specs.Loading.{row_at}
 use Rattle.change_parts.specs.Damage.{IsAsFound, IsBroken, IsEntryDamage, IsOfIndex}
 use Rattle.change_parts.specs.declared.change_fault.ChangeFault.{ChangeFault}

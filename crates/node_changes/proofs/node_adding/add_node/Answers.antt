@@ -14,7 +14,7 @@ use Rattle.rec_bytes.specs.declared.meta.Meta.{Meta}
 use Rattle.rec_bytes.specs.Space.{State, meta_of}
 use Rattle.rec_bytes.specs.Format as format
 use Rattle.store_rules.specs.Indexes.{AreIndexed, IsIndexed, wanted_in}
-use Rattle.store_rules.specs.Views.{high}
+use Rattle.store_rules.specs.Views.{high, key_in}
 use Rattle.store_rules.specs.Writes.{WritesAtMost, WritesBeside}
 use Rattle.prop_index.specs.Listing.{pair_of}
 use Rattle.prop_store.specs.declared.owner.Owner.{Owner}
@@ -195,7 +195,7 @@ returns-in_err-listed-clause-damaged g c tells =
     let fault = c.in_err-listed.field-0.0 in
     fault_exit (λ f. f) (BlamesEntries s u) c.in_err-listed.field-0.0
     c.from_residual-in_err-listed.result c.from_residual-in_err-listed.ensures.1
-    (blames_more _ _ (λ damage k. inr ((k.0, subst (λ (y : State). IsBroken y damage) (sym c.listed_pairs.ensures.same) k.1), inl (names_leave s u (beside_names g after tells) damage k.0))) fault (blames_both IsOfIndex (IsBroken z) fault (c.in_err-listed.ensures.names tells) (c.in_err-listed.ensures.damaged tells)))
+    (blames_more _ _ (λ damage k. inr ((k.0, subst (λ (y : State). IsBroken y damage) (sym c.listed_pairs.ensures.same) k.1), names_leave s u (beside_names g after tells) damage k.0)) fault (blames_both IsOfIndex (IsBroken z) fault (c.in_err-listed.ensures.names tells) (c.in_err-listed.ensures.damaged tells)))
 
 pub returns-in_err-listed-clause-cause : goal.returns-in_err-listed-clause-cause
 returns-in_err-listed-clause-cause g c =
@@ -513,7 +513,9 @@ returns-in_err-enter_values-clause-damaged g c tells =
     let shape : w.shape ≡ s.shape = g.met.S.Reads.onward_shape _ _ c.put_properties.ensures.onward
     ∙ g.met.S.Reads.onward_shape _ _ c.put_node.ensures.onward ∙ same_shape g after in
     let from : LeavesIndexes p w = λ damage of. later damage of ∙ ap (λ (z : State). z.records (key_in damage.file damage.id)) c.listed_pairs.ensures.same in
-    let has = some_leaves p w (0 < length c.deref.result.now) from (λ some. c.in_ok-listed.ensures.walked tells some) in
+    let many : length c.deref-4.result.now ≡ length c.in_ok-listed.listed.items = ap length c.deref-4.ensures.value in
+    let has = some_leaves p w (0 < length c.deref-4.result.now) from
+        (λ some. c.in_ok-listed.ensures.walked tells (subst (λ (n : ℕ). 0 < n) many some)) in
     fault_exit (λ f. f) (BlamesEntries s x) fault c.from_residual-in_err-enter_values.result c.from_residual-in_err-enter_values.ensures.1
     (blames_more _ _ (λ damage told. found_before s w x damage left shape told.0 told.1) fault
     (blames_both _ _ fault (c.in_err-enter_values.ensures.blames tells) (c.in_err-enter_values.ensures.found tells has)))

@@ -1,4 +1,4 @@
-use Rattle.std.proofs.Common.{◌<◌, ◌≡◌, ◌≢◌, ◌∙◌, ℕ, ◌+◌, Some, List, [], ◌∷◌, length, map, sym, ap, subst, inl, inr, ⊎_elim, arith, refl, rules}
+use Rattle.std.proofs.Common.{◌<◌, ◌≤◌, ◌≡◌, ◌≢◌, ◌∙◌, ℕ, ◌+◌, Some, List, [], ◌∷◌, length, map, sym, ap, subst, inl, inr, ⊎_elim, arith, refl, rules}
 use Rattle.plain_graph.specs.Reply.{Done}
 use Rattle.plain_graph.specs.declared.command.Command.TheVariants as commands
 use Rattle.plain_graph.specs.declared.command.Target.TheVariants as targets
@@ -46,17 +46,12 @@ use Rattle.store_rules.specs.Properties.{Property}
 use Rattle.node_changes.proofs.IndexBeside.{index_written, touched_beside}
 use Rattle.change_parts.proofs.KeptIndexes.{whole_read}
 use Rattle.node_changes.proofs.LiveIndexes.{node_owned}
-use Rattle.node_changes.proofs.NodeGone.{gone_between, gone_kinds, gone_left, gone_made, label_found}
+use Rattle.node_changes.proofs.NodeGone.{gone_between, gone_kinds, gone_left, gone_made, label_found, unused_left}
 use Rattle.change_parts.specs.Damage.{BlamesBroken, IsBroken, LeavesIndexes}
 use Rattle.node_changes.proofs.EntriesNamed.{found_before, some_leaves}
 use Rattle.node_changes.specs.Entries.{held_of}
 use Rattle.node_changes.proofs.EntriesFaults.{given_beside, other_leaves, owner_file, reads_leave}
 use Rattle.change_parts.proofs.IndexesLeft.{properties_leave}
-use Rattle.graph_ops.proofs.IndexBeside.{index_written, touched_beside}
-use Rattle.graph_ops.proofs.KeptIndexes.{whole_read}
-use Rattle.graph_ops.proofs.LiveIndexes.{node_owned}
-use Rattle.graph_ops.proofs.NodeGone.{gone_between, gone_kinds, gone_left, gone_made, label_found, unused_left}
-use Rattle.graph_ops.proofs.EntriesFaults.{given_beside, other_leaves, owner_file, properties_leave, reads_leave}
 use Rattle.store_rules.specs.Indexes.{AreIndexed, IsIndexed, wanted_in}
 use Rattle.change_parts.proofs.PairsPut.{label_at}
 use Rattle.change_parts.proofs.Reasons.{outside_refused}

@@ -34,7 +34,6 @@ use Rattle.change_parts.proofs.Writes.{on_any_err, own_record, touched_written}
 use Rattle.change_parts.specs.Causes.{IsCaused, IsNodeTarget, IsStillCaused}
 use Rattle.change_parts.specs.Damage.{BlamesGiven, IsBroken, LeavesIndexes}
 use Rattle.node_changes.proofs.EntriesNamed.{found_before, held_leaves}
-use Rattle.node_changes.specs.Entries.{HasValue}
 use Rattle.change_parts.specs.Owners.{owner_of}
 use Rattle.prop_store.specs.Owner.{IsInUse}
 use Rattle.rec_bytes.specs.Space.{SameButReads, State}
