@@ -54,7 +54,8 @@ named_beside : (s : State) (id : ℕ) (text : List ℕ) → IsSameBeside format.
 unfolding named
 named_beside s id text q other no_meta =
     let named_in = after_put s (name_key id) (name_record text) in
-    put_other named_in.records (meta_key_of format.names_file) (with_meta (named_in.records (meta_key_of format.names_file)) (counted (meta_of named_in format.names_file))) q no_meta
+    put_other named_in.records (meta_key_of format.names_file) (with_meta (named_in.records (meta_key_of format.names_file))
+    (counted (meta_of named_in format.names_file))) q no_meta
     ∙ put_other s.records (name_key id) (name_record text) q (λ e. other (ap (λ (k : Key). k.file) e))
 
 pub interned_beside : (s t : State) (names : List (List ℕ)) (text : List ℕ) → t ≡ interned s names text → IsSameBeside format.names_file s.records t.records
@@ -130,7 +131,8 @@ lists_before s t harmless d told = ⊎_elim (λ k. inl (harmless.properties d k)
 
 -- and breaks a rule
 pub lists_broken : (s : State) (d : Damage) → IsOfLists s d → IsBroken s d
-lists_broken s d told = inl (⊎_elim (list_breaks s.records s.shape format.properties_file refl d) (list_breaks s.records s.shape format.strings_file refl d) told)
+lists_broken s d told = inl (⊎_elim (list_breaks s.records s.shape format.properties_file refl d) (list_breaks s.records s.shape format.strings_file refl d)
+    told)
 
 pub value_lists : (s t : State) → HarmsNoLists s t → (fault : SetFault) → BlamesLists t fault → IfBlames (IsOfLists s) (of_set fault)
 value_lists s t harmless (sets.PropsFull count) told = tt
@@ -173,8 +175,10 @@ line_blamed told s names label pairs (Damaged damage) why = absurd why
 
 pub node_damage : (s u : State) → u.shape ≡ s.shape → KeepsButNames s u → (d : Damage) → IsTakeDamage u format.nodes_file d → BreaksAny s.records s.shape d
 node_damage s u shape keeps d told =
-    inl (list_breaks s.records s.shape format.nodes_file refl d (list_stays s u format.names_file shape keeps format.nodes_file (λ e. omega arith) (λ e. omega arith) (λ e. omega arith) d (list_damage u format.nodes_file d told)))
+    inl (list_breaks s.records s.shape format.nodes_file refl d (list_stays s u format.names_file shape keeps format.nodes_file (λ e. omega arith)
+    (λ e. omega arith) (λ e. omega arith) d (list_damage u format.nodes_file d told)))
 
 -- the meta record of the indexes is none of the names
 pub index_beside : (s u : State) → KeepsButNames s u → meta_of u format.index_file ≡ meta_of s format.index_file
-index_beside s u keeps = ap meta_records.meta_of (keeps (meta_key_of format.index_file) (λ e. omega arith) (λ e. let f : format.index_file ≡ format.names_file = ap (λ (k : Key). k.id) e in omega arith))
+index_beside s u keeps = ap meta_records.meta_of (keeps (meta_key_of format.index_file) (λ e. omega arith) (λ e. let f : format.index_file ≡ format.names_file =
+    ap (λ (k : Key). k.id) e in omega arith))

@@ -169,7 +169,8 @@ one_more_at old names new pairs n number items now so_far lt short uses at room 
           ∙ ap (λ l. maps.insert (with_pairs no_properties l) (get_or new number []) value) stay
           ∙ ap (λ m. maps.insert m (get_or new number []) value) so_far.same
           ∙ ap (λ k. maps.insert (with_pairs no_properties (take n pairs)) k value) (get_or_from_slice_get new number key [] at)
-          ∙ sym (ap (with_pairs no_properties) (take_more pairs n (record { key = []; value = values.Text [] }) lt) ∙ with_pairs-push no_properties (take n pairs) (pair_at pairs n));
+          ∙ sym (ap (with_pairs no_properties) (take_more pairs n (record { key = []; value = values.Text [] }) lt) ∙ with_pairs-push no_properties
+          (take n pairs) (pair_at pairs n));
       items_is = placed ∙ ap (λ l. take 33 (with_place l number n)) so_far.items_is ∙ cut_placed 33 so_far.all number n;
       new_few = let a = so_far.new_few in let b = named_once number n names key new so_far.all uses at so_far.known in omega arith;
     }
@@ -228,7 +229,13 @@ module _ (old names : List (List ℕ)) (pairs : List Pair) (items : List Assignm
   all_used = subst (λ l. UsesNames old (keys_in l) names) all_pairs so_far.uses
 
   every : AreAssigned names pairs so_far.all
-  every = record { known = so_far.known; placed = so_far.placed; once = pairs_new names pairs so_far.held.distinct no_properties so_far.all so_far.known so_far.once (λ k i. maps.get-empty order (get_or names k [])); same = so_far.same ∙ ap (with_pairs no_properties) all_pairs }
+  every = record {
+    known = so_far.known;
+    placed = so_far.placed;
+    once = pairs_new names pairs so_far.held.distinct no_properties so_far.all so_far.known
+        so_far.once (λ k i. maps.get-empty order (get_or names k []));
+    same = so_far.same ∙ ap (with_pairs no_properties) all_pairs;
+  }
 
   pub all_assigned : length items ≤ 32 → AreAssigned names pairs items
   all_assigned few = subst (AreAssigned names pairs) (sym (items_all old names pairs (length pairs) items so_far few)) every

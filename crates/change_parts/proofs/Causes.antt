@@ -156,7 +156,8 @@ module _ (s u : State) (names : List (List ℕ)) (label : List ℕ) (pairs : Lis
       → (fault : ChangeFault) → IsReserveFault u count blocks fault → IsLineCause s names label pairs fault
   reserve_caused count blocks all sum metas fault why = ⊎_elim
       (λ (k : LacksRoom u format.properties_file count fault). file_caused format.properties_file count (inl (refl, all)) metas.properties fault k)
-      (λ (k : HasRoom u format.properties_file count × LacksRoom u format.strings_file blocks fault). file_caused format.strings_file blocks (inr (refl, sum)) metas.blocks fault k.1) why
+      (λ (k : HasRoom u format.properties_file count × LacksRoom u format.strings_file blocks fault). file_caused format.strings_file blocks (inr (refl, sum))
+      metas.blocks fault k.1) why
 
 -- a new node has the causes of its line, and so has a new edge
 module _ (s t : State) (names now : List (List ℕ)) (label : List ℕ) (pairs : List Pair) where
@@ -192,8 +193,11 @@ module _ (s t : State) (names now : List (List ℕ)) (label : List ℕ) (pairs :
 pub add_caused : (new : Type 0) (t : State) (count blocks needed : ℕ) → 0 < count → needed ≤ blocks → (fault : SetFault) → IsSetCause ⊥ new needed t fault
     → IsPutCause t count blocks (of_set fault)
 add_caused new t count blocks needed some le (sets.PropsFull n) why = absurd why.1
-add_caused new t count blocks needed some le (sets.Full file live) why =
-    (why.0, ⊎_elim (λ (k : (file ≡ format.properties_file) × new). inl (k.0, some)) (λ (k : (file ≡ format.strings_file) × (0 < needed)). inr (k.0, omega (arith, k.1))) why.1)
+add_caused new t count blocks needed some le (sets.Full file live) why = (
+  why.0,
+  ⊎_elim (λ (k : (file ≡ format.properties_file) × new). inl (k.0, some)) (λ (k : (file ≡ format.strings_file) × (0 < needed)). inr
+      (k.0, omega (arith, k.1))) why.1,
+)
 add_caused new t count blocks needed some le sets.Memory why = tt
 add_caused new t count blocks needed some le sets.Disk why = tt
 add_caused new t count blocks needed some le (sets.Damaged damage) why = tt
@@ -220,11 +224,29 @@ module _ (s t : State) (names now : List (List ℕ)) (target : Target) (key : Li
       → properties_met r (owner_of target) ≡ properties_met s.records (owner_of target) → (fault : SetFault)
       → IsSetCause (IsCrowded r (owner_of target) number) (LacksMet r (owner_of target) number) (blocks_of value) t fault
       → IsCaused (commands.Set target key value) s t names now (of_set fault)
-  set_caused number named r same (sets.PropsFull n) why =
-      (record { number = number; named = named; crowded = (sym (ap (λ es. property_of es number) same) ∙ why.1.0, sym (ap (λ (es : List Property). length es) same) ∙ why.1.1) }, why.0)
+  set_caused number named r same (sets.PropsFull n) why = (
+    record {
+      number = number;
+      named = named;
+      crowded = (
+        sym (ap (λ es. property_of es number) same) ∙ why.1.0,
+        sym (ap (λ (es : List Property). length es)
+            same) ∙ why.1.1,
+      );
+    },
+    why.0,
+  )
   set_caused number named r same (sets.Full file live) why = inr (
     inl (⊎_elim
-        (λ (k : (file ≡ format.properties_file) × LacksMet r (owner_of target) number). inl (k.0, record { number = number; named = named; lacks = sym (ap (λ es. property_of es number) same) ∙ k.1 }))
+        (λ (k : (file ≡ format.properties_file) × LacksMet r (owner_of target) number). inl (
+          k.0,
+          record {
+            number = number;
+            named = named;
+            lacks = sym
+                (ap (λ es. property_of es number) same) ∙ k.1;
+          },
+        ))
         (λ (k : (file ≡ format.strings_file) × (0 < blocks_of value)). inr k) why.1),
     why.0,
   )

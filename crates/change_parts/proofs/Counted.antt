@@ -48,7 +48,8 @@ room_counted s t file needed same fault why = subst (IsCounted s) (sym why.is) (
 pub reserve_counted : (s t : State) (count blocks : ℕ) → KeepsElementMetas s t → (fault : ChangeFault) → IsReserveFault t count blocks fault → IsCounted s fault
 reserve_counted s t count blocks metas fault why = ⊎_elim
     (λ (k : LacksRoom t format.properties_file count fault). room_counted s t format.properties_file count metas.properties fault k)
-    (λ (k : HasRoom t format.properties_file count × LacksRoom t format.strings_file blocks fault). room_counted s t format.strings_file blocks metas.blocks fault k.1) why
+    (λ (k : HasRoom t format.properties_file count × LacksRoom t format.strings_file blocks fault). room_counted s t format.strings_file blocks metas.blocks
+    fault k.1) why
 
 -- ---- no count at all
 pub outside_counted : (s : State) (fault : ChangeFault) → IsOutside fault → IsCounted s fault

@@ -68,7 +68,9 @@ room_refusal_cause {T} {s} {file} {needed} before now r fault lacks early is = n
 pub reserve_refusal_cause : {T : Type 0} {s : State} {count blocks : ℕ} (before now : ℕ) (r : Result T ChangeFault) (fault : ChangeFault)
     → IsReserveFault s count blocks fault → before ≤ now → IsErrAnd r (λ f. f ≡ fault) → HasChangeCause before now r
 reserve_refusal_cause {T} {s} {count} {blocks} before now r fault why early is =
-    no_disk before now r fault (⊎_elim (lacks_no_disk s format.properties_file count fault) (λ (both : HasRoom s format.properties_file count × LacksRoom s format.strings_file blocks fault). lacks_no_disk s format.strings_file blocks fault both.1) why) early is
+    no_disk before now r fault (⊎_elim (lacks_no_disk s format.properties_file count fault)
+    (λ (both : HasRoom s format.properties_file count × LacksRoom s format.strings_file blocks fault). lacks_no_disk s format.strings_file blocks fault
+    both.1) why) early is
 
 -- ---- faults that are passed on
 pub change_cause_passed : {T U : Type 0} (before mid now : ℕ) (r : Result T ChangeFault) (fault : ChangeFault) → before ≤ mid

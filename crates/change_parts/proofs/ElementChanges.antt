@@ -139,8 +139,14 @@ with_properties_same g (targets.Edge id) = λ i. record g { edges = none_changed
 -- two changes are one
 pub with_properties_twice : (g : Graph) (target : Target) (one two : Properties → Properties)
     → with_properties (with_properties g target one) target two ≡ with_properties g target (λ properties. two (one properties))
-with_properties_twice g (targets.Node id) one two = λ i. record g { nodes = both_changed node_number id (change_node one) (change_node two) (λ e. refl) g.nodes i }
-with_properties_twice g (targets.Edge id) one two = λ i. record g { edges = both_changed edge_number id (change_edge one) (change_edge two) (λ e. refl) g.edges i }
+with_properties_twice g (targets.Node id) one two = λ i. record g {
+  nodes = both_changed node_number id (change_node one) (change_node two) (λ e. refl)
+      g.nodes i;
+}
+with_properties_twice g (targets.Edge id) one two = λ i. record g {
+  edges = both_changed edge_number id (change_edge one) (change_edge two) (λ e. refl)
+      g.edges i;
+}
 
 -- an element that is there has the changed properties
 pub properties_at-with_properties : (g : Graph) (target : Target) (change : Properties → Properties) → has_element g target ≡ true

@@ -60,7 +60,8 @@ pub edge_missing : (s : State) (id : ℕ) → None ≡ rels.row_at s.records id 
 edge_missing s id found = rows.no_edge s.records id (none_if (kind_at s.records format.relationships_file id) (sym found))
   where
     none_if : (kind : ℕ) → row_if kind (row_of (rec_at s.records format.relationships_file id) id) ≡ None → kind ≡ 0
-    none_if kind h = ⊎_elim (λ (e : kind ≡ 0). e) (λ (ne : kind ≢ 0). absurd (let z = sym (row_some kind (row_of (rec_at s.records format.relationships_file id) id) ne) ∙ h in cc)) (nat_cases kind 0)
+    none_if kind h = ⊎_elim (λ (e : kind ≡ 0). e) (λ (ne : kind ≢ 0). absurd (let z = sym (row_some kind (row_of (rec_at s.records format.relationships_file id)
+        id) ne) ∙ h in cc)) (nat_cases kind 0)
 
 -- ---- an element of the graph is in use
 pub element_used : (s : State) (target : Target) → has_element (graph_in s) target ≡ true

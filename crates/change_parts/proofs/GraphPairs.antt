@@ -153,7 +153,8 @@ module _ (s : Records) where
   sum_among f (d ∷ ds) apart =
       total_both (λ l. total (counted f (λ l k. has_pair l k d) l) count) (λ l. total (counted f (is_among ds) l) count)
       (λ l. total (counted f (is_among (d ∷ ds)) l) count) count
-      (λ l. total_both (counted f (λ l k. has_pair l k d) l) (counted f (is_among ds) l) (counted f (is_among (d ∷ ds)) l) count (λ k. parts l k (has_pair l k d) (is_among ds l k) refl refl))
+      (λ l. total_both (counted f (λ l k. has_pair l k d) l) (counted f (is_among ds) l) (counted f (is_among (d ∷ ds)) l) count
+      (λ k. parts l k (has_pair l k d) (is_among ds l k) refl refl))
       ∙ (let first = sum_by-cons (of_definition f) d ds in let here = mine in let later = sum_among f ds rest in omega arith)
     where
       rest : AreApart ds
@@ -176,9 +177,11 @@ module _ (s : Records) where
       mine : total (λ l. total (counted f (λ l k. has_pair l k d) l) count) count ≡ of_definition f d
       mine =
           total_one (λ l. total (counted f (λ l k. has_pair l k d) l) count) count (indexed_label s d) low.0
-          (λ l ne. total_none (counted f (λ l k. has_pair l k d) l) count (λ k. off (nat_eq (indexed_label s d) l) (nat_eq (indexed_key s d) k) (f (index_at l k)) (eq_false (indexed_label s d) l (λ e. ne (sym e)))))
+          (λ l ne. total_none (counted f (λ l k. has_pair l k d) l) count (λ k. off (nat_eq (indexed_label s d) l) (nat_eq (indexed_key s d) k)
+          (f (index_at l k)) (eq_false (indexed_label s d) l (λ e. ne (sym e)))))
           ∙ total_one (counted f (λ l k. has_pair l k d) (indexed_label s d)) count (indexed_key s d) low.1
-          (λ k ne. off_key (nat_eq (indexed_label s d) (indexed_label s d)) (nat_eq (indexed_key s d) k) (f (index_at (indexed_label s d) k)) (eq_false (indexed_key s d) k (λ e. ne (sym e))))
+          (λ k ne. off_key (nat_eq (indexed_label s d) (indexed_label s d)) (nat_eq (indexed_key s d) k) (f (index_at (indexed_label s d) k))
+          (eq_false (indexed_key s d) k (λ e. ne (sym e))))
           ∙ rw (eq_true (indexed_label s d) (indexed_label s d) refl, eq_true (indexed_key s d) (indexed_key s d) refl) refl
         where
           off : (a b : Bool) (n : ℕ) → a ≡ false → cond (a && b) n 0 ≡ 0
@@ -209,7 +212,8 @@ module _ (s : Records) where
         -- one of the definitions
         is_one : (d : ℕ) → defines l k d ≡ true → IsOfIndex s ix.definitions ix.lists d → In d ix.definitions
         is_one d is (IsDefinition i) = i
-        is_one d is (IsHeads e c i lt q) = absurd (let a = (of_test d is).0 in let b = ix.heads e c i lt in let z = ap (kind_at s format.index_file) q in omega (arith, a, b, z))
+        is_one d is (IsHeads e c i lt q) = absurd (let a = (of_test d is).0 in let b = ix.heads e c i lt in let z = ap (kind_at s format.index_file) q in omega
+            (arith, a, b, z))
         is_one d is (IsEntry e b i lt m) = absurd (let a = (of_test d is).0 in let z = (ix.buckets e b i lt).kind d m in omega (arith, a, z))
 
         one : is_defined l k ≡ true → is_among ix.definitions l k ≡ true
@@ -220,14 +224,16 @@ module _ (s : Records) where
             by (d ∷ xs) e q =
                 let found = ids_in (defines l k) marks d (subst (In d) (sym e) (inl refl)) in
                 let test = of_test d found.1 in
-                in_any (has_pair l k) d ix.definitions (is_one d found.1 (ix.held d (live_true (kind_at s format.index_file d) (λ z. let k = sym z ∙ test.0 in omega arith)))) test.1
+                in_any (has_pair l k) d ix.definitions (is_one d found.1 (ix.held d (live_true (kind_at s format.index_file d)
+                (λ z. let k = sym z ∙ test.0 in omega arith)))) test.1
 
         two : is_among ix.definitions l k ≡ true → is_defined l k ≡ true
         two is =
             let found = any_in (has_pair l k) ix.definitions is in
             let kind = ix.defined found.0 found.1 in
             let lt = kind_below marks (rec_at s format.index_file found.0) found.0 (λ e. let q = sym e ∙ kind in omega arith) in
-            some (ids (defines l k) marks) found.0 (in_ids (defines l k) marks found.0 lt (rw (eq_true (kind_at s format.index_file found.0) format.definition kind) found.2))
+            some (ids (defines l k) marks) found.0 (in_ids (defines l k) marks found.0 lt (rw (eq_true (kind_at s format.index_file found.0) format.definition
+            kind) found.2))
           where
             some : (xs : List ℕ) (d : ℕ) → In d xs → nat_lt 0 (length xs) ≡ true
             some [] d i = elim i [ ]
@@ -250,4 +256,5 @@ module _ (s : Records) where
 
 -- the pairs are those of the file of the indexes
 pub defined_same : (s t : Records) → IsSameFile s t format.index_file → (l k : ℕ) → is_defined t l k ≡ is_defined s l k
-defined_same s t same l k = λ i. nat_lt 0 (length (ids (is_definition_of (λ x. kind_in (metas.meta_of (same.meta i)).high (same.records i x) x) (same.records i) l k) (metas.meta_of (same.meta i)).high))
+defined_same s t same l k = λ i. nat_lt 0 (length (ids (is_definition_of (λ x. kind_in (metas.meta_of (same.meta i)).high (same.records i x) x) (same.records i)
+    l k) (metas.meta_of (same.meta i)).high))

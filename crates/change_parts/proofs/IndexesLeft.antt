@@ -30,7 +30,8 @@ module _ (owner : Owner) (file : (owner.key.file ≡ format.nodes_file) ⊎ (own
     own : key_in damage.file damage.id ≢ owner.key
     own e = ⊎_elim
         (λ (n : owner.key.file ≡ format.nodes_file). other format.nodes_file (λ z. omega arith) (λ z. omega arith) (ap (λ (k : Key). k.file) e ∙ n))
-        (λ (r : owner.key.file ≡ format.relationships_file). other format.relationships_file (λ z. omega arith) (λ z. omega arith) (ap (λ (k : Key). k.file) e ∙ r)) file
+        (λ (r : owner.key.file ≡ format.relationships_file). other format.relationships_file (λ z. omega arith) (λ z. omega arith) (ap (λ (k : Key). k.file) e
+        ∙ r)) file
 
     index_apart : (ids blocks : List ℕ) → ¬ IsAmong (key_in damage.file damage.id) (owner.key ∷ property_keys ids blocks)
     index_apart ids blocks i = ⊎_elim own

@@ -27,7 +27,15 @@ pub keeps_same : (s : State) (names : List (List ℕ)) → IsMidway s names → 
 keeps_same s names store = record { store = store; shape = refl; nodes = refl; edges = refl; indexes = refl; keeps = λ are. are }
 
 pub keeps_then : (s t u : State) (one two : List (List ℕ)) → KeepsElements s t one → KeepsElements t u two → KeepsElements s u two
-keeps_then s t u one two h k = record { store = k.store; shape = k.shape ∙ h.shape; nodes = k.nodes ∙ h.nodes; edges = k.edges ∙ h.edges; indexes = k.indexes ∙ h.indexes; keeps = λ are. k.keeps (h.keeps are) }
+keeps_then s t u one two h k = record {
+  store = k.store;
+  shape = k.shape ∙ h.shape;
+  nodes = k.nodes ∙ h.nodes;
+  edges = k.edges ∙ h.edges;
+  indexes = k.indexes
+      ∙ h.indexes;
+  keeps = λ are. k.keeps (h.keeps are);
+}
 
 named-shape : (s : State) (id : ℕ) (text : List ℕ) → (named s id text).shape ≡ s.shape
 unfolding named
@@ -78,13 +86,16 @@ metas_named s id text = record { nodes = refl; edges = refl; properties = refl; 
 pub metas_interned : (s t : State) (old new : List (List ℕ)) (text : List ℕ) → t ≡ interned s old text → UsesName old text new → KeepsElementMetas s t
 metas_interned s t old new text is uses = ⊎_elim
     (λ (k : Contains old text × (new ≡ old)). subst (KeepsElementMetas s) (sym (is ∙ interned-known s old text k.0)) (metas_same s))
-    (λ (k : (¬ Contains old text) × (new ≡ old ++ text ∷ [])). subst (KeepsElementMetas s) (sym (is ∙ interned-new s old text k.0)) (metas_named s (length old) text)) uses
+    (λ (k : (¬ Contains old text) × (new ≡ old ++ text ∷ [])). subst (KeepsElementMetas s) (sym (is ∙ interned-new s old text k.0)) (metas_named s (length old)
+    text)) uses
 
 pub keeps_interned : (s t : State) (old new : List (List ℕ)) (text : List ℕ) → t ≡ interned s old text → UsesName old text new → IsShortName text
     → (¬ Contains old text → length old ≢ format.most_names) → IsMidway s old → KeepsElements s t new
 keeps_interned s t old new text is uses short few store = ⊎_elim
-    (λ (k : Contains old text × (new ≡ old)). subst (λ z. KeepsElements s z new) (sym (is ∙ interned-known s old text k.0)) (subst (KeepsElements s s) (sym k.1) (keeps_same s old store)))
-    (λ (k : (¬ Contains old text) × (new ≡ old ++ text ∷ [])). subst (λ z. KeepsElements s z new) (sym (is ∙ interned-new s old text k.0)) (subst (KeepsElements s (named s (length old) text)) (sym k.1) (keeps_named s old text store short k.0 (few k.0)))) uses
+    (λ (k : Contains old text × (new ≡ old)). subst (λ z. KeepsElements s z new) (sym (is ∙ interned-known s old text k.0)) (subst (KeepsElements s s) (sym k.1)
+    (keeps_same s old store)))
+    (λ (k : (¬ Contains old text) × (new ≡ old ++ text ∷ [])). subst (λ z. KeepsElements s z new) (sym (is ∙ interned-new s old text k.0))
+    (subst (KeepsElements s (named s (length old) text)) (sym k.1) (keeps_named s old text store short k.0 (few k.0)))) uses
 
 -- whatever comes of it, one record is written at most
 pub one_written : (s t : State) (number : ℕ) → WritesOnly s t (name_key number ∷ meta_key_of format.names_file ∷ []) → WritesAtMost 1 s t

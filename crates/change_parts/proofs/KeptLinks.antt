@@ -66,7 +66,12 @@ pub kind_kept : (old new : Records) (target : Target) → KeepsLinks old new (ow
 unfolding kind_in
 kind_kept old new target keeps file other record_file x =
     (λ i. kind_by_mark (ap (λ r. (metas.meta_of r).high) (meta_kept old new target keeps file other) i)
-    (number_kept old new target keeps file x 1 format.kind other record_file (record { inside = omega arith; of_node = λ e. inl (omega arith); of_edge = λ e. inl (omega arith) }) i))
+    (number_kept old new target keeps file x 1 format.kind other record_file (record {
+      inside = omega arith;
+      of_node = λ e. inl (omega arith);
+      of_edge = λ e.
+          inl (omega arith);
+    }) i))
   where
     kind_by_mark : ℕ → ℕ → ℕ
     kind_by_mark mark kind = cond (nat_lt x mark) kind 0

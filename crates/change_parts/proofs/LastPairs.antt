@@ -158,8 +158,11 @@ module _ (names : List (List ℕ)) (pairs : List Pair) (distinct : AreDistinct n
   -- a key that is none of these has another text
   lacked : (k : ℕ) → k < length names → (xs : List Assignment) → All Known xs → ¬ In k (keys xs) → LackKey (text k) (pairs_of names pairs xs)
   lacked k low [] known out = tt
-  lacked k low (a ∷ xs) known out =
-      ((λ e. out (inl (sym (text_apart names a.key k distinct (All-head Known a xs known) low e)))), lacked k low xs (All-tail Known a xs known) (λ i. out (inr i)))
+  lacked k low (a ∷ xs) known out = (
+    (λ e. out (inl (sym (text_apart names a.key k distinct (All-head Known a xs known) low e)))),
+    lacked k low xs (All-tail Known a xs known)
+        (λ i. out (inr i)),
+  )
 
   -- a place for a key is its value in the map
   pub with_pairs-placed : (m : Properties) (xs : List Assignment) (key place : ℕ) → key < length names → All Known xs → AreOnce (keys xs)
@@ -167,7 +170,8 @@ module _ (names : List (List ℕ)) (pairs : List Pair) (distinct : AreDistinct n
       (pair_at pairs place).value
   with_pairs-placed m [] key place low known once = refl
   with_pairs-placed m (a ∷ xs) key place low known once =
-      by (nat_eq a.key key) (λ e. same a.key key e) (with_pairs-placed (maps.insert m (text a.key) (pair_at pairs a.pair).value) xs key place low (All-tail Known a xs known) once.1)
+      by (nat_eq a.key key) (λ e. same a.key key e) (with_pairs-placed (maps.insert m (text a.key) (pair_at pairs a.pair).value) xs key place low
+      (All-tail Known a xs known) once.1)
     where
       same : (x y : ℕ) → nat_eq x y ≡ true → x ≡ y
       same x y e = grind (arith, nat_tests)
@@ -181,7 +185,8 @@ module _ (names : List (List ℕ)) (pairs : List Pair) (distinct : AreDistinct n
           let lack = lacked key low xs (All-tail Known a xs known) (λ i. once.0 (subst (λ k. In k (keys xs)) (sym (eq refl)) i)) in
           let z = with_pairs m (pairs_of names pairs xs) in
           insert_before m (text key) (pair_at pairs place).value (pairs_of names pairs xs) lack
-          ∙ sym (ap (λ k. maps.insert (with_pairs (maps.insert m (text k) (pair_at pairs a.pair).value) (pairs_of names pairs xs)) (text key) (pair_at pairs place).value) (eq refl)
+          ∙ sym (ap (λ k. maps.insert (with_pairs (maps.insert m (text k) (pair_at pairs a.pair).value) (pairs_of names pairs xs)) (text key)
+          (pair_at pairs place).value) (eq refl)
           ∙ ap (λ n. maps.insert n (text key) (pair_at pairs place).value)
           (insert_before m (text key) (pair_at pairs a.pair).value (pairs_of names pairs xs) lack)
           ∙ insert_twice z (text key) (pair_at pairs a.pair).value (pair_at pairs place).value)
@@ -203,5 +208,6 @@ module _ (names : List (List ℕ)) (pairs : List Pair) (distinct : AreDistinct n
 
       other : (k : ℕ) → In k (keys xs) → (b : Bool) → (b ≡ true → text k ≡ text a.key) → cond b (Some (pair_at pairs a.pair).value) (maps.get m (text k)) ≡ None
       other k i true same =
-          absurd (once.0 (subst (λ z. In z (keys xs)) (text_apart names k a.key distinct (low k xs (All-tail Known a xs known) i) (All-head Known a xs known) (same refl)) i))
+          absurd (once.0 (subst (λ z. In z (keys xs)) (text_apart names k a.key distinct (low k xs (All-tail Known a xs known) i) (All-head Known a xs known)
+          (same refl)) i))
       other k i false same = none k (inr i)

@@ -23,7 +23,8 @@ use Rattle.change_parts.specs.Assigning.{LacksNames, pair_at}
 pub name_once : (a : List (List ℕ)) (x : List ℕ) (b c : List (List ℕ)) → UsesName a x b → UsesName a x c → b ≡ c
 name_once a x b c h k = ⊎_elim
     (λ (i : Contains a x × (b ≡ a)). ⊎_elim (λ (j : Contains a x × (c ≡ a)). i.1 ∙ sym j.1) (λ (j : (¬ Contains a x) × (c ≡ a ++ x ∷ [])). absurd (j.0 i.0)) k)
-    (λ (i : (¬ Contains a x) × (b ≡ a ++ x ∷ [])). ⊎_elim (λ (j : Contains a x × (c ≡ a)). absurd (i.0 j.0)) (λ (j : (¬ Contains a x) × (c ≡ a ++ x ∷ [])). i.1 ∙ sym j.1) k) h
+    (λ (i : (¬ Contains a x) × (b ≡ a ++ x ∷ [])). ⊎_elim (λ (j : Contains a x × (c ≡ a)). absurd (i.0 j.0)) (λ (j : (¬ Contains a x) × (c ≡ a ++ x ∷ [])). i.1
+    ∙ sym j.1) k) h
 
 -- there is one after each name
 some_name : (a : List (List ℕ)) (x : List ℕ) → (b : List (List ℕ)) × UsesName a x b
@@ -51,7 +52,8 @@ pub held_name : (a : List (List ℕ)) (x : List ℕ) (b : List (List ℕ)) → A
     → (¬ Contains a x → length a ≢ most_names) → AreHeldNames b
 held_name a x b held uses short room = ⊎_elim
     (λ (i : Contains a x × (b ≡ a)). subst AreHeldNames (sym i.1) held)
-    (λ (i : (¬ Contains a x) × (b ≡ a ++ x ∷ [])). let few = held.few in let ne = room i.0 in subst AreHeldNames (sym i.1) (AreHeldNames-push a x held short i.0 (omega arith))) uses
+    (λ (i : (¬ Contains a x) × (b ≡ a ++ x ∷ [])). let few = held.few in let ne = room i.0 in subst AreHeldNames (sym i.1) (AreHeldNames-push a x held short i.0
+    (omega arith))) uses
 
 -- ---- the names of a line
 
@@ -99,7 +101,8 @@ uses_more a pairs i b c lt h k = subst (λ l. UsesNames a l c) (sym (keys_more p
 -- the keys up to a place and those from there on
 keys_split : (pairs : List Pair) (i : ℕ) → i < length pairs → keys_in pairs ≡ keys_in (take i pairs) ++ (pair_at pairs i).key ∷ keys_in (drop (i + 1) pairs)
 keys_split pairs i lt =
-    ap keys_in (sym (take-append-drop i pairs) ∙ ap (λ l. take i pairs ++ l) (drop-cons pairs i (record { key = []; value = values.Text [] }) lt ∙ ap (λ n. pair_at pairs i ∷ drop n pairs) (next i)))
+    ap keys_in (sym (take-append-drop i pairs) ∙ ap (λ l. take i pairs ++ l) (drop-cons pairs i (record { key = []; value = values.Text [] }) lt ∙ ap
+    (λ n. pair_at pairs i ∷ drop n pairs) (next i)))
     ∙ map-append (λ (p : Pair). p.key) (take i pairs) (pair_at pairs i ∷ drop (i + 1) pairs)
   where
     next : (n : ℕ) → suc n ≡ n + 1
@@ -112,7 +115,8 @@ key_lacks a pairs i b lt h full lacks =
     let x = (pair_at pairs i).key in
     let rest = some_names (b ++ x ∷ []) (keys_in (drop (i + 1) pairs)) in (
       rest.0,
-      subst (λ l. UsesNames a l rest.0) (sym (keys_split pairs i lt)) (uses_both a (keys_in (take i pairs)) b (x ∷ keys_in (drop (i + 1) pairs)) rest.0 h (b ++ x ∷ [], inr (lacks, refl), rest.1)),
+      subst (λ l. UsesNames a l rest.0) (sym (keys_split pairs i lt)) (uses_both a (keys_in (take i pairs)) b (x ∷ keys_in (drop (i + 1) pairs)) rest.0 h
+          (b ++ x ∷ [], inr (lacks, refl), rest.1)),
       let le = uses_long (b ++ x ∷ []) (keys_in (drop (i + 1) pairs)) rest.0 rest.1 in omega (arith, length-append b (x ∷ [])),
     )
 

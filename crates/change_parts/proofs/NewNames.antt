@@ -54,7 +54,8 @@ module _ (key place : ℕ) where
       omega (arith, length-append names (x ∷ []))) uses
     where
       known_text : key < length names → new ≡ names ++ x ∷ [] → slice_get names key ≡ Some x
-      known_text lt is = slice_get-get_or names key [] lt ∙ ap Some (sym (get_or_append_left names (x ∷ []) [] key lt) ∙ ap (λ l. get_or l key []) (sym is) ∙ get_or_from_slice_get new key x [] at)
+      known_text lt is = slice_get-get_or names key [] lt ∙ ap Some (sym (get_or_append_left names (x ∷ []) [] key lt) ∙ ap (λ l. get_or l key []) (sym is)
+          ∙ get_or_from_slice_get new key x [] at)
 
       above : (¬ Contains names x) → new ≡ names ++ x ∷ [] → length names ≤ key
       above lacks is = by (nat_lt key (length names)) (λ e. grind (arith, nat_tests)) (λ e. grind (arith, nat_tests))

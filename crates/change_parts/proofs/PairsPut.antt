@@ -127,7 +127,10 @@ module _ (s t : State) (names : List (List ℕ)) (target : Target) (pairs : List
 
   -- what `add` asks of the element
   pub key_there : HasKey t owner a.key
-  key_there = record { element = record { store = put.store.store; used = element_used t target there_now }; known = (text_known t names a.key put.store low).0 }
+  key_there = record {
+    element = record { store = put.store.store; used = element_used t target there_now };
+    known = (text_known t names a.key put.store low).0;
+  }
 
   pub key_new : maps.get (properties_of t owner) (text_at t a.key) ≡ None
   key_new = (λ j. maps.get (of_target j) (text_is j)) ∙ ap (λ (q : Pair). maps.get (with_pairs no_properties (take i ps)) q.key) (sym here)
@@ -155,7 +158,8 @@ module _ (s t : State) (names : List (List ℕ)) (target : Target) (pairs : List
   put_more u value is sets = record {
     store = record {
       store = sets.changes.store;
-      names = put.store.names ∙ sym (ap (λ (g : Graph). g.names) sets.graph ∙ names-with_properties (graph_in t) (target_of owner) (λ m. maps.insert m (text_at t a.key) value));
+      names = put.store.names ∙ sym (ap (λ (g : Graph). g.names) sets.graph ∙ names-with_properties (graph_in t) (target_of owner)
+          (λ m. maps.insert m (text_at t a.key) value));
     };
     graph = sets.graph ∙ next_graph value is;
     keeps = links_twice s.records t.records u.records owner put.keeps (links_kept t u owner sets.changes);

@@ -43,7 +43,8 @@ slice_get-more names rest id text at =
 pub label_refused : (s : State) (names : List (List ℕ)) (label : List ℕ) (pairs : List Pair) → IsMidway s names → (fault : InternFault)
     → IsFullFault names label fault → IsRefusedBy line_reasons s.shape.limit (graph_in s) (commands.Node label pairs) (of_intern fault)
 label_refused s names label pairs store (intern.NamesFull count) why =
-    names_refused s.shape.limit (graph_in s) label pairs (subst (λ n. LacksNames n (label ∷ keys_in pairs)) store.names (first_lacks names label (keys_in pairs) why.all why.new))
+    names_refused s.shape.limit (graph_in s) label pairs (subst (λ n. LacksNames n (label ∷ keys_in pairs)) store.names (first_lacks names label (keys_in pairs)
+    why.all why.new))
 label_refused s names label pairs store intern.Memory why = tt
 label_refused s names label pairs store intern.Disk why = tt
 
@@ -82,7 +83,13 @@ module _ (s : State) (a b : List (List ℕ)) (label : List ℕ) (pairs : List Pa
         ∙ (λ i. property_count (record { nodes = kept.nodes i; edges = kept.edges i; names = (graph_in s).names; indexes = (graph_in s).indexes }))
 
     live_blocks : (meta_of u format.strings_file).live ≡ block_count (graph_in s)
-    live_blocks = count_blocks u.records u.shape kept.store.store ∙ (λ i. block_count (record { nodes = kept.nodes i; edges = kept.edges i; names = (graph_in s).names; indexes = (graph_in s).indexes }))
+    live_blocks = count_blocks u.records u.shape kept.store.store ∙ (λ i. block_count (record {
+      nodes = kept.nodes i;
+      edges = kept.edges i;
+      names =
+          (graph_in s).names;
+      indexes = (graph_in s).indexes;
+    }))
 
     limit_is : u.shape.limit ≡ s.shape.limit
     limit_is = ap (λ (h : Shape). h.limit) kept.shape
@@ -99,10 +106,13 @@ module _ (s : State) (a b : List (List ℕ)) (label : List ℕ) (pairs : List Pa
         let n = length-assigned c pairs xs are in
         let m = blocks-assigned c pairs xs are in
         ⊎_elim
-        (λ (k : LacksRoom u format.properties_file (length xs) fault). subst (IsRefusedBy line_reasons s.shape.limit (graph_in s) (commands.Node label pairs)) (sym k.is)
+        (λ (k : LacksRoom u format.properties_file (length xs) fault). subst (IsRefusedBy line_reasons s.shape.limit (graph_in s) (commands.Node label pairs))
+        (sym k.is)
         (properties_refused s.shape.limit (graph_in s) label pairs (line_fits c later names_few) few_properties (let lt = k.lacks in omega arith)))
-        (λ (k : HasRoom u format.properties_file (length xs) × LacksRoom u format.strings_file (assigned_blocks pairs xs) fault). subst (IsRefusedBy line_reasons s.shape.limit (graph_in s) (commands.Node label pairs)) (sym k.1.is)
-        (strings_refused s.shape.limit (graph_in s) label pairs (line_fits c later names_few) few_properties (let le = k.0 in omega arith) (let lt = k.1.lacks in omega arith))) why
+        (λ (k : HasRoom u format.properties_file (length xs) × LacksRoom u format.strings_file (assigned_blocks pairs xs) fault). subst
+        (IsRefusedBy line_reasons s.shape.limit (graph_in s) (commands.Node label pairs)) (sym k.1.is)
+        (strings_refused s.shape.limit (graph_in s) label pairs (line_fits c later names_few) few_properties (let le = k.0 in omega arith)
+        (let lt = k.1.lacks in omega arith))) why
 
     pub prepared_is : (prepared : Prepared) → prepared.assigned.items ≡ xs → slice_get b prepared.label ≡ Some label
         → HasPropertyRoom u (length xs) (assigned_blocks pairs xs)

@@ -65,7 +65,17 @@ module _ (limit : ℕ) (graph : Graph) (label : List ℕ) (pairs : List Pair) wh
   pub strings_refused : None (lacks_names graph line) → maps.len properties ≤ 32 → property_count graph + maps.len properties ≤ limit
       → limit < block_count graph + blocks_in properties
       → FirstReason line_reasons limit graph (commands.Node label pairs) refusals.FullStrings
-  strings_refused names few fits full = inr (names, inr (few_fit properties few, inr (room_fits limit (property_count graph + maps.len properties) refusals.FullProperties fits, inl (full, refl))))
+  strings_refused names few fits full = inr (
+    names,
+    inr (
+      few_fit properties few,
+      inr (
+        room_fits limit (property_count graph + maps.len properties)
+            refusals.FullProperties fits,
+        inl (full, refl),
+      ),
+    ),
+  )
 
 -- ---- more reasons
 -- what refuses by some reasons refuses by others, where each first one does

@@ -40,8 +40,25 @@ clash : true ≡ false → ⊥
 clash e = cc
 
 edge_free : (limit : ℕ) (graph : Graph) (id : ℕ) → has_edge graph id ≡ true → NoReason change_reasons limit graph (commands.Delete (targets.Edge id))
-edge_free limit graph id there =
-    (λ o z. z, (λ o z. z, (λ o z. z, (λ o z. z, (λ o z. z, (λ o z. clash (sym there ∙ z.0), (λ o z. z, (λ o z. z, (λ o z. z, (λ o z. z, (λ o z. z, (λ o z. z, (λ o z. z, (λ o z. z, (λ o z. z, (λ o z. z, tt))))))))))))))))
+edge_free limit graph id there = (
+  λ o z. z,
+  (
+    λ o z. z,
+    (
+      λ o z. z,
+      (
+        λ o z. z,
+        (
+          λ o z. z,
+          (
+            λ o z. clash (sym there ∙ z.0),
+            (λ o z. z, (λ o z. z, (λ o z. z, (λ o z. z, (λ o z. z, (λ o z. z, (λ o z. z, (λ o z. z, (λ o z. z, (λ o z. z, tt)))))))))),
+          ),
+        ),
+      ),
+    ),
+  ),
+)
 
 -- ---- the store after the properties of an edge were taken away
 module _ (s u : State) (names : List (List ℕ)) (dropped : Dropped) (store : IsMidway s names) where
@@ -81,7 +98,8 @@ module _ (s u : State) (names : List (List ℕ)) (dropped : Dropped) (store : Is
     edge_deleted t are takes =
         let there = edge_there s.records id (rel_rows.kind-row_at-Some s.records id rel (sym found)).0 in
         record {
-          store = store_now t names takes.store (takes.indexes (properties_keep s u s.shape format.relationships_file id h.changes.before h.changes.after h.changes.changes refl store.store are));
+          store = store_now t names takes.store (takes.indexes (properties_keep s u s.shape format.relationships_file id h.changes.before h.changes.after
+              h.changes.changes refl store.store are));
           changes = (
             refl,
             record {
@@ -124,4 +142,5 @@ module _ (s v : State) (names : List (List ℕ)) (id : ℕ) (rel : RelRow) (stor
       pub edge_made : (t : State) → AreIndexed s.records (wanted_in s.records) → TakesEdge u t names id
           → MakesChange (commands.Delete (targets.Edge id)) Done (13 + dropped.properties + dropped.blocks) s t names
       edge_made t are takes = made_read s v t names (commands.Delete (targets.Edge id)) Done (13 + dropped.properties + dropped.blocks) same
-          (edge_deleted v u names dropped store_then id gone_properties rel found_then t (subst (λ (z : State). AreIndexed z.records (wanted_in z.records)) (sym same) are) takes)
+          (edge_deleted v u names dropped store_then id gone_properties rel found_then t (subst (λ (z : State). AreIndexed z.records (wanted_in z.records))
+          (sym same) are) takes)

@@ -129,7 +129,38 @@ module _ (limit : ℕ) (graph : Graph) (from : ℕ) (label : List ℕ) (to : ℕ
 
         line_first : (why : Refusal) → FirstReason line_reasons limit graph (commands.Node label pairs) why
             → FirstReason change_reasons limit graph (commands.Edge from label to pairs) why
-        line_first why h = inr (none_of, inr (has_source, inr (has_target, inr (has_room, inr (none_of, inr (none_of, inr (none_of, inr (none_of, inr (none_of, inr (none_of, first_front line_reasons index_reasons limit graph (commands.Edge from label to pairs) why h))))))))))
+        line_first why h = inr (
+          none_of,
+          inr (
+            has_source,
+            inr (
+              has_target,
+              inr (
+                has_room,
+                inr (
+                  none_of,
+                  inr (
+                    none_of,
+                    inr (
+                      none_of,
+                      inr (
+                        none_of,
+                        inr (
+                          none_of,
+                          inr (
+                            none_of,
+                            first_front line_reasons index_reasons limit graph
+                                (commands.Edge from label to pairs) why h,
+                          ),
+                        ),
+                      ),
+                    ),
+                  ),
+                ),
+              ),
+            ),
+          ),
+        )
 
         -- the names or the properties refuse it
         pub line_refused : (fault : ChangeFault) → IsRefusedBy line_reasons limit graph (commands.Node label pairs) fault
@@ -138,7 +169,38 @@ module _ (limit : ℕ) (graph : Graph) (from : ℕ) (label : List ℕ) (to : ℕ
 
         -- nothing refuses it
         edge_free : NoReason line_reasons limit graph (commands.Node label pairs) → NoReason change_reasons limit graph (commands.Edge from label to pairs)
-        edge_free free = (none_of, (has_source, (has_target, (has_room, (none_of, (none_of, (none_of, (none_of, (none_of, (none_of, none_both line_reasons index_reasons limit graph (commands.Edge from label to pairs) free (none_of, (none_of, tt))))))))))))
+        edge_free free = (
+          none_of,
+          (
+            has_source,
+            (
+              has_target,
+              (
+                has_room,
+                (
+                  none_of,
+                  (
+                    none_of,
+                    (
+                      none_of,
+                      (
+                        none_of,
+                        (
+                          none_of,
+                          (
+                            none_of,
+                            none_both line_reasons index_reasons limit graph (commands.Edge from label to pairs) free
+                                (none_of, (none_of, tt)),
+                          ),
+                        ),
+                      ),
+                    ),
+                  ),
+                ),
+              ),
+            ),
+          ),
+        )
 
 -- ---- the degrees of the ends
 -- a node of a store has the degree that it has in the graph

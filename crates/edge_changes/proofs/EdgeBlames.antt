@@ -108,13 +108,16 @@ module _ (s : State) (head : Head) (n : ℕ) (owns : IsHeadOf s.records head n) 
         ∙ number_unlinked s head n rel key m at no_link (omega arith) (λ e. inl (aside e))
 
     mark : (f : ℕ) → high (parted s head n rel d).records f ≡ high s.records f
-    mark f = ap (λ r. (metas.meta_of r).high) (record_parted s head n rel d (meta_key_of f) (λ e. omega arith) (λ e. no_meta (sym (ap (λ (k : Key). k.file) e))) (λ e. let k = ap (λ (q : Key). q.file) e in omega arith))
+    mark f = ap (λ r. (metas.meta_of r).high) (record_parted s head n rel d (meta_key_of f) (λ e. omega arith) (λ e. no_meta (sym (ap (λ (k : Key). k.file) e)))
+        (λ e. let k = ap (λ (q : Key). q.file) e in omega arith))
 
     heads_parted : KeepsHeads s (parted s head n rel d)
     heads_parted = heads_alike s.records (parted s head n rel d).records (alike_by s.records (parted s head n rel d).records
         (mark format.nodes_file) (mark format.groups_file)
-        (λ x. number_parted (key_in format.nodes_file x) 1 format.kind (λ e. omega arith) (omega arith) (λ e. omega arith) (λ e. let b = behind_kind in omega arith))
-        (λ g m at within. number_parted (key_in format.groups_file g) m at (λ e. omega arith) (omega arith) (λ e. omega arith) (λ e. let b = behind_chain (sym (ap (λ (k : Key). k.file) e)) in omega arith)))
+        (λ x. number_parted (key_in format.nodes_file x) 1 format.kind (λ e. omega arith) (omega arith) (λ e. omega arith) (λ e. let b = behind_kind in omega
+        arith))
+        (λ g m at within. number_parted (key_in format.groups_file g) m at (λ e. omega arith) (omega arith) (λ e. omega arith) (λ e. let b = behind_chain
+        (sym (ap (λ (k : Key). k.file) e)) in omega arith)))
 
     -- in two steps
     pub heads_parted_by : (u t : State) → u ≡ tallied one_less (unlinked s head n rel) head
@@ -129,7 +132,8 @@ module _ (s : State) (head : Head) (n : ℕ) (owns : IsHeadOf s.records head n) 
       shape = shape_parted s head n rel d;
       kinds = λ x. ap (λ m. kind_in m (rec_at (parted s head n rel d).records format.nodes_file x) x) (mark format.nodes_file)
           ∙ kind_by (high s.records format.nodes_file) (rec_at (parted s head n rel d).records format.nodes_file x) (rec_at s.records format.nodes_file x) x
-          (number_parted (key_in format.nodes_file x) 1 format.kind (λ e. omega arith) (omega arith) (λ e. omega arith) (λ e. let b = behind_kind in omega arith));
+          (number_parted (key_in format.nodes_file x) 1 format.kind (λ e. omega arith) (omega arith) (λ e. omega arith) (λ e. let b = behind_kind in omega
+          arith));
       first = λ x dense. number_parted (key_in format.nodes_file x) 4 format.node_first_link (λ e. omega arith) (omega arith) (λ e. omega arith)
           (λ e. absurd (no_dense x dense e));
       mark = mark format.groups_file;
@@ -195,13 +199,16 @@ module _ (s : State) (head : Head) (n : ℕ) (owns : IsHeadOf s.records head n) 
       ∙ number_pushed s head n rel key m at no_link (omega arith) (λ e. inl (aside e))
 
   mark_joined : (f : ℕ) → high (joined s head n rel d).records f ≡ high s.records f
-  mark_joined f = ap (λ r. (metas.meta_of r).high) (record_joined s head n rel d (meta_key_of f) (λ e. omega arith) (λ e. no_meta s head n owns (sym (ap (λ (k : Key). k.file) e))) (λ e. let k = ap (λ (q : Key). q.file) e in omega arith))
+  mark_joined f = ap (λ r. (metas.meta_of r).high) (record_joined s head n rel d (meta_key_of f) (λ e. omega arith) (λ e. no_meta s head n owns
+      (sym (ap (λ (k : Key). k.file) e))) (λ e. let k = ap (λ (q : Key). q.file) e in omega arith))
 
   heads_joined : KeepsHeads s (joined s head n rel d)
   heads_joined = heads_alike s.records (joined s head n rel d).records (alike_by s.records (joined s head n rel d).records
       (mark_joined format.nodes_file) (mark_joined format.groups_file)
-      (λ x. number_joined (key_in format.nodes_file x) 1 format.kind (λ e. omega arith) (omega arith) (λ e. omega arith) (λ e. let b = behind_kind s head n owns in omega arith))
-      (λ g m at within. number_joined (key_in format.groups_file g) m at (λ e. omega arith) (omega arith) (λ e. omega arith) (λ e. let b = behind_chain s head n owns (sym (ap (λ (k : Key). k.file) e)) in omega arith)))
+      (λ x. number_joined (key_in format.nodes_file x) 1 format.kind (λ e. omega arith) (omega arith) (λ e. omega arith) (λ e. let b = behind_kind s head n
+      owns in omega arith))
+      (λ g m at within. number_joined (key_in format.groups_file g) m at (λ e. omega arith) (omega arith) (λ e. omega arith) (λ e. let b = behind_chain s head n
+      owns (sym (ap (λ (k : Key). k.file) e)) in omega arith)))
 
   -- in two steps
   pub heads_joined_by : (u t : State) → u ≡ tallied one_more (pushed s head n rel) head → t ≡ after_set u (key_in format.nodes_file n) 4 format.node_degree d
@@ -212,15 +219,20 @@ module _ (s : State) (head : Head) (n : ℕ) (owns : IsHeadOf s.records head n) 
 
 -- a relationship is written, and an identifier taken or given back
 pub heads_given : (s t : State) (id : ℕ) → ChangesOnly s t (key_in format.relationships_file id ∷ meta_key_of format.relationships_file ∷ []) → KeepsHeads s t
-heads_given s t id changes = heads_alike s.records t.records (alike_by s.records t.records (mark format.nodes_file (λ e. omega arith)) (mark format.groups_file (λ e. omega arith))
-    (λ x. ap (λ (r : Rec). field 1 r format.kind) (same (key_in format.nodes_file x) (λ e. let f = ap (λ (k : Key). k.file) e in omega arith) (λ e. let f = ap (λ (k : Key). k.file) e in omega arith)))
-    (λ g m at within. ap (λ (r : Rec). field m r at) (same (key_in format.groups_file g) (λ e. let f = ap (λ (k : Key). k.file) e in omega arith) (λ e. let f = ap (λ (k : Key). k.file) e in omega arith))))
+heads_given s t id changes = heads_alike s.records t.records (alike_by s.records t.records (mark format.nodes_file (λ e. omega arith)) (mark format.groups_file
+    (λ e. omega arith))
+    (λ x. ap (λ (r : Rec). field 1 r format.kind) (same (key_in format.nodes_file x) (λ e. let f = ap (λ (k : Key). k.file) e in omega arith)
+    (λ e. let f = ap (λ (k : Key). k.file) e in omega arith)))
+    (λ g m at within. ap (λ (r : Rec). field m r at) (same (key_in format.groups_file g) (λ e. let f = ap (λ (k : Key). k.file) e in omega arith)
+    (λ e. let f = ap (λ (k : Key). k.file) e in omega arith))))
   where
     same : (q : Key) → q ≢ key_in format.relationships_file id → q ≢ meta_key_of format.relationships_file → t.records q ≡ s.records q
-    same q no_rel no_meta = ⊎_elim (λ e. e) (λ (i : IsAmong q (key_in format.relationships_file id ∷ meta_key_of format.relationships_file ∷ [])). absurd (⊎_elim no_rel (λ j. ⊎_elim no_meta (λ (f : ⊥). f) j) i)) (changes.each q)
+    same q no_rel no_meta = ⊎_elim (λ e. e) (λ (i : IsAmong q (key_in format.relationships_file id ∷ meta_key_of format.relationships_file ∷ [])). absurd
+        (⊎_elim no_rel (λ j. ⊎_elim no_meta (λ (f : ⊥). f) j) i)) (changes.each q)
 
     mark : (f : ℕ) → f ≢ format.relationships_file → high t.records f ≡ high s.records f
-    mark f ne = ap (λ r. (metas.meta_of r).high) (same (meta_key_of f) (λ e. let k = ap (λ (q : Key). q.file) e in omega arith) (λ e. ne (ap (λ (q : Key). q.id) e)))
+    mark f ne = ap (λ r. (metas.meta_of r).high) (same (meta_key_of f) (λ e. let k = ap (λ (q : Key). q.file) e in omega arith)
+        (λ e. ne (ap (λ (q : Key). q.id) e)))
 
 -- the groups of dense nodes then
 pub groups_given : (s t : State) (id : ℕ) → t.shape ≡ s.shape → ChangesOnly s t
@@ -231,17 +243,20 @@ groups_given s t id shape changes = record {
       ∙ ap (λ (r : Rec). kind_in (high s.records format.nodes_file) r n) (node n);
   first = λ n dense. ap (λ (r : Rec). field 4 r format.node_first_link) (node n);
   mark = mark format.groups_file (λ e. omega arith);
-  numbers = λ g n at inside. ap (λ (r : Rec). field n r at) (same (key_in format.groups_file g) (λ e. let f = ap (λ (k : Key). k.file) e in omega arith) (λ e. let f = ap (λ (k : Key). k.file) e in omega arith));
+  numbers = λ g n at inside. ap (λ (r : Rec). field n r at) (same (key_in format.groups_file g) (λ e. let f = ap (λ (k : Key). k.file) e in omega arith)
+      (λ e. let f = ap (λ (k : Key). k.file) e in omega arith));
 }
   where
     same : (q : Key) → q ≢ key_in format.relationships_file id → q ≢ meta_key_of format.relationships_file → t.records q ≡ s.records q
-    same q no_rel no_meta = ⊎_elim (λ e. e) (λ (i : IsAmong q (key_in format.relationships_file id ∷ meta_key_of format.relationships_file ∷ [])). absurd (⊎_elim no_rel (λ j. ⊎_elim no_meta (λ (f : ⊥). f) j) i)) (changes.each q)
+    same q no_rel no_meta = ⊎_elim (λ e. e) (λ (i : IsAmong q (key_in format.relationships_file id ∷ meta_key_of format.relationships_file ∷ [])). absurd
+        (⊎_elim no_rel (λ j. ⊎_elim no_meta (λ (f : ⊥). f) j) i)) (changes.each q)
 
     node : (n : ℕ) → rec_at t.records format.nodes_file n ≡ rec_at s.records format.nodes_file n
     node n = same (key_in format.nodes_file n) (λ e. let f = ap (λ (k : Key). k.file) e in omega arith) (λ e. let f = ap (λ (k : Key). k.file) e in omega arith)
 
     mark : (f : ℕ) → f ≢ format.relationships_file → high t.records f ≡ high s.records f
-    mark f ne = ap (λ r. (metas.meta_of r).high) (same (meta_key_of f) (λ e. let k = ap (λ (q : Key). q.file) e in omega arith) (λ e. ne (ap (λ (q : Key). q.id) e)))
+    mark f ne = ap (λ r. (metas.meta_of r).high) (same (meta_key_of f) (λ e. let k = ap (λ (q : Key). q.file) e in omega arith)
+        (λ e. ne (ap (λ (q : Key). q.id) e)))
 
 pub groups_then : (s t u : State) → KeepsGroups s t → KeepsGroups t u → KeepsGroups s u
 groups_then s t u a b = record {

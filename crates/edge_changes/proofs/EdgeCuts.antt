@@ -88,7 +88,16 @@ cut_told s u head n id from to row damage which source target live placed alike 
         (λ b. inr (b.0, head.key.id, head_on s.records head n placed.owns k.group, twin_as s u n alike head.key.id b.1)) k.broken)
 
 pub alike_same : (s : State) (n : ℕ) → AreAlike s s n
-alike_same s n = record { shape = refl; node = refl; node_mark = refl; group_mark = refl; numbers = λ g m at one inside. refl; used = λ g. refl; live = λ g. refl }
+alike_same s n = record {
+  shape = refl;
+  node = refl;
+  node_mark = refl;
+  group_mark = refl;
+  numbers = λ g m at one inside. refl;
+  used = λ g. refl;
+  live = λ g.
+      refl;
+}
 
 -- at the first end nothing is written yet
 pub first_cut : (s : State) (head : Head) (n id from to : ℕ) (row : RelRow) (damage : Damage) → (n ≡ from) ⊎ (n ≡ to) → HasChains s.records from
@@ -105,14 +114,19 @@ module _ (s : State) (head : Head) (n rel d m : ℕ) (ne : n ≢ m) (owns : IsHe
 
   at_node : (x : ℕ) → In x here.members → (row : RelRow) × (rel_at s.records x ≡ Some row) × IsEnd n row
   at_node x i =
-      let stands = here.chain.only x i in
-      (stands.row, stands.live, end_on (kind_at s.records format.nodes_file) (group_at s.records) here.head n stands.row (chain_head s.records here.head n here.owns) stands.on)
+      let stands = here.chain.only x i in (
+        stands.row,
+        stands.live,
+        end_on (kind_at s.records format.nodes_file) (group_at s.records) here.head n stands.row
+            (chain_head s.records here.head n here.owns) stands.on,
+      )
 
   -- the neighbours are in its chain
   beside : (x : ℕ) → x ≢ format.nil → (x ≡ rel) ⊎ ((x ≡ prev_of s.records n rel) ⊎ (x ≡ next_of s.records n rel)) → In x here.members
   beside x some (inl e) = subst (λ z. In z here.members) (sym e) here.member
   beside x some (inr (inl e)) = ⊎_elim
-      (λ (first : first_of s.records here.head ≡ rel). absurd (some (e ∙ first_before (next_of s.records n) (prev_of s.records n) format.nil (first_of s.records here.head) here.members rel here.chain.chain here.member first)))
+      (λ (first : first_of s.records here.head ≡ rel). absurd (some (e ∙ first_before (next_of s.records n) (prev_of s.records n) format.nil
+      (first_of s.records here.head) here.members rel here.chain.chain here.member first)))
       (λ i. subst (λ z. In z here.members) (sym e) i)
       (before_in (next_of s.records n) (prev_of s.records n) format.nil (first_of s.records here.head) here.members rel here.chain.chain here.member)
   beside x some (inr (inr e)) = ⊎_elim
@@ -231,5 +245,6 @@ place_later s u id row a b edge ne is =
     let h = head_of a.head in
     let owns = chain_head s.records h a.node edge.places.0.owns in (
       row_still s u h a.node id (a.degree - 1) owns is id ∙ edge.live,
-      placed_as u s b.node (alike_back s u b.node (subst (λ (z : State). AreAlike s z b.node) (sym is) (alike_parted s h a.node owns id (a.degree - 1) b.node ne))) (head_of b.head) row edge.places.1,
+      placed_as u s b.node (alike_back s u b.node (subst (λ (z : State). AreAlike s z b.node) (sym is) (alike_parted s h a.node owns id (a.degree - 1)
+          b.node ne))) (head_of b.head) row edge.places.1,
     )

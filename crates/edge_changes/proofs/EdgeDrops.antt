@@ -41,7 +41,13 @@ use Rattle.edge_changes.specs.EdgeDeleting.IsUndropped.{Astray, BadLink, HighMar
 pub head_group : (records : Records) (head : Head) (node : ℕ) → head.key.file ≡ format.groups_file → IsHeadOf records head node
     → HasGroup records node head.key.id
 head_group records head node file (inl o) = absurd (let f = ap (λ (h : Head). h.key.file) o.is in omega arith)
-head_group records head node file (inr o) = record { dense = o.dense; row = o.row; group = ap (λ (k : Key). group_at records k.id) o.key ∙ o.group; owner = o.owner }
+head_group records head node file (inr o) = record {
+  dense = o.dense;
+  row = o.row;
+  group = ap (λ (k : Key). group_at records k.id) o.key ∙ o.group;
+  owner =
+      o.owner;
+}
 
 module _ (records : Records) (node g : ℕ) (has : HasGroup records node g) where
   used : (kind_at records format.groups_file g ≢ 0) × (group_in (rec_at records format.groups_file g) g ≡ has.row)
@@ -55,7 +61,8 @@ module _ (records : Records) (node g : ℕ) (has : HasGroup records node g) wher
 link_on : (s t : State) (l k : ℕ) (named damage : Damage) → l ≡ k → group_mark t ≡ group_mark s → t.shape ≡ s.shape → IsLinkDamage t l named damage
     → IsLinkDamage s k named damage
 link_on s t l k named damage is mark shape (LeadsNowhere some above) = LeadsNowhere (λ e. some (is ∙ e)) (let m = mark in omega (arith, above, is, m))
-link_on s t l k named damage is mark shape (HighLink above) = HighLink (let m = mark in let r : group_room t ≡ group_room s = ap (λ (h : Shape). room_of h format.groups_file) shape in omega (arith, above, m, r))
+link_on s t l k named damage is mark shape (HighLink above) = HighLink (let m = mark in let r : group_room t ≡ group_room s = ap
+    (λ (h : Shape). room_of h format.groups_file) shape in omega (arith, above, m, r))
 
 -- a link that another group's removal left
 link_left : (s t : State) (l k : ℕ) (named damage : Damage) → IsSameOrLow t l k → group_mark t ≡ group_mark s → t.shape ≡ s.shape
@@ -83,24 +90,32 @@ pub met_later : (s t : State) (node n g : ℕ) → KeepsOtherChains s t node →
     → IsDropDamage t n g d → IsUndropped s n g d
 met_later s t node n g kept ne was has d (BadMember _ (NoMember none)) = absurd (none (group_owned t.records n g has))
 met_later s t node n g kept ne was has d (BadMember _ (UnknownMember low none)) =
-    NoKind (subst (λ m. g < m) kept.mark low) (no_kind (rec_at t.records format.groups_file g) (rec_at s.records format.groups_file g) (kept.kinds n g ne (group_owned s.records n g was)) none)
+    NoKind (subst (λ m. g < m) kept.mark low) (no_kind (rec_at t.records format.groups_file g) (rec_at s.records format.groups_file g)
+    (kept.kinds n g ne (group_owned s.records n g was)) none)
 met_later s t node n g kept ne was has d (BadMember _ (HighMember above)) =
-    HighMark (let m = kept.mark in let r : group_room t ≡ group_room s = ap (λ (h : Shape). room_of h format.groups_file) kept.shape in omega (arith, above, m, r))
+    HighMark (let m = kept.mark in let r : group_room t ≡ group_room s = ap (λ (h : Shape). room_of h format.groups_file) kept.shape in omega
+    (arith, above, m, r))
 met_later s t node n g kept ne was has d (BadPrevious _ bad) =
-    BadLink (previous_group s.records g) (inl refl) d (link_left s t (previous_group t.records g) (previous_group s.records g) (range_damage g) d (kept.before n g ne (group_owned s.records n g was)) kept.mark kept.shape bad)
+    BadLink (previous_group s.records g) (inl refl) d (link_left s t (previous_group t.records g) (previous_group s.records g) (range_damage g) d
+    (kept.before n g ne (group_owned s.records n g was)) kept.mark kept.shape bad)
 met_later s t node n g kept ne was has d (BadNext _ bad) =
-    BadLink (next_group s.records g) (inr refl) d (link_left s t (next_group t.records g) (next_group s.records g) (range_damage g) d (kept.after n g ne (group_owned s.records n g was)) kept.mark kept.shape bad)
+    BadLink (next_group s.records g) (inr refl) d (link_left s t (next_group t.records g) (next_group s.records g) (range_damage g) d
+    (kept.after n g ne (group_owned s.records n g was)) kept.mark kept.shape bad)
 met_later s t node n g kept ne was has d (Loose out) = Astray (λ xs own. out xs (kept.chains n xs ne own))
 
 -- before the edge left its chains
 pub kept_undropped : (s t : State) (n g : ℕ) → KeepsGroups s t → HasGroup s.records n g → (d : Damage) → IsUndropped t n g d → IsUndropped s n g d
 kept_undropped s t n g kept has d (NoKind low none) =
-    NoKind (subst (λ m. g < m) kept.mark low) (no_kind (rec_at t.records format.groups_file g) (rec_at s.records format.groups_file g) (kept.numbers g 1 format.kind (omega arith)) none)
+    NoKind (subst (λ m. g < m) kept.mark low) (no_kind (rec_at t.records format.groups_file g) (rec_at s.records format.groups_file g)
+    (kept.numbers g 1 format.kind (omega arith)) none)
 kept_undropped s t n g kept has d (BadLink l which _ bad) = ⊎_elim
-    (λ (e : l ≡ previous_group t.records g). BadLink (previous_group s.records g) (inl refl) d (link_on s t l (previous_group s.records g) (range_damage g) d (e ∙ kept.numbers g 4 format.group_previous (omega arith)) kept.mark kept.shape bad))
-    (λ (e : l ≡ next_group t.records g). BadLink (next_group s.records g) (inr refl) d (link_on s t l (next_group s.records g) (range_damage g) d (e ∙ kept.numbers g 4 format.group_next (omega arith)) kept.mark kept.shape bad)) which
+    (λ (e : l ≡ previous_group t.records g). BadLink (previous_group s.records g) (inl refl) d (link_on s t l (previous_group s.records g) (range_damage g) d
+    (e ∙ kept.numbers g 4 format.group_previous (omega arith)) kept.mark kept.shape bad))
+    (λ (e : l ≡ next_group t.records g). BadLink (next_group s.records g) (inr refl) d (link_on s t l (next_group s.records g) (range_damage g) d
+    (e ∙ kept.numbers g 4 format.group_next (omega arith)) kept.mark kept.shape bad)) which
 kept_undropped s t n g kept has d (HighMark above) =
-    HighMark (let m = kept.mark in let r : group_room t ≡ group_room s = ap (λ (h : Shape). room_of h format.groups_file) kept.shape in omega (arith, above, m, r))
+    HighMark (let m = kept.mark in let r : group_room t ≡ group_room s = ap (λ (h : Shape). room_of h format.groups_file) kept.shape in omega
+    (arith, above, m, r))
 kept_undropped s t n g kept has d (Astray out) = Astray (λ xs own. out xs (record {
   chain = subst (λ z. IsChain (next_group t.records) (previous_group t.records) format.nil z xs) (sym (kept.first n has.dense))
       (chain_stays (next_group s.records) (previous_group s.records) (next_group t.records) (previous_group t.records) format.nil (first_link s.records n) xs
@@ -142,9 +157,12 @@ module _ (s t : State) (n g : ℕ) (alike : AreAlike s t n) (has : HasGroup t.re
   pub undropped_broke : (d : Damage) → IsUndropped t n g d → Breaks s.records s.shape d
   undropped_broke d (NoKind low none) = by_drop d (BadMember d (UnknownMember (subst (λ m. g < m) alike.group_mark low) (kind_as s t n alike g low none)))
   undropped_broke d (BadLink l which _ bad) = ⊎_elim
-      (λ (e : l ≡ previous_group t.records g). by_drop d (BadPrevious d (link_on s t l (previous_group s.records g) (range_damage g) d (e ∙ alike.numbers g 4 format.group_previous (omega arith) (omega arith)) alike.group_mark alike.shape bad)))
-      (λ (e : l ≡ next_group t.records g). by_drop d (BadNext d (link_on s t l (next_group s.records g) (range_damage g) d (e ∙ alike.numbers g 4 format.group_next (omega arith) (omega arith)) alike.group_mark alike.shape bad))) which
-  undropped_broke d (HighMark above) = by_drop d (BadMember d (HighMember (let m = alike.group_mark in let r : group_room t ≡ group_room s = ap (λ (h : Shape). room_of h format.groups_file) alike.shape in omega (arith, above, m, r))))
+      (λ (e : l ≡ previous_group t.records g). by_drop d (BadPrevious d (link_on s t l (previous_group s.records g) (range_damage g) d
+      (e ∙ alike.numbers g 4 format.group_previous (omega arith) (omega arith)) alike.group_mark alike.shape bad)))
+      (λ (e : l ≡ next_group t.records g). by_drop d (BadNext d (link_on s t l (next_group s.records g) (range_damage g) d
+      (e ∙ alike.numbers g 4 format.group_next (omega arith) (omega arith)) alike.group_mark alike.shape bad))) which
+  undropped_broke d (HighMark above) = by_drop d (BadMember d (HighMember (let m = alike.group_mark in let r : group_room t ≡ group_room s = ap
+      (λ (h : Shape). room_of h format.groups_file) alike.shape in omega (arith, above, m, r))))
   undropped_broke d (Astray out) = GroupOwner g (λ keeps.
       let o = keeps.owner has.row group_was in
       out o.members (chain_now o.members (subst (λ m. breaking.IsGroupChain s.records m o.members) has.owner o.groups)) o.member)
@@ -158,8 +176,13 @@ pub close_blamed : (s u : State) (head : Head) (node : ℕ) → KeepsGroups s u 
 close_blamed s u head node kept was now file faults.Memory told = tt
 close_blamed s u head node kept was now file faults.Disk told = tt
 close_blamed s u head node kept was now file (faults.Damaged damage) told =
-    let has = head_group s.records head node file was in
-    (node, head.key.id, has, kept_undropped s u node head.key.id kept has damage (met_here u node head.key.id (head_group u.records head node file now) damage told))
+    let has = head_group s.records head node file was in (
+      node,
+      head.key.id,
+      has,
+      kept_undropped s u node head.key.id kept has damage (met_here u node head.key.id (head_group u.records head node file now)
+          damage told),
+    )
 
 -- the second one
 pub later_blamed : (s u v : State) (head : Head) (node n : ℕ) → KeepsGroups s u → KeepsOtherChains u v node → n ≢ node → IsHeadOf s.records head n

@@ -151,11 +151,13 @@ module _ (s : State) (head : Head) (node : ℕ) (owns : IsHeadOf s.records head 
       by (inr r) (inr h) (inr n) = inl (record_joined s head node rel d (key_in damage.file damage.id) r h n)
 
   -- in two steps
-  pub found_joined_by : (u t : State) → u ≡ tallied one_more (pushed s head node rel) head → t ≡ after_set u (key_in format.nodes_file node) 4 format.node_degree d
+  pub found_joined_by : (u t : State) → u ≡ tallied one_more (pushed s head node rel) head → t ≡ after_set u (key_in format.nodes_file node)
+      4 format.node_degree d
       → KeepsButChains s t node node
   unfolding joined
   found_joined_by u t put set =
-      subst (λ (z : State). KeepsButChains s z node node) (sym (set ∙ ap (λ (z : State). after_set z (key_in format.nodes_file node) 4 format.node_degree d) put))
+      subst (λ (z : State). KeepsButChains s z node node) (sym (set ∙ ap (λ (z : State). after_set z (key_in format.nodes_file node) 4 format.node_degree d)
+      put))
       found_joined
 
 pub push_blames : (s t : State) (node : ℕ) (fault : Fault) → IfSome (damage_of fault) (λ _. t ≡ after_get s) → BlamesChains s t node node (of_fault fault)

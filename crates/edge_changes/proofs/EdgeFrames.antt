@@ -45,7 +45,15 @@ use Rattle.edge_changes.proofs.EdgeSteps.{record_parted, shape_parted}
 -- ---- what stays before the edge is taken out
 
 pub edge_none : (s : State) (id : ℕ) → LeavesEdge s s id
-edge_none s id = record { shape = refl; others = λ key a b c d e f. refl; own = λ n at inside apart. refl; groups = λ g n at one inside. refl; used = λ g. refl; live = λ g. refl }
+edge_none s id = record {
+  shape = refl;
+  others = λ key a b c d e f. refl;
+  own = λ n at inside apart. refl;
+  groups = λ g n at one inside. refl;
+  used = λ g.
+      refl;
+  live = λ g. refl;
+}
 
 pub edge_counted : (s t : State) (id : ℕ) → t.shape ≡ s.shape → LeavesCounted s.records t.records → LeavesEdge s t id
 edge_counted s t id shape counted = record {
@@ -69,7 +77,15 @@ edge_then s t u id h k = record {
 
 pub edge_read : (s t : State) (id : ℕ) → SameButReads s t → LeavesEdge s t id
 edge_read s t id same = subst (λ (z : State). LeavesEdge s z id) (sym same)
-    (record { shape = refl; others = λ key a b c d e f. refl; own = λ n at inside apart. refl; groups = λ g n at one inside. refl; used = λ g. refl; live = λ g. refl })
+    (record {
+      shape = refl;
+      others = λ key a b c d e f. refl;
+      own = λ n at inside apart. refl;
+      groups = λ g n at one inside. refl;
+      used = λ g. refl;
+      live = λ g.
+          refl;
+    })
 
 -- its properties are taken away
 pub edge_left : (s t : State) (id : ℕ) → t.shape ≡ s.shape → LeavesElement s t (owner_of (targets.Edge id)) → LeavesEdge s t id
@@ -153,8 +169,10 @@ pair_apart p q (inr a) (inr b) ne = absurd (ne (a ∙ sym b))
 -- in a store that leaves the edge
 pub edge_link_before : (s t : State) (id node : ℕ) (damage : Damage) → LeavesEdge s t id → IsEdgeLink t id node damage → IsEdgeLink s id node damage
 edge_link_before s t id node damage left told = ⊎_elim
-    (λ k. inl (link_as s t (prev_of t.records node id) (prev_of s.records node id) _ damage (ap (λ p. field 4 (rel_rec t.records id) p) place ∙ left.own 4 (place_of (rel_rec s.records id) node) (omega (arith, b.1)) (inl (omega (arith, b.1)))) mark room k))
-    (λ k. inr (link_as s t (next_of t.records node id) (next_of s.records node id) _ damage (ap (λ p. field 4 (rel_rec t.records id) (p + 4)) place ∙ left.own 4 (place_of (rel_rec s.records id) node + 4) (omega (arith, b.1)) (inl (omega (arith, b.1)))) mark room k)) told
+    (λ k. inl (link_as s t (prev_of t.records node id) (prev_of s.records node id) _ damage (ap (λ p. field 4 (rel_rec t.records id) p) place ∙ left.own 4
+    (place_of (rel_rec s.records id) node) (omega (arith, b.1)) (inl (omega (arith, b.1)))) mark room k))
+    (λ k. inr (link_as s t (next_of t.records node id) (next_of s.records node id) _ damage (ap (λ p. field 4 (rel_rec t.records id) (p + 4)) place ∙ left.own 4
+    (place_of (rel_rec s.records id) node + 4) (omega (arith, b.1)) (inl (omega (arith, b.1)))) mark room k)) told
   where
     b : (16 ≤ place_of (rel_rec s.records id) node) × (place_of (rel_rec s.records id) node ≤ 24)
     b = pair_low (place_of (rel_rec s.records id) node) (pair_is (rel_rec s.records id) node)
@@ -207,8 +225,10 @@ module _ (s : State) (head : Head) (n rel d m : ℕ) (elsewhere : head.key.file 
 
   aside : (at p : ℕ) → (at ≡ pm) ⊎ (at ≡ pm + 4) → (p ≡ pn) ⊎ (p ≡ pn + 4) → (at + 4 ≤ p) ⊎ (p + 4 ≤ at)
   aside at p a b = ⊎_elim
-      (λ (k : pn + 8 ≤ pm). inr (⊎_elim (λ e. ⊎_elim (λ f. omega (arith, k, e, f)) (λ f. omega (arith, k, e, f)) b) (λ e. ⊎_elim (λ f. omega (arith, k, e, f)) (λ f. omega (arith, k, e, f)) b) a))
-      (λ (k : pm + 8 ≤ pn). inl (⊎_elim (λ e. ⊎_elim (λ f. omega (arith, k, e, f)) (λ f. omega (arith, k, e, f)) b) (λ e. ⊎_elim (λ f. omega (arith, k, e, f)) (λ f. omega (arith, k, e, f)) b) a))
+      (λ (k : pn + 8 ≤ pm). inr (⊎_elim (λ e. ⊎_elim (λ f. omega (arith, k, e, f)) (λ f. omega (arith, k, e, f)) b) (λ e. ⊎_elim (λ f. omega (arith, k, e, f))
+      (λ f. omega (arith, k, e, f)) b) a))
+      (λ (k : pm + 8 ≤ pn). inl (⊎_elim (λ e. ⊎_elim (λ f. omega (arith, k, e, f)) (λ f. omega (arith, k, e, f)) b) (λ e. ⊎_elim (λ f. omega (arith, k, e, f))
+      (λ f. omega (arith, k, e, f)) b) a))
       (pair_apart pn pm (pair_is r n) (pair_is r m) differ)
 
   low : (p : ℕ) → (p ≡ pn) ⊎ (p ≡ pn + 4) → 16 ≤ p
@@ -226,7 +246,12 @@ module _ (s : State) (head : Head) (n rel d m : ℕ) (elsewhere : head.key.file 
   }
 
   stays_same : (q t : Records) → rel_rec t rel ≡ rel_rec q rel → PairStays q → PairStays t
-  stays_same q t same was = record { ends = ap (λ z. field 4 z 8) same ∙ was.ends; prev = ap (λ z. field 4 z pm) same ∙ was.prev; next = ap (λ z. field 4 z (pm + 4)) same ∙ was.next }
+  stays_same q t same was = record {
+    ends = ap (λ z. field 4 z 8) same ∙ was.ends;
+    prev = ap (λ z. field 4 z pm) same ∙ was.prev;
+    next = ap
+        (λ z. field 4 z (pm + 4)) same ∙ was.next;
+  }
 
   place_now : (q : Records) → PairStays q → place_of (rel_rec q rel) n ≡ pn
   place_now q was = ap (λ z. cond (nat_eq z n) 16 24) was.ends
@@ -270,7 +295,8 @@ module _ (s : State) (head : Head) (n rel d m : ℕ) (elsewhere : head.key.file 
       let u = unlinked s head n rel in
       let t = tallied one_less u head in
       stays_same t.records (parted s head n rel d).records
-      (put_other t.records (key_in format.nodes_file n) (with_field 4 (t.records (key_in format.nodes_file n)) format.node_degree d) (key_in format.relationships_file rel) (λ e. let f = ap (λ (k : Key). k.file) e in omega arith))
+      (put_other t.records (key_in format.nodes_file n) (with_field 4 (t.records (key_in format.nodes_file n)) format.node_degree d)
+      (key_in format.relationships_file rel) (λ e. let f = ap (λ (k : Key). k.file) e in omega arith))
       (stays_same u.records t.records (file-tallied one_less u head (key_in format.relationships_file rel) (λ e. omega arith)) stays_unlinked)
 
   place_m : place_of (rel_rec (parted s head n rel d).records rel) m ≡ pm
@@ -287,7 +313,8 @@ module _ (s : State) (head : Head) (n rel d m : ℕ) (elsewhere : head.key.file 
   link_parted no_meta u is damage told =
       let t = parted s head n rel d in
       let mark : rel_mark t ≡ rel_mark s
-      = ap (λ z. (metas.meta_of z).high) (record_parted s head n rel d (meta_key_of format.relationships_file) (λ e. omega arith) (λ e. no_meta (sym (ap (λ (k : Key). k.file) e))) (λ e. let f = ap (λ (k : Key). k.file) e in omega arith)) in
+      = ap (λ z. (metas.meta_of z).high) (record_parted s head n rel d (meta_key_of format.relationships_file) (λ e. omega arith)
+      (λ e. no_meta (sym (ap (λ (k : Key). k.file) e))) (λ e. let f = ap (λ (k : Key). k.file) e in omega arith)) in
       let room : rel_room t ≡ rel_room s = ap (λ (h : Shape). room_of h format.relationships_file) (shape_parted s head n rel d) in
       ⊎_elim
       (λ k. inl (link_as s t (prev_of t.records m rel) (prev_of s.records m rel) _ damage prev_parted mark room k))
@@ -349,11 +376,13 @@ module _ (s : State) (head : Head) (n rel d : ℕ) (elsewhere : head.key.file �
         let p = place_of r n in
         let b = pair_low p (pair_is r n) in
         ⊎_elim
-        (λ (e : x ≡ rel). subst (λ y. field m (rel_rec (after_put (after_get s) (key_in format.relationships_file rel) (alone r n)).records y) at ≡ field m (rel_rec s.records y) at) (sym e)
+        (λ (e : x ≡ rel). subst (λ y. field m (rel_rec (after_put (after_get s) (key_in format.relationships_file rel) (alone r n)).records y) at ≡ field m
+        (rel_rec s.records y) at) (sym e)
         (ap (λ z. field m z at) (put_same s.records (key_in format.relationships_file rel) (alone r n))
         ∙ field-with_field_other 4 (with_field 4 r p format.nil) (p + 4) format.nil m at fits (aside_two (p + 4) (omega (arith, b.0), omega (arith, b.1)))
         ∙ field-with_field_other 4 r p format.nil m at fits (aside_two p (b.0, omega (arith, b.1)))))
-        (λ (ne : x ≢ rel). ap (λ z. field m z at) (put_other s.records (key_in format.relationships_file rel) (alone r n) (key_in format.relationships_file x) (λ e. ne (ap (λ (k : Key). k.id) e))))
+        (λ (ne : x ≢ rel). ap (λ z. field m z at) (put_other s.records (key_in format.relationships_file rel) (alone r n) (key_in format.relationships_file x)
+        (λ e. ne (ap (λ (k : Key). k.id) e))))
         (nat_cases x rel)
 
     prev_bounds : (q : Records) (y : ℕ) → (16 ≤ (prev_place q n y).field) × ((prev_place q n y).field ≤ 28)
@@ -381,17 +410,27 @@ module _ (s : State) (head : Head) (n rel d : ℕ) (elsewhere : head.key.file �
     kept_parted =
         let u = unlinked s head n rel in
         let t = tallied one_less u head in
-        ap (λ z. field m z at) (put_other t.records (key_in format.nodes_file n) (with_field 4 (t.records (key_in format.nodes_file n)) format.node_degree d) (key_in format.relationships_file x) (λ e. let f = ap (λ (k : Key). k.file) e in omega arith)
+        ap (λ z. field m z at) (put_other t.records (key_in format.nodes_file n) (with_field 4 (t.records (key_in format.nodes_file n)) format.node_degree d)
+        (key_in format.relationships_file x) (λ e. let f = ap (λ (k : Key). k.file) e in omega arith)
         ∙ file-tallied one_less u head (key_in format.relationships_file x) (λ e. omega arith)) ∙ kept_unlinked
 
   pub row_parted : head.key.file ≢ format.meta_file → rel_at (parted s head n rel d).records x ≡ rel_at s.records x
-  row_parted no_meta = λ i. row_if (kind i) (record { id = x; label = number format.relationship_type (omega arith) (inl (omega arith)) i; from = number format.relationship_source (omega arith) (inl (omega arith)) i; to = number format.relationship_target (omega arith) (inl (omega arith)) i; property = number format.relationship_first_property (omega arith) (inr (omega arith)) i })
+  row_parted no_meta = λ i. row_if (kind i) (record {
+    id = x;
+    label = number format.relationship_type (omega arith) (inl (omega arith)) i;
+    from = number
+        format.relationship_source (omega arith) (inl (omega arith)) i;
+    to = number format.relationship_target (omega arith) (inl (omega arith)) i;
+    property =
+        number format.relationship_first_property (omega arith) (inr (omega arith)) i;
+  })
     where
       number : (at : ℕ) → at + 4 ≤ 64 → (at + 4 ≤ 16) ⊎ (32 ≤ at) → field 4 (rel_rec (parted s head n rel d).records x) at ≡ field 4 (rel_rec s.records x) at
       number at fits out = kept_parted 4 at fits out
 
       mark : high (parted s head n rel d).records format.relationships_file ≡ high s.records format.relationships_file
-      mark = ap (λ z. (metas.meta_of z).high) (record_parted s head n rel d (meta_key_of format.relationships_file) (λ e. omega arith) (λ e. no_meta (sym (ap (λ (k : Key). k.file) e))) (λ e. let f = ap (λ (k : Key). k.file) e in omega arith))
+      mark = ap (λ z. (metas.meta_of z).high) (record_parted s head n rel d (meta_key_of format.relationships_file) (λ e. omega arith)
+          (λ e. no_meta (sym (ap (λ (k : Key). k.file) e))) (λ e. let f = ap (λ (k : Key). k.file) e in omega arith))
 
       kind : kind_at (parted s head n rel d).records format.relationships_file x ≡ kind_at s.records format.relationships_file x
       kind = ap (λ k. kind_in k (rel_rec (parted s head n rel d).records x) x) mark

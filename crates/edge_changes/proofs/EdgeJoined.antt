@@ -183,7 +183,8 @@ module _ (s : Records) (m : State) (shape : Shape) (id : ℕ) (rec : Rec) (row :
   two = joined one k row.to id e
 
   new_differ : row.from ≢ row.to → Differ m.records row.to row.from id
-  new_differ ne = rw edge.made.here (ends_differ rec row.to row.from (inr (ap (λ (r : RelRow). r.to) edge.is)) (inl (ap (λ (r : RelRow). r.from) edge.is)) (λ q. ne (sym q)))
+  new_differ ne = rw edge.made.here (ends_differ rec row.to row.from (inr (ap (λ (r : RelRow). r.to) edge.is)) (inl (ap (λ (r : RelRow). r.from) edge.is))
+      (λ q. ne (sym q)))
 
   one_related : (x : ℕ) → with_one At h id k x → kind_at one.records format.relationships_file x ≡ format.related
   one_related x p = re.kind_stays m.records one.records one_links format.relationships_file x
@@ -238,7 +239,8 @@ module _ (s : Records) (m : State) (shape : Shape) (id : ℕ) (rec : Rec) (row :
     group_made = ec.rec_beside s m.records id edge.made.change format.groups_file g refl (λ q. omega arith)
 
     byte_s : field 1 (rec_at s format.groups_file g) format.kind ≡ format.counted
-    byte_s = sym (kind_low (high s format.groups_file) (rec_at s format.groups_file g) g (kind_below (high s format.groups_file) (rec_at s format.groups_file g) g (λ q. let z = sym q ∙ counted in omega arith))) ∙ counted
+    byte_s = sym (kind_low (high s format.groups_file) (rec_at s format.groups_file g) g (kind_below (high s format.groups_file) (rec_at s format.groups_file g)
+        g (λ q. let z = sym q ∙ counted in omega arith))) ∙ counted
 
     -- at one head, after a state in which the group is as it was
     step : (p : State) (a : Head) (n : ℕ) → IsEndHead s a n row → rec_at p.records format.groups_file g ≡ rec_at s format.groups_file g → group.owner ≡ n
@@ -248,11 +250,14 @@ module _ (s : Records) (m : State) (shape : Shape) (id : ℕ) (rec : Rec) (row :
     step p a n end same own f =
         let low = first_low a n end.owns in
         subst (λ (r : Rec). HasOneMore (rec_at s format.groups_file g) r group row)
-        (sym (put_other (tallied one_more (pushed p a n id) a).records (key_in format.nodes_file n) (with_field 4 ((tallied one_more (pushed p a n id) a).records (key_in format.nodes_file n)) format.node_degree f) (key_in format.groups_file g)
+        (sym (put_other (tallied one_more (pushed p a n id) a).records (key_in format.nodes_file n)
+        (with_field 4 ((tallied one_more (pushed p a n id) a).records (key_in format.nodes_file n)) format.node_degree f) (key_in format.groups_file g)
         (λ q. let w = ap (λ (z : Key). z.file) q in omega arith)))
         (more_here s shape well row a n end g group is counted (pushed p a n id)
-        (λ at w. number_pushed p a n id (key_in format.groups_file g) 4 at (λ q. let z : 3 ≡ 2 = q in omega arith) (let b = w.1 in omega arith) (λ _. inr (let b = w.0 in let c = low.1 in omega arith)) ∙ ap (λ r. field 4 r at) same)
-        (number_pushed p a n id (key_in format.groups_file g) 1 format.kind (λ q. let z : 3 ≡ 2 = q in omega arith) (omega arith) (λ _. inl (let c = low.0 in omega arith)) ∙ ap (λ r. field 1 r format.kind) same ∙ byte_s) own)
+        (λ at w. number_pushed p a n id (key_in format.groups_file g) 4 at (λ q. let z : 3 ≡ 2 = q in omega arith) (let b = w.1 in omega arith)
+        (λ _. inr (let b = w.0 in let c = low.1 in omega arith)) ∙ ap (λ r. field 4 r at) same)
+        (number_pushed p a n id (key_in format.groups_file g) 1 format.kind (λ q. let z : 3 ≡ 2 = q in omega arith) (omega arith)
+        (λ _. inl (let c = low.0 in omega arith)) ∙ ap (λ r. field 1 r format.kind) same ∙ byte_s) own)
 
     away : (p : State) (a : Head) (n f : ℕ) → Own a n → group.owner ≢ n
         → rec_at (joined p a n id f).records format.groups_file g ≡ rec_at p.records format.groups_file g
@@ -310,15 +315,18 @@ module _ (s : Records) (m : State) (shape : Shape) (id : ℕ) (rec : Rec) (row :
     loop_stands : row.from ≡ row.to → AllListed t Own (with_one At h id) → AllListed t Own Now
     loop_stands loop = all_listed_same t Own (with_one At h id) Own Now (λ a n o. o)
         (λ a n x o p. ⊎_elim (stands_new a x) (λ z. stands_at a h x z.0 z.1 edge.source.on) p)
-        (λ a n x o p. ⊎_elim (λ (q : x ≡ id). inr (⊎_elim (λ z. z) (λ z. z ∙ loop_head loop) (ends_new a n x o q p), q)) (λ (ne : x ≢ id). inl (stands_old a x ne p)) (nat_cases x id))
+        (λ a n x o p. ⊎_elim (λ (q : x ≡ id). inr (⊎_elim (λ z. z) (λ z. z ∙ loop_head loop) (ends_new a n x o q p), q))
+        (λ (ne : x ≢ id). inl (stands_old a x ne p)) (nat_cases x id))
 
     both_stand : AllListed t Own (with_one (with_one At h id) k id) → AllListed t Own Now
     both_stand = all_listed_same t Own (with_one (with_one At h id) k id) Own Now (λ a n o. o)
         (λ a n x o p. ⊎_elim (λ b. ⊎_elim (stands_new a x) (λ z. stands_at a h x z.0 z.1 edge.source.on) b) (λ z. stands_at a k x z.0 z.1 edge.target.on) p)
-        (λ a n x o p. ⊎_elim (λ (q : x ≡ id). ⊎_elim (λ z. inl (inr (z, q))) (λ z. inr (z, q)) (ends_new a n x o q p)) (λ (ne : x ≢ id). inl (inl (stands_old a x ne p))) (nat_cases x id))
+        (λ a n x o p. ⊎_elim (λ (q : x ≡ id). ⊎_elim (λ z. inl (inr (z, q))) (λ z. inr (z, q)) (ends_new a n x o q p))
+        (λ (ne : x ≢ id). inl (inl (stands_old a x ne p))) (nat_cases x id))
 
     edge_of_links : AllListed t Own Now → ((n : ℕ) → IsEnd n row → degree t n ≡ degree s n + 1) → ((n : ℕ) → ¬ IsEnd n row → degree t n ≡ degree s n)
-        → ((g : ℕ) (group : GroupRow) → group_at s g ≡ Some group → kind_at s format.groups_file g ≡ format.counted → HasOneMore (rec_at s format.groups_file g) (rec_at t format.groups_file g) group row)
+        → ((g : ℕ) (group : GroupRow) → group_at s g ≡ Some group → kind_at s format.groups_file g ≡ format.counted → HasOneMore (rec_at s format.groups_file g)
+        (rec_at t format.groups_file g) group row)
         → IsEdgeMade s m.records t shape id rec row most empty
     edge_of_links listed more as_before counts = record {
       made = edge.made;
@@ -441,13 +449,16 @@ module _ (s : Records) (m : State) (shape : Shape) (id : ℕ) (rec : Rec) (row :
 
   pub made_right : m.shape ≡ shape → IsRightLink m (first_of m.records h)
   made_right same = record {
-    low = used_low m.records (first_of m.records h) (first_used m (kind_at s format.nodes_file) (group_at s) At listed_made h row.from id d edge.source.owns (λ x p. related_old h x p));
+    low = used_low m.records (first_of m.records h) (first_used m (kind_at s format.nodes_file) (group_at s) At listed_made h row.from id d edge.source.owns
+        (λ x p. related_old h x p));
     mark = ((subst (AreInRange m.records) (sym same) made_range).metas format.relationships_file refl).high;
   }
 
   pub one_right : m.shape ≡ shape → IsRightLink (joined m h row.from id d) (first_of (joined m h row.from id d).records k)
   unfolding one
   one_right same = record {
-    low = used_low one.records (first_of one.records k) (first_used one (kind_at s format.nodes_file) (group_at s) (with_one At h id) one_listed k row.to id e edge.target.owns one_related);
-    mark = ((subst (AreInRange one.records) (sym (shape_joined m h row.from id d ∙ same)) (re.range_stays m.records one.records one_links shape made_range)).metas format.relationships_file refl).high;
+    low = used_low one.records (first_of one.records k) (first_used one (kind_at s format.nodes_file) (group_at s) (with_one At h id) one_listed k row.to id e
+        edge.target.owns one_related);
+    mark = ((subst (AreInRange one.records) (sym (shape_joined m h row.from id d ∙ same)) (re.range_stays m.records one.records one_links shape
+        made_range)).metas format.relationships_file refl).high;
   }

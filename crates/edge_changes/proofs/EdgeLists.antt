@@ -70,17 +70,20 @@ module _ (s : State) (kind : ℕ → ℕ) (groups : ℕ → Option GroupRow) (at
   -- the first link, and those of a member, lead to what stands there
   pub first_used : ((x : ℕ) → at head x → kind_at s.records format.relationships_file x ≡ format.related) → IsUsedLink s.records (first_of s.records head)
   first_used used = ⊎_elim (λ e. inl e) (λ i. inr (used (first_of s.records head) (here.only (first_of s.records head) i)))
-      (first_in (next_of s.records node) (first_of s.records head) here.members (walk_of_chain _ _ format.nil (first_of s.records head) here.members here.chain))
+      (first_in (next_of s.records node) (first_of s.records head) here.members (walk_of_chain _ _ format.nil (first_of s.records head) here.members
+      here.chain))
 
   pub next_used : at head rel → ((x : ℕ) → at head x → kind_at s.records format.relationships_file x ≡ format.related)
       → IsUsedLink s.records (next_of s.records node rel)
   next_used member used = ⊎_elim (λ e. inl e) (λ i. inr (used (next_of s.records node rel) (here.only (next_of s.records node rel) i)))
-      (after_in (next_of s.records node) (first_of s.records head) here.members rel (walk_of_chain _ _ format.nil (first_of s.records head) here.members here.chain) (here.all rel member))
+      (after_in (next_of s.records node) (first_of s.records head) here.members rel (walk_of_chain _ _ format.nil (first_of s.records head) here.members
+      here.chain) (here.all rel member))
 
   pub prev_used : at head rel → ((x : ℕ) → at head x → kind_at s.records format.relationships_file x ≡ format.related)
       → IsUsedLink s.records (prev_of s.records node rel)
   prev_used member used = ⊎_elim
-      (λ (e : first_of s.records head ≡ rel). inl (first_before (next_of s.records node) (prev_of s.records node) format.nil (first_of s.records head) here.members rel here.chain (here.all rel member) e))
+      (λ (e : first_of s.records head ≡ rel). inl (first_before (next_of s.records node) (prev_of s.records node) format.nil (first_of s.records head)
+      here.members rel here.chain (here.all rel member) e))
       (λ i. inr (used (prev_of s.records node rel) (here.only (prev_of s.records node rel) i)))
       (before_in (next_of s.records node) (prev_of s.records node) format.nil (first_of s.records head) here.members rel here.chain (here.all rel member))
 
@@ -88,14 +91,16 @@ module _ (s : State) (kind : ℕ → ℕ) (groups : ℕ → Option GroupRow) (at
   module _ (small : rel < 2 ^ 25) (fresh : at head rel → ⊥) where
     not_first : rel ≢ first_of s.records head
     not_first e = ⊎_elim (λ none. omega arith) (λ i. fresh (here.only rel (subst (λ z. In z here.members) (sym e) i)))
-        (first_in (next_of s.records node) (first_of s.records head) here.members (walk_of_chain _ _ format.nil (first_of s.records head) here.members here.chain))
+        (first_in (next_of s.records node) (first_of s.records head) here.members (walk_of_chain _ _ format.nil (first_of s.records head) here.members
+        here.chain))
 
     pub joined_listed : prev_of s.records node rel ≡ format.nil
         → ((h : Head) (n x : ℕ) → Owns kind groups h n → h ≢ head → at h x → at head x ⊎ (x ≡ rel) → Differ s.records node n x)
         → AllListed (joined s head node rel d).records (Owns kind groups) (with_one at head rel)
     unfolding joined
     joined_listed alone apart = listed_degree (tallied one_more (pushed s head node rel) head).records kind groups node d (with_one at head rel)
-        (listed_tallied one_more (pushed s head node rel) kind groups head (with_one at head rel) (all_listed_pushed s (Owns kind groups) at (owned_heads kind groups) all head node rel owned small fresh alone apart))
+        (listed_tallied one_more (pushed s head node rel) kind groups head (with_one at head rel) (all_listed_pushed s (Owns kind groups) at
+        (owned_heads kind groups) all head node rel owned small fresh alone apart))
 
     -- none is before it yet at another end
     pub prev_joined : (m : ℕ) → prev_of (joined s head node rel d).records m rel ≡ prev_of s.records m rel
@@ -106,7 +111,8 @@ module _ (s : State) (kind : ℕ → ℕ) (groups : ℕ → Option GroupRow) (at
         let linked = next_set back node rel first in
         let p = (owned_heads kind groups).place head node owned in
         ap (λ r. prev_in r m) (degree_rel (tallied one_more (pushed s head node rel) head).records kind groups node d rel)
-        ∙ ap (λ r. prev_in r m) (file-tallied one_more (pushed s head node rel) head (key_in format.relationships_file rel) (λ e. let z : 2 ≡ 3 = e in omega arith))
+        ∙ ap (λ r. prev_in r m) (file-tallied one_more (pushed s head node rel) head (key_in format.relationships_file rel)
+        (λ e. let z : 2 ≡ 3 = e in omega arith))
         ∙ ap (λ r. prev_in r m) (put_other linked.records head.key (with_field 4 (s.records head.key) head.field rel) (key_in format.relationships_file rel)
         (λ e. p.elsewhere (ap (λ (k : Key). k.file) (sym e))))
         ∙ prev_of-set_next back.records node rel first m rel ∙ prev_of-backed_other (after_get s) node first rel m rel (λ e. absurd (not_first e))
@@ -116,4 +122,5 @@ module _ (s : State) (kind : ℕ → ℕ) (groups : ℕ → Option GroupRow) (at
       → AllListed (parted s head node rel d).records (Owns kind groups) (without_one at head rel)
   unfolding parted
   parted_listed member apart = listed_degree (tallied one_less (unlinked s head node rel) head).records kind groups node d (without_one at head rel)
-      (listed_tallied one_less (unlinked s head node rel) kind groups head (without_one at head rel) (all_listed_unlinked s (Owns kind groups) at (owned_heads kind groups) all head node rel owned member apart))
+      (listed_tallied one_less (unlinked s head node rel) kind groups head (without_one at head rel) (all_listed_unlinked s (Owns kind groups) at
+      (owned_heads kind groups) all head node rel owned member apart))

@@ -53,7 +53,8 @@ module _ (s t : State) (m : ℕ) (change : Regroups s t m) (h : Head) (n : ℕ) 
   end_stays row end = record { owns = owns_stays end.owns; on = on_stays row end.owns end.on }
 
 -- its group is counted still
-counted_stays : (s t : State) (m : ℕ) → ((g : ℕ) (row : GroupRow) → group_at s.records g ≡ Some row → row.owner ≢ m → kind_at t.records format.groups_file g ≡ kind_at s.records format.groups_file g)
+counted_stays : (s t : State) (m : ℕ) → ((g : ℕ) (row : GroupRow) → group_at s.records g ≡ Some row → row.owner ≢ m → kind_at t.records format.groups_file g ≡
+    kind_at s.records format.groups_file g)
     → (h : Head) (n : ℕ) → n ≢ m → Owns (kind_at s.records format.nodes_file) (group_at s.records) h n → IsCountedHead s.records h → IsCountedHead t.records h
 counted_stays s t m kinds h n ne (inl o) counted file = absurd (let e = ap (λ (z : Head). z.key.file) o.is in omega arith)
 counted_stays s t m kinds h n ne (inr o) counted file =
@@ -65,7 +66,13 @@ pub keeps_graph : (s t : State) (n : ℕ) → Regroups s t n → KeepsGraph s t
 keeps_graph s t n change = record { shape = change.shape; graph = change.graph; indexes = regroups_keep s t n change; metas = change.metas }
 
 pub graph_twice : (s t u : State) → KeepsGraph s t → KeepsGraph t u → KeepsGraph s u
-graph_twice s t u a b = record { shape = b.shape ∙ a.shape; graph = b.graph ∙ a.graph; indexes = λ are. b.indexes (a.indexes are); metas = λ file ne. b.metas file ne ∙ a.metas file ne }
+graph_twice s t u a b = record {
+  shape = b.shape ∙ a.shape;
+  graph = b.graph ∙ a.graph;
+  indexes = λ are. b.indexes (a.indexes are);
+  metas = λ file ne.
+      b.metas file ne ∙ a.metas file ne;
+}
 
 -- an edge that is put then was put into the store before
 pub puts_through : (s t u : State) (names : List (List ℕ)) (from : ℕ) (label : List ℕ) (to id : ℕ) → KeepsGraph s t → PutsEdge t u names from label to id
@@ -126,7 +133,13 @@ module _ (s : State) (names : List (List ℕ)) (label : ℕ) (source target : Ed
         let a = (first id).regroups in
         let b = (second id).regroups in
         let same = b.degrees target.node ∙ a.degrees target.node ∙ enters in
-        record { head = (second id).stands; degree = same; few = λ sparse. subst (λ n. n < u.shape.threshold) same ((second id).few sparse); counted = (second id).counted }
+        record {
+          head = (second id).stands;
+          degree = same;
+          few = λ sparse. subst (λ n. n < u.shape.threshold) same ((second id).few sparse);
+          counted =
+              (second id).counted;
+        }
 
     pub opened_both : CanJoin u names label (Two source target)
     opened_both = record {

@@ -47,7 +47,13 @@ joint_of joint ends = record { label = joint.label; threshold = joint.threshold;
 
 pub can_link : (s : State) (names : List (List ℕ)) (joint : Joint) (ends : Ends EndDegree) → joint.ends ≡ ends → CanLink s names joint
     → CanLink s names (joint_of joint ends)
-can_link s names joint ends is can = record { limit = can.limit; store = can.store; named = can.named; degrees = subst (AtEach (HasEndDegree s.records)) is can.degrees }
+can_link s names joint ends is can = record {
+  limit = can.limit;
+  store = can.store;
+  named = can.named;
+  degrees = subst (AtEach (HasEndDegree s.records))
+      is can.degrees;
+}
 
 -- on which side of a node an edge is that leads to itself, or to another
 pub loop_side : (n : ℕ) → sides.Loop ≡ side_at n n n

@@ -43,7 +43,8 @@ use Rattle.store_rules.proofs.OneHead.{end_on, only_head}
 use Rattle.chain_edit.proofs.OwnedHeads.{end_in, heads_differ, other_record, owned_heads, owner_kind}
 use Rattle.edge_changes.specs.EdgeEnds.{parted}
 use Rattle.edge_changes.proofs.EdgeLists.{next_used, parted_listed, prev_used}
-use Rattle.edge_changes.proofs.EdgeSteps.{IsNode, number_unlinked, degree_parted, differ_stays, first_stays, links_parted, node_stays, record_parted, shape_parted}
+use Rattle.edge_changes.proofs.EdgeSteps.{IsNode, number_unlinked, degree_parted, differ_stays, first_stays, links_parted, node_stays, record_parted}
+use Rattle.edge_changes.proofs.EdgeSteps.{shape_parted}
 
 some_same : (a b : RelRow) → Some a ≡ Some b → a ≡ b
 some_same a b q = cc
@@ -90,7 +91,8 @@ module _ (s : State) (shape : Shape) (id : ℕ) (row : RelRow) (h k : Head) (edg
   row_is = some_row (kind_at s.records format.relationships_file id) (rel_in (rec_at s.records format.relationships_file id) id) row edge.live
 
   related_at : (a : Head) (x : ℕ) → At a x → kind_at s.records format.relationships_file x ≡ format.related
-  related_at a x p = rel_kind s.records shape store.ranges x (some_row (kind_at s.records format.relationships_file x) (rel_in (rec_at s.records format.relationships_file x) x) p.row p.live).0
+  related_at a x p = rel_kind s.records shape store.ranges x (some_row (kind_at s.records format.relationships_file x)
+      (rel_in (rec_at s.records format.relationships_file x) x) p.row p.live).0
 
   related : kind_at s.records format.relationships_file id ≡ format.related
   related = rel_kind s.records shape store.ranges id row_is.0
@@ -138,8 +140,10 @@ module _ (s : State) (shape : Shape) (id : ℕ) (row : RelRow) (h k : Head) (edg
   unfolding one
   one_links = links_parted s h row.from id (owned_link s.records shape store.ranges h row.from edge.source.owns) place_at_source node_at_source related d
       d_small
-      (prev_used s (kind_at s.records format.nodes_file) (group_at s.records) At store.linked.listed h row.from id d edge.source.owns at_source (λ x p. related_at h x p))
-      (next_used s (kind_at s.records format.nodes_file) (group_at s.records) At store.linked.listed h row.from id d edge.source.owns at_source (λ x p. related_at h x p))
+      (prev_used s (kind_at s.records format.nodes_file) (group_at s.records) At store.linked.listed h row.from id d edge.source.owns at_source
+      (λ x p. related_at h x p))
+      (next_used s (kind_at s.records format.nodes_file) (group_at s.records) At store.linked.listed h row.from id d edge.source.owns at_source
+      (λ x p. related_at h x p))
 
   -- ---- at the target
   two : State
@@ -163,8 +167,10 @@ module _ (s : State) (shape : Shape) (id : ℕ) (row : RelRow) (h k : Head) (edg
       (first_stays s.records one.records one_links k (owned_link s.records shape store.ranges k row.to edge.target.owns)) place_at_target
       (node_stays s.records one.records one_links row.to node_at_target) (re.kind_stays s.records one.records one_links format.relationships_file id ∙ related)
       e e_small
-      (prev_used one (kind_at s.records format.nodes_file) (group_at s.records) (without_one At h id) one_listed k row.to id e edge.target.owns (still differ) one_related)
-      (next_used one (kind_at s.records format.nodes_file) (group_at s.records) (without_one At h id) one_listed k row.to id e edge.target.owns (still differ) one_related))
+      (prev_used one (kind_at s.records format.nodes_file) (group_at s.records) (without_one At h id) one_listed k row.to id e edge.target.owns (still differ)
+      one_related)
+      (next_used one (kind_at s.records format.nodes_file) (group_at s.records) (without_one At h id) one_listed k row.to id e edge.target.owns (still differ)
+      one_related))
 
   -- it stood at its two heads alone
   heads_of : (a : Head) (n : ℕ) → Own a n → IsOn (group_at s.records) a row → (a ≡ h) ⊎ (a ≡ k)
@@ -233,7 +239,8 @@ module _ (s : State) (shape : Shape) (id : ℕ) (row : RelRow) (h k : Head) (edg
 
   module _ (g : ℕ) (group : GroupRow) (is : group_at s.records g ≡ Some group) (counted : kind_at s.records format.groups_file g ≡ format.counted) where
     byte_s : field 1 (rec_at s.records format.groups_file g) format.kind ≡ format.counted
-    byte_s = sym (kind_low (high s.records format.groups_file) (rec_at s.records format.groups_file g) g (kind_below (high s.records format.groups_file) (rec_at s.records format.groups_file g) g (λ q. let z = sym q ∙ counted in omega arith))) ∙ counted
+    byte_s = sym (kind_low (high s.records format.groups_file) (rec_at s.records format.groups_file g) g (kind_below (high s.records format.groups_file)
+        (rec_at s.records format.groups_file g) g (λ q. let z = sym q ∙ counted in omega arith))) ∙ counted
 
     step : (p : State) (a : Head) (n : ℕ) → IsEndHead s.records a n row → rec_at p.records format.groups_file g ≡ rec_at s.records format.groups_file g
         → group.owner ≡ n → (f : ℕ)
@@ -242,11 +249,14 @@ module _ (s : State) (shape : Shape) (id : ℕ) (row : RelRow) (h k : Head) (edg
     step p a n end same own f =
         let low = first_low a n end.owns in
         subst (λ (r : Rec). HasOneMore r (rec_at s.records format.groups_file g) group row)
-        (sym (put_other (tallied one_less (unlinked p a n id) a).records (key_in format.nodes_file n) (with_field 4 ((tallied one_less (unlinked p a n id) a).records (key_in format.nodes_file n)) format.node_degree f) (key_in format.groups_file g)
+        (sym (put_other (tallied one_less (unlinked p a n id) a).records (key_in format.nodes_file n)
+        (with_field 4 ((tallied one_less (unlinked p a n id) a).records (key_in format.nodes_file n)) format.node_degree f) (key_in format.groups_file g)
         (λ q. let w = ap (λ (z : Key). z.file) q in omega arith)))
         (less_here s.records shape store row a n end g group is counted (unlinked p a n id)
-        (λ at w. number_unlinked p a n id (key_in format.groups_file g) 4 at (λ q. let z : 3 ≡ 2 = q in omega arith) (let b = w.1 in omega arith) (λ _. inr (let b = w.0 in let c = low.1 in omega arith)) ∙ ap (λ r. field 4 r at) same)
-        (number_unlinked p a n id (key_in format.groups_file g) 1 format.kind (λ q. let z : 3 ≡ 2 = q in omega arith) (omega arith) (λ _. inl (let c = low.0 in omega arith)) ∙ ap (λ r. field 1 r format.kind) same ∙ byte_s) own id edge.live)
+        (λ at w. number_unlinked p a n id (key_in format.groups_file g) 4 at (λ q. let z : 3 ≡ 2 = q in omega arith) (let b = w.1 in omega arith)
+        (λ _. inr (let b = w.0 in let c = low.1 in omega arith)) ∙ ap (λ r. field 4 r at) same)
+        (number_unlinked p a n id (key_in format.groups_file g) 1 format.kind (λ q. let z : 3 ≡ 2 = q in omega arith) (omega arith)
+        (λ _. inl (let c = low.0 in omega arith)) ∙ ap (λ r. field 1 r format.kind) same ∙ byte_s) own id edge.live)
 
     away : (p : State) (a : Head) (n f : ℕ) → Own a n → group.owner ≢ n
         → rec_at (parted p a n id f).records format.groups_file g ≡ rec_at p.records format.groups_file g
@@ -337,8 +347,17 @@ module _ (s : State) (shape : Shape) (id : ℕ) (row : RelRow) (h k : Head) (edg
     bare = edge.bare;
     listed = all_listed_same t Own (But At id) Own (StandsAt (rel_at t) (group_at s.records)) (λ a n o. o)
         (λ a n x o p. record { row = p.0.row; live = rel_other x p.1 ∙ p.0.live; on = p.0.on })
-        (λ a n x o (p : StandsAt (rel_at t) (group_at s.records) a x). let ne = other x p.row p.live in (record { row = p.row; live = sym (rel_other x ne) ∙ p.live; on = p.on }, ne))
-        (all_listed_stays u t Own (But At id) (λ a n x o p. ap (λ r. next_in r n) (rec_other x p.1)) (λ a n x o p. ap (λ r. prev_in r n) (rec_other x p.1)) first_same parts.listed);
+        (λ a n x o (p : StandsAt (rel_at t) (group_at s.records) a x). let ne = other x p.row p.live in (
+          record {
+            row = p.row;
+            live = sym (rel_other x ne)
+                ∙ p.live;
+            on = p.on;
+          },
+          ne,
+        ))
+        (all_listed_stays u t Own (But At id) (λ a n x o p. ap (λ r. next_in r n) (rec_other x p.1)) (λ a n x o p. ap (λ r. prev_in r n) (rec_other x p.1))
+        first_same parts.listed);
     out_of = left_groups;
     still = λ g i. absurd i;
     less = λ n end. ap (λ r. field 4 r format.node_degree + 1) (node_same n) ∙ parts.less n end;

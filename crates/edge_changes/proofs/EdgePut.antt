@@ -49,7 +49,17 @@ use Rattle.store_rules.proofs.IndexKept.{edge_indexed}
 -- ---- the record of a new relationship
 module _ (id label from to : ℕ) (label_small : label < 2 ^ 32) (from_small : from < 2 ^ 32) (to_small : to < 2 ^ 32) where
   numbers : HasNumbers (new_row id label from to)
-  numbers = record { label = label_small; from = from_small; to = to_small; source_previous = omega arith; source_next = omega arith; target_previous = omega arith; target_next = omega arith; property = omega arith }
+  numbers = record {
+    label = label_small;
+    from = from_small;
+    to = to_small;
+    source_previous = omega arith;
+    source_next = omega arith;
+    target_previous = omega
+        arith;
+    target_next = omega arith;
+    property = omega arith;
+  }
 
   abbrev rec : Rec
   rec = rel_record (new_row id label from to)
@@ -283,8 +293,20 @@ module _ (s t : State) (names : List (List ℕ)) (number : ℕ) (label : List �
         there = at_new s.records t s.shape id edge_rec row from_head to_head lone can.keeps d e a b last.records edge.links;
         from_is = refl;
         to_is = refl;
-        source = record { head = from_head; end = end_now from_head source.node leaves.head; first = first_source s.records t s.shape id edge_rec row from_head to_head lone can.keeps d e a b; counted = counted_now from_head leaves.counted };
-        target = record { head = to_head; end = end_now to_head target.node enters.head; first = first_target s.records t s.shape id edge_rec row from_head to_head lone can.keeps d e a b; counted = counted_now to_head enters.counted };
+        source = record {
+          head = from_head;
+          end = end_now from_head source.node leaves.head;
+          first = first_source s.records t s.shape id edge_rec row from_head
+              to_head lone can.keeps d e a b;
+          counted = counted_now from_head leaves.counted;
+        };
+        target = record {
+          head = to_head;
+          end = end_now to_head target.node enters.head;
+          first = first_target s.records t s.shape id edge_rec row from_head
+              to_head lone can.keeps d e a b;
+          counted = counted_now to_head enters.counted;
+        };
         previous = λ loop. loop_target s.records t s.shape id edge_rec row from_head to_head lone can.keeps d e a b loop format.relationship_target_previous
             (omega arith) (omega arith) ∙ (new_pair id number source.node target.node label_small from_small to_small).0;
         next = λ loop. loop_target s.records t s.shape id edge_rec row from_head to_head lone can.keeps d e a b loop format.relationship_target_next
@@ -308,7 +330,8 @@ module _ (s t : State) (names : List (List ℕ)) (number : ℕ) (label : List �
         ∙ ap (λ l. with_row edge_number (record { id = id; label = l; from = source.node; to = target.node; properties = no_properties }) (graph_in s).edges)
         known.1;
     first = first;
-    metas = λ file ne _. ap metas.meta_of (ec.meta_same s.records last.records id (ec.changed_relinked s.records t.records last.records id edge.made.change edge.links) file ne);
+    metas = λ file ne _. ap metas.meta_of (ec.meta_same s.records last.records id (ec.changed_relinked s.records t.records last.records id edge.made.change
+        edge.links) file ne);
   }
 
   pub firsts_right : AreRightFirsts t ends id

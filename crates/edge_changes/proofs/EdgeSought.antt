@@ -140,8 +140,11 @@ module _ (s t : State) (id : ℕ) (left : LeavesEdge s t id) where
   rel_number : (x n at : ℕ) → at + n ≤ format.record_bytes → Apart n at 4 format.relationship_first_property
       → field n (rec_at t.records format.relationships_file x) at ≡ field n (rec_at s.records format.relationships_file x) at
   rel_number x n at inside apart = ⊎_elim
-      (λ (e : x ≡ id). subst (λ z. field n (rec_at t.records format.relationships_file z) at ≡ field n (rec_at s.records format.relationships_file z) at) (sym e) (left.own n at inside apart))
-      (λ (ne : x ≢ id). ap (λ (r : Rec). field n r at) (left.others (key_in format.relationships_file x) (λ e. omega arith) (λ e. omega arith) (λ e. let f = ap (λ (k : Key). k.file) e in omega arith) (λ e. let f = ap (λ (k : Key). k.file) e in omega arith) (λ e. omega arith) (λ e. ne (ap (λ (k : Key). k.id) e))))
+      (λ (e : x ≡ id). subst (λ z. field n (rec_at t.records format.relationships_file z) at ≡ field n (rec_at s.records format.relationships_file z) at)
+      (sym e) (left.own n at inside apart))
+      (λ (ne : x ≢ id). ap (λ (r : Rec). field n r at) (left.others (key_in format.relationships_file x) (λ e. omega arith) (λ e. omega arith)
+      (λ e. let f = ap (λ (k : Key). k.file) e in omega arith) (λ e. let f = ap (λ (k : Key). k.file) e in omega arith) (λ e. omega arith)
+      (λ e. ne (ap (λ (k : Key). k.id) e))))
       (nat_cases x id)
 
   rel_mark : high t.records format.relationships_file ≡ high s.records format.relationships_file
@@ -213,8 +216,10 @@ module _ (s t : State) (id : ℕ) (left : LeavesEdge s t id) where
   head_chain : (head : Head) (n : ℕ) (members : List ℕ) → IsHeadOf s.records head n → IsHeadChain s.records head n members
       → IsHeadChain t.records head n members
   head_chain head n members owns was = record {
-    chain = subst (λ f. IsChain (λ y. next_in (rec_at t.records format.relationships_file y) n) (λ y. prev_in (rec_at t.records format.relationships_file y) n) format.nil f members) (sym (first_as head n owns))
-        (chain_stays (λ y. next_in (rec_at s.records format.relationships_file y) n) (λ y. prev_in (rec_at s.records format.relationships_file y) n) (λ y. next_in (rec_at t.records format.relationships_file y) n) (λ y. prev_in (rec_at t.records format.relationships_file y) n)
+    chain = subst (λ f. IsChain (λ y. next_in (rec_at t.records format.relationships_file y) n) (λ y. prev_in (rec_at t.records format.relationships_file y) n)
+        format.nil f members) (sym (first_as head n owns))
+        (chain_stays (λ y. next_in (rec_at s.records format.relationships_file y) n) (λ y. prev_in (rec_at s.records format.relationships_file y) n)
+        (λ y. next_in (rec_at t.records format.relationships_file y) n) (λ y. prev_in (rec_at t.records format.relationships_file y) n)
         format.nil (first_of s.records head) members (λ y i. next_as y n) (λ y i. prev_as y n) was.chain);
     only = λ x i. subst (λ (f : ℕ → Option GroupRow). StandsAt (rel_at t.records) f head x) (sym (groups_as s t n (alike n)))
         (stands_alike (rel_at s.records) (rel_at t.records) there back (group_at s.records) head x (was.only x i));
@@ -227,7 +232,15 @@ module _ (s t : State) (id : ℕ) (left : LeavesEdge s t id) where
       chains : (place n : ℕ) → IsGroupHeadOf t.records (group_head g place) n → (members : List ℕ) × IsHeadChain t.records (group_head g place) n members
       chains place n own =
           let now : IsGroupHeadOf s.records (group_head g place) n
-          = record { dense = dense_as s t n (alike n) own.dense; row = own.row; group = sym (group_row s t n (alike n) own.row.id) ∙ own.group; owner = own.owner; key = own.key; field = own.field } in
+          = record {
+            dense = dense_as s t n (alike n) own.dense;
+            row = own.row;
+            group = sym (group_row s t n (alike n) own.row.id) ∙ own.group;
+            owner =
+                own.owner;
+            key = own.key;
+            field = own.field;
+          } in
           let was = keeps.chains place n now in
           (was.0, head_chain (group_head g place) n was.0 (inr now) was.1)
 
@@ -262,14 +275,17 @@ module _ (s t : State) (id : ℕ) (left : LeavesEdge s t id) where
   counted_broke : (n g : ℕ) (d : Damage) → IsCountDamage n g d → IsBroken t d → IsBroken s d
   counted_broke n g d names broken = ⊎_elim
       (λ e. let k = group_broken t.records t.shape g d e broken in
-      subst (IsBroken s) (sym e) (inl (GroupChains g (subst (λ m. g < m) group_mark_as k.0) (k.1.0, on_as s t k.1.0 (alike k.1.0) g k.1.1) (λ keeps. k.2 (group_keeps g keeps)))))
+      subst (IsBroken s) (sym e) (inl (GroupChains g (subst (λ m. g < m) group_mark_as k.0) (k.1.0, on_as s t k.1.0 (alike k.1.0) g k.1.1)
+      (λ keeps. k.2 (group_keeps g keeps)))))
       (λ j. ⊎_elim
       (λ e. let k = degree_broken t.records t.shape n d e broken in
-      subst (IsBroken s) (sym e) (inl (WrongDegree n (subst (λ m. n < m) (marks format.nodes_file (λ e. omega arith) (λ e. omega arith)) k.0) (λ keeps. k.1 (degree_keeps n keeps)))))
+      subst (IsBroken s) (sym e) (inl (WrongDegree n (subst (λ m. n < m) (marks format.nodes_file (λ e. omega arith) (λ e. omega arith)) k.0)
+      (λ keeps. k.1 (degree_keeps n keeps)))))
       (λ e. let k = meta_broken t.records t.shape d e broken in
       subst (IsBroken s) (sym e) (inl (WrongMeta format.relationships_file (omega arith) (λ kept. k
       (subst (λ (h : Shape). IsMetaKept t.records h format.relationships_file) (sym left.shape)
-      (subst (λ (r : Rec). IsMetaRight format.newest_version s.shape format.relationships_file r) (sym (meta s t id left format.relationships_file (λ e. omega arith) (λ e. omega arith))) kept)))))) j) names
+      (subst (λ (r : Rec). IsMetaRight format.newest_version s.shape format.relationships_file r) (sym (meta s t id left format.relationships_file
+      (λ e. omega arith) (λ e. omega arith))) kept)))))) j) names
 
   search_broke : (n : ℕ) (d : Damage) → IsBroken t d → IsSearchDamage t n d → IsBroken s d
   search_broke n d broken (BadNode _ bad) = inl (node_breaks s n d (node_as s t n (alike n) d bad))
@@ -282,7 +298,8 @@ module _ (s t : State) (id : ℕ) (left : LeavesEdge s t id) where
   sought_broke n label row d live end typed (inl told) = search_broke n d told.0 told.1
   sought_broke n label row d live end typed (inr told) = subst (IsBroken s) (sym told.0) (inl (⊎_elim
       (λ (free : kind_at t.records format.nodes_file n ≡ format.free_kind).
-      RelEnds id (kind_below (high s.records format.relationships_file) (rec_at s.records format.relationships_file id) id (some_row (kind_at s.records format.relationships_file id) (rel_in (rec_at s.records format.relationships_file id) id) row live).0)
+      RelEnds id (kind_below (high s.records format.relationships_file) (rec_at s.records format.relationships_file id) id
+      (some_row (kind_at s.records format.relationships_file id) (rel_in (rec_at s.records format.relationships_file id) id) row live).0)
       (λ keeps. ⊎_elim
       (λ (e : row.from ≡ n). (keeps.from row live).node (ap (kind_at s.records format.nodes_file) e ∙ sym (kind_same s t id left n) ∙ free))
       (λ (e : row.to ≡ n). (keeps.to row live).node (ap (kind_at s.records format.nodes_file) e ∙ sym (kind_same s t id left n) ∙ free)) end))
@@ -297,7 +314,8 @@ module _ (s t : State) (id : ℕ) (left : LeavesEdge s t id) where
 
   stray_broke : (row : views.RelRow) → rel_at s.records id ≡ Some row → IsStray t.records id row.from row.to → IsBroken s (end_damage id)
   stray_broke row live stray = inl (RelEnds id
-      (kind_below (high s.records format.relationships_file) (rec_at s.records format.relationships_file id) id (some_row (kind_at s.records format.relationships_file id) (rel_in (rec_at s.records format.relationships_file id) id) row live).0)
+      (kind_below (high s.records format.relationships_file) (rec_at s.records format.relationships_file id) id
+      (some_row (kind_at s.records format.relationships_file id) (rel_in (rec_at s.records format.relationships_file id) id) row live).0)
       (λ keeps. stray.out (in_chain row.from id ((keeps.from row live).chain (chains_as s t row.from (alike row.from) stray.source)))
       (in_chain row.to id ((keeps.to row live).chain (chains_as s t row.to (alike row.to) stray.target)))))
 
@@ -332,7 +350,8 @@ row_found s id rel found = (
 pub end_still : (s t : State) (id node : ℕ) (rel : RelRow) → HasRow s.records id rel → (node ≡ rel.from) ⊎ (node ≡ rel.to) → SameButReads s t
     → (fault : ChangeFault) → BlamesEnd s id node rel.label fault → BlamesBroken t fault
 end_still s t id node rel has which same fault told = broken_left s t same fault (blames_more (IsSoughtDamage s id node rel.label) (IsBroken s)
-    (λ damage k. sought_broke s s id (edge_none s id) node rel.label (with_property id rel has.0) damage has.1 (⊎_elim (λ e. inl (sym e)) (λ e. inr (sym e)) which) refl k) fault told)
+    (λ damage k. sought_broke s s id (edge_none s id) node rel.label (with_property id rel has.0) damage has.1 (⊎_elim (λ e. inl (sym e)) (λ e. inr (sym e))
+    which) refl k) fault told)
 
 -- and where a head is looked for
 pub head_still : (s m t : State) (id node : ℕ) (rel : RelRow) → HasRow s.records id rel → (node ≡ rel.from) ⊎ (node ≡ rel.to) → SameButReads s m
@@ -342,4 +361,5 @@ head_still s m t id node rel has which same faults.Memory told later = tt
 head_still s m t id node rel has which same faults.Disk told later = tt
 head_still s m t id node rel has which same (faults.Damaged damage) told later =
     subst (λ (z : State). IsBroken z damage) (sym later) (subst (λ (z : State). IsBroken z damage) (sym same)
-    (sought_broke s s id (edge_none s id) node rel.label (with_property id rel has.0) damage has.1 (⊎_elim (λ e. inl (sym e)) (λ e. inr (sym e)) which) refl (head_blamed s m id node rel.label same (faults.Damaged damage) told)))
+    (sought_broke s s id (edge_none s id) node rel.label (with_property id rel has.0) damage has.1 (⊎_elim (λ e. inl (sym e)) (λ e. inr (sym e)) which) refl
+    (head_blamed s m id node rel.label same (faults.Damaged damage) told)))

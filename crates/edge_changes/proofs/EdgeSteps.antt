@@ -35,7 +35,8 @@ abbrev pub IsNode : Records → ℕ → Type 0
 IsNode records n = (kind_at records format.nodes_file n ≡ format.sparse) ⊎ (kind_at records format.nodes_file n ≡ format.dense)
 
 rel_low : (records : Records) (rel : ℕ) → kind_at records format.relationships_file rel ≡ format.related → IsLow (high records format.relationships_file) rel
-rel_low records rel related = inr (kind_below (high records format.relationships_file) (rec_at records format.relationships_file rel) rel (λ e. let z = sym e ∙ related in omega arith))
+rel_low records rel related = inr (kind_below (high records format.relationships_file) (rec_at records format.relationships_file rel) rel
+    (λ e. let z = sym e ∙ related in omega arith))
 
 -- what leads to one is below the mark
 pub used_low : (records : Records) (link : ℕ) → IsUsedLink records link → IsLow (high records format.relationships_file) link
@@ -60,7 +61,8 @@ links_backed : (s : Records) (t : State) (n link to : ℕ) → IsRelinked s t.re
     → IsRelinked s (backed t n link to).records
 unfolding backed
 links_backed s t n link to old used low = on_test (λ (z : State). IsRelinked s z.records) link format.nil t (prev_set t n link to) (λ _. old)
-    (λ ne. set_link s t.records old link (place_of (rec_at t.records format.relationships_file link) n) to (⊎_elim (λ e. absurd (ne e)) (λ k. k) used) (place_link (rec_at t.records format.relationships_file link) n) low)
+    (λ ne. set_link s t.records old link (place_of (rec_at t.records format.relationships_file link) n) to (⊎_elim (λ e. absurd (ne e)) (λ k. k) used)
+    (place_link (rec_at t.records format.relationships_file link) n) low)
 
 links_next : (s : Records) (t : State) (n rel to : ℕ) → IsRelinked s t.records → kind_at s format.relationships_file rel ≡ format.related
     → IsLow (high s format.relationships_file) to → IsRelinked s (next_set t n rel to).records
@@ -73,7 +75,8 @@ module _ (s : State) (head : Head) (n rel : ℕ) (first : IsFirstLink s.records 
   below : head.key.file ≡ format.groups_file → head.key.id < high s.records format.groups_file
   below is = ⊎_elim
       (λ k. absurd (let f = ap (λ (z : Head). z.key.file) k.1 in omega arith))
-      (λ k. kind_below (high s.records format.groups_file) (rec_at s.records format.groups_file head.key.id) head.key.id (group_used (kind_at s.records format.groups_file head.key.id) k.0)) first
+      (λ k. kind_below (high s.records format.groups_file) (rec_at s.records format.groups_file head.key.id) head.key.id
+      (group_used (kind_at s.records format.groups_file head.key.id) k.0)) first
 
   -- ---- at the front
   links_pushed : IsUsedLink s.records (first_of s.records head) → IsRelinked s.records (pushed s head n rel).records
@@ -106,7 +109,8 @@ module _ (s : State) (head : Head) (n rel : ℕ) (first : IsFirstLink s.records 
       let there : single key ≡ one = put_same s.records key one in
       let before = set_link s.records s.records (relinked_none s.records) rel (place_of r n) format.nil related (place_link r n) (inl refl) in
       let both = set_link s.records single before rel (place_of r n + 4) format.nil related (next_link r n) (inl refl) in
-      subst (IsRelinked s.records) (put_twice s.records key one two) (subst (λ q. IsRelinked s.records (put single key (with_field 4 q (place_of r n + 4) format.nil))) there both)
+      subst (IsRelinked s.records) (put_twice s.records key one two)
+      (subst (λ q. IsRelinked s.records (put single key (with_field 4 q (place_of r n + 4) format.nil))) there both)
 
   links_led : (t : State) (before after : ℕ) → IsRelinked s.records t.records → IsUsedLink s.records before
       → IsLow (high s.records format.relationships_file) after → IsRelinked s.records (led t head n before after).records
@@ -122,7 +126,8 @@ module _ (s : State) (head : Head) (n rel : ℕ) (first : IsFirstLink s.records 
   links_unlinked before after =
       let freed = after_put (after_get s) (key_in format.relationships_file rel) (alone (s.records (key_in format.relationships_file rel)) n) in
       links_led (backed freed n (next_of s.records n rel) (prev_of s.records n rel)) (prev_of s.records n rel) (next_of s.records n rel)
-      (links_backed s.records freed n (next_of s.records n rel) (prev_of s.records n rel) links_freed after (used_low s.records (prev_of s.records n rel) before)) before (used_low s.records (next_of s.records n rel) after)
+      (links_backed s.records freed n (next_of s.records n rel) (prev_of s.records n rel) links_freed after (used_low s.records (prev_of s.records n rel)
+      before)) before (used_low s.records (next_of s.records n rel) after)
 
   pub links_parted : (d : ℕ) → d < 2 ^ 32 → IsUsedLink s.records (prev_of s.records n rel) → IsUsedLink s.records (next_of s.records n rel)
       → IsRelinked s.records (parted s head n rel d).records
@@ -163,9 +168,11 @@ module _ (s : State) (head : Head) (n rel d : ℕ) where
       let linked = next_set back n rel old in
       let one = (tallied one_more (pushed s head n rel) head).records in
       let place : place_of (rec_at s.records format.relationships_file rel) n ≡ 16 = ap (λ t. cond t 16 24) (eq_true _ n source) in
-      ap (λ r. field 4 r at) (put_other one (key_in format.nodes_file n) (with_field 4 (one (key_in format.nodes_file n)) format.node_degree d) key (λ e. let f = ap (λ (k : Key). k.file) e in omega arith))
+      ap (λ r. field 4 r at) (put_other one (key_in format.nodes_file n) (with_field 4 (one (key_in format.nodes_file n)) format.node_degree d) key
+      (λ e. let f = ap (λ (k : Key). k.file) e in omega arith))
       ∙ ap (λ r. field 4 r at) (elsewhere-tallied one_more (pushed s head n rel) head key (λ e. no_head (ap (λ (k : Key). k.file) (sym e))))
-      ∙ ap (λ r. field 4 r at) (put_other linked.records head.key (with_field 4 (s.records head.key) head.field rel) key (λ e. no_head (ap (λ (k : Key). k.file) (sym e))))
+      ∙ ap (λ r. field 4 r at) (put_other linked.records head.key (with_field 4 (s.records head.key) head.field rel) key
+      (λ e. no_head (ap (λ (k : Key). k.file) (sym e))))
       ∙ field-set_other back.records (next_place back.records n rel) old key 4 at (omega arith)
       (λ e. inr (let same = place-backed (after_get s) n old rel n rel in omega arith))
       ∙ field-backed (after_get s) n old rel key 4 at (omega arith) (λ e. inr (
@@ -224,7 +231,8 @@ module _ (s : State) (head : Head) (n rel : ℕ) where
       let back = backed (after_get s) n old rel in
       let linked = next_set back n rel old in
       ⊎_elim
-      (λ (e : key ≡ head.key). ap (λ k. field m (put linked.records head.key (with_field 4 (s.records head.key) head.field rel) k) at) e ∙ ap (λ r. field m r at) (put_same linked.records head.key (with_field 4 (s.records head.key) head.field rel))
+      (λ (e : key ≡ head.key). ap (λ k. field m (put linked.records head.key (with_field 4 (s.records head.key) head.field rel) k) at) e ∙ ap
+      (λ r. field m r at) (put_same linked.records head.key (with_field 4 (s.records head.key) head.field rel))
       ∙ field-with_field_other 4 (s.records head.key) head.field rel m at inside (⊎_elim (λ low. inr low) (λ high. inl high) (aside e))
       ∙ ap (λ k. field m (s.records k) at) (sym e))
       (λ (ne : key ≢ head.key). ap (λ r. field m r at) (put_other linked.records head.key (with_field 4 (s.records head.key) head.field rel) key ne

@@ -122,7 +122,8 @@ module _ (s : State) (names : List (List ℕ)) (id : ℕ) (ends : Ends EdgeEnd) 
       by (Two a b) is differ = (
         subst (λ (e : Ends EdgeEnd). HasRightLinks s (source_of e) id) (sym is) right_from,
         subst (λ (e : Ends EdgeEnd). HasRightLinks (end_parted s (source_of e) id) (target_of e) id) (sym is)
-            (right_to (subst (λ (e : Ends EdgeEnd). (source_of e).node ≢ (target_of e).node) is (subst (AreApart (λ (end : EdgeEnd). end.node)) (sym is) differ))),
+            (right_to (subst (λ (e : Ends EdgeEnd). (source_of e).node ≢ (target_of e).node) is (subst (AreApart (λ (end : EdgeEnd). end.node)) (sym is)
+            differ))),
       )
 
   module _ (u t : State) (apart : AreApart (λ (end : EdgeEnd). end.node) ends) (parts_are : u ≡ ends_parted s ends id) (shape : t.shape ≡ s.shape)
@@ -145,7 +146,8 @@ module _ (s : State) (names : List (List ℕ)) (id : ℕ) (ends : Ends EdgeEnd) 
     gone = is_gone u.records t.records s.shape format.relationships_file id split.0 refl split.1 used
         (given split.0 (record { list = split.1.walk; fresh = not_free_id u.records format.relationships_file id split.0 split.1 used }))
         (room_small s.records s.shape format.relationships_file store.store.ranges)
-        (subst (IsMetaInRange s.shape format.relationships_file) (sym (re.meta_stays s.records u.records parts.links format.relationships_file)) (store.store.ranges.metas format.relationships_file refl))
+        (subst (IsMetaInRange s.shape format.relationships_file) (sym (re.meta_stays s.records u.records parts.links format.relationships_file))
+        (store.store.ranges.metas format.relationships_file refl))
 
     left : IsEdgeGone s.records u.records t.records s.shape id row [] (both_groups h k source.node target.node)
     left = edge_left s s.shape id row h k edge store.store d e d_now e_now u.records t.records parts gone
@@ -159,7 +161,8 @@ module _ (s : State) (names : List (List ℕ)) (id : ℕ) (ends : Ends EdgeEnd) 
     pub parts_edge : PartsEdge s t names id ends
     parts_edge = record {
       keeps = subst (λ z. KeepsRules t.records z z.threshold (end_groups ends)) (sym shape)
-          (subst (KeepsRules t.records s.shape s.shape.threshold) (each_groups ends apart) (gone_well s.records u.records t.records s.shape id row left store.store));
+          (subst (KeepsRules t.records s.shape s.shape.threshold) (each_groups ends apart) (gone_well s.records u.records t.records s.shape id row left
+          store.store));
       names = store.names ∙ sym kept;
       removes = record {
         there = gone_there s.records u.records t.records s.shape id row left store.store;

@@ -63,7 +63,8 @@ module _ (s t : State) (rel : ℕ) (ends : Ends EdgeEnd) where
     only = writes_more s u ((rel_key rel ∷ end_keys w.0 w.1 leaves) ++ (rel_key rel ∷ end_keys v.0 v.1 enters)) _
         (λ q i. among_both q (rel_key rel ∷ end_keys w.0 w.1 leaves) (rel_key rel ∷ end_keys v.0 v.1 enters)
         (λ j. ⊎_elim (λ e. inl e) (λ m. inr (among_left q (end_keys w.0 w.1 leaves) (end_keys v.0 v.1 enters ++ meta_keys) m)) j)
-        (λ j. ⊎_elim (λ e. inl e) (λ m. inr (among_right q (end_keys w.0 w.1 leaves) (end_keys v.0 v.1 enters ++ meta_keys) (among_left q (end_keys v.0 v.1 enters) meta_keys m))) j) i)
+        (λ j. ⊎_elim (λ e. inl e) (λ m. inr (among_right q (end_keys w.0 w.1 leaves) (end_keys v.0 v.1 enters ++ meta_keys)
+        (among_left q (end_keys v.0 v.1 enters) meta_keys m))) j) i)
         (writes_then s t u _ _ w.2 v.2);
   }
 
@@ -76,7 +77,8 @@ module _ (s t : State) (rel : ℕ) (ends : Ends EdgeEnd) where
     after_target = w.after_target;
     only = writes_more s u (all ++ (rel_key rel ∷ meta_key_of format.relationships_file ∷ [])) all
         (λ q i. among_both q all (rel_key rel ∷ meta_key_of format.relationships_file ∷ []) (λ j. j)
-        (λ j. ⊎_elim (λ e. inl e) (λ m. ⊎_elim (λ e. inr (among_right q (end_keys w.before_source w.after_source leaves) (end_keys w.before_target w.after_target enters ++ meta_keys)
+        (λ j. ⊎_elim (λ e. inl e) (λ m. ⊎_elim (λ e. inr (among_right q (end_keys w.before_source w.after_source leaves)
+        (end_keys w.before_target w.after_target enters ++ meta_keys)
         (among_right q (end_keys w.before_target w.after_target enters) meta_keys (among_metas format.relationships_file q refl e)))) (λ e. absurd e) m) j) i)
         (writes_then s t u _ _ w.only given);
   }
@@ -95,7 +97,8 @@ own_lead node before = on_test (λ (k : Key). is_meta_file k.file ≡ true) befo
 
 -- the chain of an end is closed
 abbrev WritesClosed : State → State → EdgeEnd → Type 0
-WritesClosed old new end = (before after : ℕ) × WritesOnly old new (group_key after ∷ lead_key end.node before ∷ end.head.key ∷ meta_key_of format.groups_file ∷ [])
+WritesClosed old new end = (before after : ℕ) × WritesOnly old new (group_key after ∷ lead_key end.node before ∷ end.head.key ∷ meta_key_of format.groups_file ∷
+    [])
 
 -- the group's key is there already
 close_in : (q : Key) (end : EdgeEnd) (a b : ℕ) (keys : List Key) → IsAmong end.head.key keys → IsAmong (group_key a) keys → IsAmong (lead_key end.node b) keys
@@ -117,7 +120,8 @@ module _ (s t : State) (rel : ℕ) (ends : Ends EdgeEnd) (w : WritesEnds s t rel
   E = ends_keys w.before_source w.after_source w.before_target w.after_target source target
 
   ends_in : (q : Key) (more : List Key) → IsAmong q (rel_key rel ∷ E ++ meta_keys) → IsAmong q (rel_key rel ∷ (E ++ more) ++ meta_keys)
-  ends_in q more i = ⊎_elim (λ e. inl e) (λ j. inr (among_both q E meta_keys (λ m. among_left q (E ++ more) meta_keys (among_left q E more m)) (λ m. among_right q (E ++ more) meta_keys m) j)) i
+  ends_in q more i = ⊎_elim (λ e. inl e) (λ j. inr (among_both q E meta_keys (λ m. among_left q (E ++ more) meta_keys (among_left q E more m))
+      (λ m. among_right q (E ++ more) meta_keys m) j)) i
 
   -- those besides the heads'
   abbrev R : List Key
@@ -154,9 +158,12 @@ module _ (s t : State) (rel : ℕ) (ends : Ends EdgeEnd) (w : WritesEnds s t rel
     C = group_key first.1 ∷ lead_key source.node first.0 ∷ []
 
     source_only : WritesOnly s v (rel_key rel ∷ (E ++ C) ++ meta_keys)
-    source_only = writes_more s v ((rel_key rel ∷ E ++ meta_keys) ++ (group_key first.1 ∷ lead_key source.node first.0 ∷ source.head.key ∷ meta_key_of format.groups_file ∷ [])) _
-        (λ q i. among_both q (rel_key rel ∷ E ++ meta_keys) (group_key first.1 ∷ lead_key source.node first.0 ∷ source.head.key ∷ meta_key_of format.groups_file ∷ []) (λ m. ends_in q C m)
-        (λ m. inr (close_in q source first.1 first.0 (E ++ C) (inr (inr (inl refl))) (among_right (group_key first.1) E C (inl refl)) (among_right (lead_key source.node first.0) E C (inr (inl refl))) m)) i)
+    source_only = writes_more s v ((rel_key rel ∷ E ++ meta_keys) ++ (group_key first.1 ∷ lead_key source.node first.0 ∷ source.head.key ∷ meta_key_of
+        format.groups_file ∷ [])) _
+        (λ q i. among_both q (rel_key rel ∷ E ++ meta_keys) (group_key first.1 ∷ lead_key source.node first.0 ∷ source.head.key ∷ meta_key_of format.groups_file
+        ∷ []) (λ m. ends_in q C m)
+        (λ m. inr (close_in q source first.1 first.0 (E ++ C) (inr (inr (inl refl))) (among_right (group_key first.1) E C (inl refl))
+        (among_right (lead_key source.node first.0) E C (inr (inl refl))) m)) i)
         (writes_then s t v _ _ w.only first.2)
 
     pub source_taken : WritesTaken s v rel ends
@@ -167,10 +174,14 @@ module _ (s t : State) (rel : ℕ) (ends : Ends EdgeEnd) (w : WritesEnds s t rel
       D = group_key last.1 ∷ lead_key target.node last.0 ∷ []
 
       target_only : WritesOnly s x (rel_key rel ∷ ((E ++ C) ++ D) ++ meta_keys)
-      target_only = writes_more s x ((rel_key rel ∷ (E ++ C) ++ meta_keys) ++ (group_key last.1 ∷ lead_key target.node last.0 ∷ target.head.key ∷ meta_key_of format.groups_file ∷ [])) _
-          (λ q i. among_both q (rel_key rel ∷ (E ++ C) ++ meta_keys) (group_key last.1 ∷ lead_key target.node last.0 ∷ target.head.key ∷ meta_key_of format.groups_file ∷ [])
-          (λ m. ⊎_elim (λ e. inl e) (λ j. inr (among_both q (E ++ C) meta_keys (λ k. among_left q ((E ++ C) ++ D) meta_keys (among_left q (E ++ C) D k)) (λ k. among_right q ((E ++ C) ++ D) meta_keys k) j)) m)
-          (λ m. inr (close_in q target last.1 last.0 ((E ++ C) ++ D) (inr (inr (inr (inr (inr (inr (inl refl))))))) (among_right (group_key last.1) (E ++ C) D (inl refl)) (among_right (lead_key target.node last.0) (E ++ C) D (inr (inl refl))) m)) i)
+      target_only = writes_more s x ((rel_key rel ∷ (E ++ C) ++ meta_keys) ++ (group_key last.1 ∷ lead_key target.node last.0 ∷ target.head.key ∷ meta_key_of
+          format.groups_file ∷ [])) _
+          (λ q i. among_both q (rel_key rel ∷ (E ++ C) ++ meta_keys) (group_key last.1 ∷ lead_key target.node last.0 ∷ target.head.key ∷ meta_key_of
+          format.groups_file ∷ [])
+          (λ m. ⊎_elim (λ e. inl e) (λ j. inr (among_both q (E ++ C) meta_keys (λ k. among_left q ((E ++ C) ++ D) meta_keys (among_left q (E ++ C) D k))
+          (λ k. among_right q ((E ++ C) ++ D) meta_keys k) j)) m)
+          (λ m. inr (close_in q target last.1 last.0 ((E ++ C) ++ D) (inr (inr (inr (inr (inr (inr (inl refl))))))) (among_right (group_key last.1) (E ++ C) D
+          (inl refl)) (among_right (lead_key target.node last.0) (E ++ C) D (inr (inl refl))) m)) i)
           (writes_then s v x _ _ source_only last.2)
 
       pub target_taken : WritesTaken s x rel ends
@@ -200,7 +211,8 @@ taken_beside s u rel ends are taken = record {
 }
 
 pub groups_beside : (s t : State) (rel g k : ℕ) → WritesOnly s t (group_key g ∷ group_key k ∷ []) → WritesBeside (rel_key rel) 12 s t
-groups_beside s t rel g k only = beside_more (omega arith) (these_written (rel_key rel) s t (group_key g ∷ group_key k ∷ []) (group_key g ∷ group_key k ∷ []) (refl, (refl, tt))
+groups_beside s t rel g k only = beside_more (omega arith) (these_written (rel_key rel) s t (group_key g ∷ group_key k ∷ []) (group_key g ∷ group_key k ∷ [])
+    (refl, (refl, tt))
     (λ q i. ⊎_elim (λ e. inr (inl e)) (λ j. ⊎_elim (λ e. inr (inr (inl e))) (λ z. absurd z) j) i) only)
 
 -- one record twice

@@ -92,7 +92,17 @@ module _ (s : State) (names : List (List ℕ)) (id : ℕ) (rel : RelRow) (store 
               degree = degree_stays s t.records node degree_is (f.kinds node) (r.degrees node) has;
             };
             kinds = f.kinds;
-            regroups = record { shape = r.shape; graph = r.graph; nodes = r.nodes; rels = r.rels; degrees = r.degrees; kinds = r.kinds; groups = r.groups; metas = r.metas; others = r.others };
+            regroups = record {
+              shape = r.shape;
+              graph = r.graph;
+              nodes = r.nodes;
+              rels = r.rels;
+              degrees = r.degrees;
+              kinds = r.kinds;
+              groups = r.groups;
+              metas = r.metas;
+              others = r.others;
+            };
             indexes = regroups_keep (record s { reads = m.reads }) t node r;
           }
 
@@ -122,7 +132,13 @@ module _ (s t : State) (names : List (List ℕ)) (id : ℕ) (rel : RelRow) (ther
     store = second.store;
     bare = record {
       label = rel.label;
-      there = second.regroups.rels id ∙ there_then ∙ (λ i. Some (record { id = id; label = rel.label; from = sym from i; to = sym to i; property = format.nil }));
+      there = second.regroups.rels id ∙ there_then ∙ (λ i. Some (record {
+        id = id;
+        label = rel.label;
+        from = sym from i;
+        to = sym to i;
+        property = format.nil;
+      }));
       stands = (stays, second.stands);
     };
     kinds = λ n. second.kinds n ∙ first.kinds n;

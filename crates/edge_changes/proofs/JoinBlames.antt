@@ -107,6 +107,7 @@ pub placed_only : (s t u : State) (id : ℕ) (rec : Rec) → ChangesOnly s t (me
     → ChangesOnly s u (key_in format.relationships_file id ∷ meta_key_of format.relationships_file ∷ [])
 placed_only s t u id rec took put = record {
   each = λ q. ⊎_elim (λ e. inr (inl e))
-      (λ ne. ⊎_elim (λ same. inl (ap (λ (z : State). z.records q) put ∙ put_other t.records (key_in format.relationships_file id) rec q ne ∙ same)) (λ i. inr (inr i)) (took.each q))
+      (λ ne. ⊎_elim (λ same. inl (ap (λ (z : State). z.records q) put ∙ put_other t.records (key_in format.relationships_file id) rec q ne ∙ same))
+      (λ i. inr (inr i)) (took.each q))
       (key_cases q (key_in format.relationships_file id));
 }

@@ -54,10 +54,12 @@ module _ (rel : ℕ) (ends : Ends EdgeEnd) where
   in_source first second q i = ⊎_elim (λ e. inl e) (λ j. inr (among_left q (joined_keys first source) (joined_keys second target ++ meta_keys) j)) i
 
   in_target : (first second : ℕ) (q : Key) → IsAmong q (rel_key rel ∷ joined_keys second target) → IsAmong q (all first second)
-  in_target first second q i = ⊎_elim (λ e. inl e) (λ j. inr (among_right q (joined_keys first source) (joined_keys second target ++ meta_keys) (among_left q (joined_keys second target) meta_keys j))) i
+  in_target first second q i = ⊎_elim (λ e. inl e) (λ j. inr (among_right q (joined_keys first source) (joined_keys second target ++ meta_keys)
+      (among_left q (joined_keys second target) meta_keys j))) i
 
   in_metas : (first second : ℕ) (q : Key) → IsAmong q (rel_key rel ∷ meta_keys) → IsAmong q (all first second)
-  in_metas first second q i = ⊎_elim (λ e. inl e) (λ j. inr (among_right q (joined_keys first source) (joined_keys second target ++ meta_keys) (among_right q (joined_keys second target) meta_keys j))) i
+  in_metas first second q i = ⊎_elim (λ e. inl e) (λ j. inr (among_right q (joined_keys first source) (joined_keys second target ++ meta_keys)
+      (among_right q (joined_keys second target) meta_keys j))) i
 
   pub source_written : (s t : State) → JoinsEnd s t rel source → WritesJoined s t rel ends
   source_written s t w = record { first_source = w.0; first_target = rel; only = writes_more s t _ (all w.0 rel) (in_source w.0 rel) w.1 }

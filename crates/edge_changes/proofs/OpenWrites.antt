@@ -47,15 +47,23 @@ module _ (source target : EdgeEnd) (keys : List Key) where
 
   in_source : (q : Key) (more : List Key) → (IsAmong q more → IsAmong q keys) → IsAmong q (node_key source.node ∷ source.head.key ∷ more ++ meta_keys)
       → IsAmong q all
-  in_source q more are i = ⊎_elim (λ e. inl e) (λ j. ⊎_elim (λ e. inr (inl e)) (λ k. others q (among_both q more meta_keys (λ l. among_left q keys meta_keys (are l)) (λ l. among_right q keys meta_keys l) k)) j) i
+  in_source q more are i = ⊎_elim (λ e. inl e) (λ j. ⊎_elim (λ e. inr (inl e)) (λ k. others q (among_both q more meta_keys (λ l. among_left q keys meta_keys
+      (are l)) (λ l. among_right q keys meta_keys l) k)) j) i
 
   in_target : (q : Key) (more : List Key) → (IsAmong q more → IsAmong q keys) → IsAmong q (node_key target.node ∷ target.head.key ∷ more ++ meta_keys)
       → IsAmong q all
-  in_target q more are i = ⊎_elim (λ e. inr (inr (inl e))) (λ j. ⊎_elim (λ e. inr (inr (inr (inl e)))) (λ k. others q (among_both q more meta_keys (λ l. among_left q keys meta_keys (are l)) (λ l. among_right q keys meta_keys l) k)) j) i
+  in_target q more are i = ⊎_elim (λ e. inr (inr (inl e))) (λ j. ⊎_elim (λ e. inr (inr (inr (inl e))))
+      (λ k. others q (among_both q more meta_keys (λ l. among_left q keys meta_keys (are l)) (λ l. among_right q keys meta_keys l) k)) j) i
 
 -- a loop's
 pub loop_wrote : {n m : ℕ} (s t : State) (source : EdgeEnd) → n ≤ m → WritesOpened s t source.node source.head.key n → WritesEndsOpened s t (Loop source) m
-loop_wrote s t source le w = record { keys = w.keys; few = let f = w.few in omega arith; own = w.own; only = writes_more s t _ _ (λ q i. in_source source source w.keys q w.keys (λ l. l) i) w.only }
+loop_wrote s t source le w = record {
+  keys = w.keys;
+  few = let f = w.few in omega arith;
+  own = w.own;
+  only = writes_more s t _ _
+      (λ q i. in_source source source w.keys q w.keys (λ l. l) i) w.only;
+}
 
 -- both, one after the other
 pub both_wrote : {n m k : ℕ} (s t u : State) (source target : EdgeEnd) → n + m ≤ k → WritesOpened s t source.node source.head.key n
@@ -92,7 +100,8 @@ module _ (s t u : State) (rel : ℕ) (ends : Ends EdgeEnd) (count : ℕ) (are : 
   in_chains q i = inr (among_left q E meta_keys (among_left q chains opened.keys i))
 
   in_opened : (q : Key) → IsAmong q (opened.keys ++ meta_keys) → IsAmong q (rel_key rel ∷ E ++ meta_keys)
-  in_opened q i = inr (among_both q opened.keys meta_keys (λ j. among_left q E meta_keys (among_right q chains opened.keys j)) (λ j. among_right q E meta_keys j) i)
+  in_opened q i = inr (among_both q opened.keys meta_keys (λ j. among_left q E meta_keys (among_right q chains opened.keys j))
+      (λ j. among_right q E meta_keys j) i)
 
   before : (q : Key) → IsAmong q (opened_keys (source_of ends) ++ opened_keys (target_of ends) ++ opened.keys ++ meta_keys)
       → IsAmong q (rel_key rel ∷ E ++ meta_keys)

@@ -45,12 +45,17 @@ module _ (tells : Type 0) (first : SharedState) (run : List Exchange) (middle : 
   admitted_either : Run tells first run middle → (content : Files) → IsAdmittedByEither middle.writer last.writer content
       → IsAdmittedInRun tells first (run ++ x ∷ []) last content
   admitted_either steps content (inl a) = (middle, comes_by_on middle (ends_by tells first run middle steps), a)
-  admitted_either steps content (inr a) = (last, ends_by tells first (run ++ x ∷ []) last (run_on (TakesSharedStep tells) first middle last run x steps step), a)
+  admitted_either steps content (inr a) = (
+    last,
+    ends_by tells first (run ++ x ∷ []) last (run_on (TakesSharedStep tells) first middle last run x steps step),
+    a,
+  )
 
 -- a turn carries on what a crash leaves
 module _ {D : Type 0} {g : Ghosts D} {start old : SharedView D} (new : SharedView D) {first : SharedState} {run : List Exchange} {state : SharedState}
     (steps : Run g.tells_reads first run state) (so_far : IsAtSince g start old first run state) where
-  carried : (all : List Exchange) (last : SharedState) → ((content : Files) → IsAdmittedInRun g.tells_reads first run state content → IsAdmittedInRun g.tells_reads first all last content)
+  carried : (all : List Exchange) (last : SharedState) → ((content : Files) → IsAdmittedInRun g.tells_reads first run state content → IsAdmittedInRun
+      g.tells_reads first all last content)
       → ((content : Files) → IsAdmittedByEither state.writer last.writer content → IsAdmittedInRun g.tells_reads first all last content)
       → SharedComesTo g old new state last → IsAtSince g start new first all last
   carried all last earlier turn comes =
@@ -60,7 +65,8 @@ module _ {D : Type 0} {g : Ghosts D} {start old : SharedView D} (new : SharedVie
         is_at = comes.is_at;
         crash = λ told.
             at_each_moment_on g start.session.disk old.session.disk new.session.disk after (IsAdmittedByEither state.writer last.writer)
-            (at_each_moment_weaker g start.session.disk old.session.disk before after (so_far.crash told) (λ content h. ⊎_elim (λ o. inl o) (λ a. inr (earlier content a)) h))
+            (at_each_moment_weaker g start.session.disk old.session.disk before after (so_far.crash told) (λ content h. ⊎_elim (λ o. inl o)
+            (λ a. inr (earlier content a)) h))
             (comes.crash told)
             (λ content h. inr (turn content h));
       }

@@ -124,7 +124,8 @@ reaches (suc n) so_far = by (deliver_first n so_far) (reaches n so_far)
     by before low = go (nat_le (n + 1) before.applied) (nat_eq (n + 1) (before.applied + 1)) refl refl
       where
         go : (is_old is_next : Bool) → nat_le (n + 1) before.applied ≡ is_old → nat_eq (n + 1) (before.applied + 1) ≡ is_next
-            → suc n ≤ (cond is_old (record before { old = before.old + 1 }) (cond is_next (record before { applied = before.applied + 1 }) (record before { gap = before.gap + 1 }))).applied
+            → suc n ≤ (cond is_old (record before { old = before.old + 1 }) (cond is_next (record before { applied = before.applied + 1 })
+            (record before { gap = before.gap + 1 }))).applied
         go true is_next old next = grind (arith, nat_tests)
         go false true old next = omega (arith, low)
         go false false old next = absurd (grind (arith, nat_tests))
@@ -144,7 +145,8 @@ pub delivered_more : {D : Type 0} (g : Ghosts D) (sent : List (List ℕ)) (first
     (all all_next : Delivered) (so_far delivered : Delivered) (now next : View D) (place : ℕ) (bytes : List ℕ)
     → HasDelivered g sent first start counted all so_far now → slice_get sent place ≡ Some bytes → counted_next ≡ counted + 1
     → all_next ≡ deliver (place + 1) all → next.live ≡ true → count_delivered delivered ≡ count_delivered so_far + 1
-    → (g.tells_reads → (shape : Shape) (sent : List (List ℕ)) (place : ℕ) → IsSent shape sent → slice_get sent place ≡ Some bytes → HasTaken g shape sent so_far now → (delivered ≡ deliver (place + 1) so_far) × HasTaken g shape sent delivered next)
+    → (g.tells_reads → (shape : Shape) (sent : List (List ℕ)) (place : ℕ) → IsSent shape sent → slice_get sent place ≡ Some bytes → HasTaken g shape sent so_far
+    now → (delivered ≡ deliver (place + 1) so_far) × HasTaken g shape sent delivered next)
     → HasDelivered g sent first start counted_next all_next delivered next
 delivered_more g sent first start counted counted_next all all_next so_far delivered now next place bytes before got counted_is all_is live count takes =
     record {
@@ -191,7 +193,8 @@ has_all g shape sent drawn delivered now all has =
 -- all deliveries, from an opening on
 pub takes_all : {D E : Type 0} (g : Ghosts D) (config : Config) (sent : List (List ℕ)) (x : ℕ) (old : D) (opened new : View D) (result : Result Delivered E)
     → IsOpened g config old opened
-    → (g.tells_reads → (shape : Shape) → IsSent shape sent → HasTaken g shape sent none_delivered opened → IfOk result (λ delivered. (delivered ≡ all_delivered (length sent) x) × HasTaken g shape sent delivered new))
+    → (g.tells_reads → (shape : Shape) → IsSent shape sent → HasTaken g shape sent none_delivered opened → IfOk result
+    (λ delivered. (delivered ≡ all_delivered (length sent) x) × HasTaken g shape sent delivered new))
     → IfOk result (TakesAll g (shape_of config) sent x old new.disk)
 takes_all g config sent x old opened new (Ok delivered) opens takes = λ reads is zeros.
     let ends = takes reads (shape_of config) is (opens_none g config sent old opened reads is zeros opens) in

@@ -24,7 +24,16 @@ module _ {D : Type 0} (g : Ghosts D) (options : RunOptions) (old new : D) where
     on_its_terms = record { first = r.first; begins = refl; run = r.run; last = r.last; steps = r.steps; arrives = (refl, refl); says = r.says }
 
     ran : (exit : Exit) (input left written : List ℕ) → Serves (terms_of g run_event) exit input left written → IsEvent exit input left written
-    ran exit input left written serves = (run_event, record { called = refl; may = λ since. (r.begins, r.steps, r.arrives); leads = λ since. refl; serves = serves })
+    ran exit input left written serves = (
+      run_event,
+      record {
+        called = refl;
+        may = λ since. (r.begins, r.steps, r.arrives);
+        leads = λ since. refl;
+        serves =
+            serves;
+      },
+    )
 
   refused : (exit : Exit) (input left written : List ℕ) (e : EndsUnopened (terms_for g options old new).unopened exit written)
       → (EndsUnopened (terms_of g (Refuses options e.0 new)).unopened exit written → Serves (terms_of g (Refuses options e.0 new)) exit input left written)

@@ -28,7 +28,12 @@ use Rattle.graph_console.specs.declared.follow.delivered.Delivered.{Delivered}
 pub lacks_follow : (tells : Type 0) (options : SampleOptions) (old new : List ℕ) (exit : Exit) → ((exit ≡ NoMemory) × (new ≡ old ++ fault_line WantOfMemory))
     ⊎ ((exit ≡ OutputFault) × TakesFront old new (fault_line WantOfMemory))
     → Writes old new (Follows tells options exit)
-lacks_follow tells options old new exit (inl lacks) = (fault_line WantOfMemory, lacks.1, subst (λ (e : Exit). Follows tells options e (fault_line WantOfMemory)) (sym lacks.0) refl)
+lacks_follow tells options old new exit (inl lacks) = (
+  fault_line WantOfMemory,
+  lacks.1,
+  subst (λ (e : Exit). Follows tells options e (fault_line WantOfMemory))
+      (sym lacks.0) refl,
+)
 lacks_follow tells options old new exit (inr fails) = let written : List ℕ = take fails.1.0 (fault_line WantOfMemory) in (
   written,
   fails.1.2,

@@ -31,14 +31,20 @@ pub record Laws {D : Type 0} (g : Ghosts D) : Type 0 where
 
 -- what an opening leaves stands for the graph that the content stands for
 left_same : (content left : Files) (config : Config) (shape : Shape) (graph : Graph) (P : Graph → Type 0) → Stands content shape graph → P graph
-    → (IsUnmade content × Stands left (shape_of config) empty_graph) ⊎ ((¬ IsUnmade content) × (other : Shape) × (store : IsStore content other) × IsOldOrRaised other store.space left)
+    → (IsUnmade content × Stands left (shape_of config) empty_graph) ⊎ ((¬ IsUnmade content) × (other : Shape) × (store : IsStore content other) × IsOldOrRaised
+    other store.space left)
     → (other : Shape) × (found : Graph) × Stands left other found × P found
 left_same content left config shape graph P stands has (inl (unmade, new)) =
     (shape_of config, empty_graph, new, subst P (Stands-only content shape shape graph empty_graph stands (inl (unmade, refl))) has)
 left_same content left config shape graph P (inl unmade) has (inr (made, other, store, left_so)) = absurd (made unmade.0)
 left_same content left config shape graph P (inr is) has (inr (made, other, store, left_so)) =
-    let shapes : other ≡ shape = store-shape content shape graph is other store in
-    (shape, graph, inr (redone-made content left shape graph store.space is store.redoes (subst (λ (s : Shape). IsOldOrRaised s store.space left) shapes left_so)), has)
+    let shapes : other ≡ shape = store-shape content shape graph is other store in (
+      shape,
+      graph,
+      inr (redone-made content left shape graph store.space is store.redoes (subst (λ (s : Shape). IsOldOrRaised s store.space left)
+          shapes left_so)),
+      has,
+    )
 
 module _ {D : Type 0} (g : Ghosts D) (laws : Laws g) (start : Graph) where
   -- since this moment there is no image but those of now
@@ -92,7 +98,8 @@ module _ {D : Type 0} (g : Ghosts D) (laws : Laws g) (start : Graph) where
   pub keeps_always : (shape : Shape) (disk : D) → ((image : Files) → g.may_leave disk image → Stands image shape start)
       → (events : List (Event D)) (end : World D) → Happen g (start_of g disk) events end → IsKept g start events end
   keeps_always shape disk stands [] end same =
-      subst (λ (w : World D). IsKept g start [] w) (sym same) (settled [] disk (λ image left. (shape, start, stands image left, refl)) (λ image left. (shape, start, stands image left, refl)))
+      subst (λ (w : World D). IsKept g start [] w) (sym same) (settled [] disk (λ image left. (shape, start, stands image left, refl))
+      (λ image left. (shape, start, stands image left, refl)))
   keeps_always shape disk stands (event ∷ earlier) end happen =
       subst (λ (w : World D). IsKept g start (event ∷ earlier) w) (sym happen.3)
       (on earlier happen.0 (keeps_always shape disk stands earlier happen.0 happen.1) event happen.2)

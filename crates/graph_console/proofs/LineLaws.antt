@@ -36,7 +36,8 @@ module _ (ys : List ℕ) where
       { ended = (pieces_of xs).ended ++ (pieces_of ys).ended; rest = (pieces_of ys).rest }
   pieces_joined [] none = refl
   pieces_joined (b ∷ xs) none = elim (cases_eq b 10) [
-    | inl is ↦ subst Joins (sym is) (λ (no_rest : (pieces_of xs).rest ≡ []). ap (λ (ps : Pieces). record { ended = [] ∷ ps.ended; rest = ps.rest }) (pieces_joined xs no_rest)) none
+    | inl is ↦ subst Joins (sym is) (λ (no_rest : (pieces_of xs).rest ≡ []). ap (λ (ps : Pieces). record { ended = [] ∷ ps.ended; rest = ps.rest })
+        (pieces_joined xs no_rest)) none
     | inr is_not ↦
         let first : pieces_of (b ∷ xs) ≡ onto_first b (pieces_of xs).ended (pieces_of xs).rest = on_first b xs is_not in
         let no_rest : (onto_first b (pieces_of xs).ended (pieces_of xs).rest).rest ≡ [] = ap (λ (ps : Pieces). ps.rest) (sym first) ∙ none in

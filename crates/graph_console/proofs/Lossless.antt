@@ -125,7 +125,12 @@ module _ {D : Type 0} (disk : Ghosts D) where
 
       -- and was only read, as the line says
       failed-read : reply ≡ Faulted [] DiskFailed → new.console.health ≡ healths.Failed → OnlyReads disk old.disk new.disk → Ends
-      failed-read is failed reads = inr (inr (told-failed reply is), space, failed-records failed space (stays-read space old.disk new.disk has.read reads).read)
+      failed-read is failed reads = inr (
+        inr (told-failed reply is),
+        space,
+        failed-records failed space (stays-read space old.disk new.disk has.read
+            reads).read,
+      )
 
       -- or has the one or the other
       failed-either : reply ≡ Faulted [] DiskFailed → new.console.health ≡ healths.Failed → (a b : Key → Rec) → Redoes (disk.reads new.disk) a
@@ -139,7 +144,15 @@ module _ {D : Type 0} (disk : Ghosts D) where
         bound-records commands.Begin spelled (inr (is, closed, begins)) = inl (beneath-records begins.beneath begins.health)
         bound-records commands.Commit spelled (inl refused) = inl (same-records refused.2)
         bound-records commands.Commit spelled (inr (opened, leaves, idle, inl (is, commits))) =
-            inr (inl (own, subst Confirms (sym is) tt, inl spelled), old.console.working, record { read = commits.stored.read told; committed = λ live. commits.committed told })
+            inr (
+              inl (own, subst Confirms (sym is) tt, inl spelled),
+              old.console.working,
+              record {
+                read = commits.stored.read told;
+                committed = λ live.
+                    commits.committed told;
+              },
+            )
         bound-records commands.Commit spelled (inr (opened, leaves, idle, inr (fault, inl fails))) = failed-read fault.0 fails.health fails.disk
         bound-records commands.Commit spelled (inr (opened, leaves, idle, inr (fault, inr left))) =
             failed-either fault.0 left.health old.console.committed old.console.working (left.stored.read told)
@@ -309,7 +322,8 @@ module _ {D : Type 0} (disk : Ghosts D) where
         opened-left content (inr (inr (there, other, found, is))) =
             let same_shape : other ≡ shape = one_shape (disk.reads old) found.space shape other made found.redoes found.made in
             let same_space : found.space ≡ made.space = Redoes-unique (disk.reads old) found.space made.space found.redoes made.redoes in
-            inr (subst (λ (s : Shape). IsOldOrRaised s made.space content) same_shape (subst (λ (records : Key → Rec). IsOldOrRaised other records content) same_space is))
+            inr (subst (λ (s : Shape). IsOldOrRaised s made.space content) same_shape (subst (λ (records : Key → Rec). IsOldOrRaised other records content)
+            same_space is))
 
         abbrev WasOrIs : Files → Type 0
         WasOrIs content = disk.may_leave old content ⊎ IsOldOrRaised shape made.space content

@@ -41,13 +41,15 @@ leaves_from : {D : Type 0} (g : Ghosts D) (old opened new : D) (first : SharedSt
 leaves_from g old opened new first run last steps opening opens serving =
     let P : Files → Type 0 = λ content. g.may_leave old content ⊎ IsAdmittedInRun g.tells_reads first run last content in
     at_each_moment_on g old opened new P (λ content. g.may_leave opened content ⊎ IsAdmittedInRun g.tells_reads first run last content)
-    (at_each_moment_weaker g old opened (λ content. g.may_leave old content ⊎ IsAdmitted first.writer content) P opening (λ content h. ⊎_elim (λ o. inl o) (λ a. inr (admitted_first g.tells_reads first run last steps content a)) h))
+    (at_each_moment_weaker g old opened (λ content. g.may_leave old content ⊎ IsAdmitted first.writer content) P opening (λ content h. ⊎_elim (λ o. inl o)
+    (λ a. inr (admitted_first g.tells_reads first run last steps content a)) h))
     serving
     (λ content h. ⊎_elim (λ o. inr (admitted_first g.tells_reads first run last steps content (opens content o))) (λ a. inr a) h)
 
 -- what is served on terms is served on wider ones
 module _ {V : Type 0} {course : Course V} (terms wider : Terms course) (begins : (state : V) → terms.starts state → wider.starts state)
-    (closes : (first : V) (run : List Exchange) (last : V) → terms.starts first → RunBy course.step first run last → terms.ends first run last → wider.ends first run last)
+    (closes : (first : V) (run : List Exchange) (last : V) → terms.starts first → RunBy course.step first run last → terms.ends first run last → wider.ends
+    first run last)
     (refuses : (why : OpenFault) → terms.unopened why → wider.unopened why) where
   runs_wider : (P : List Exchange → V → Type 0) → RunTo terms P → RunTo wider P
   runs_wider P r = record {
@@ -91,7 +93,8 @@ serves_opened g options old session new leaves later holds state starts is_at ex
         durable = ends.durable;
         crash = λ told.
             leaves_from g old session.disk new first run last steps
-            (subst (λ (s : SharedState). AtEachMoment g old session.disk (λ content. g.may_leave old content ⊎ IsAdmitted s.writer content)) (sym is) (opens_admitted g old (config_for options) state starts session.disk leaves told (holds told.0)))
+            (subst (λ (s : SharedState). AtEachMoment g old session.disk (λ content. g.may_leave old content ⊎ IsAdmitted s.writer content)) (sym is)
+            (opens_admitted g old (config_for options) state starts session.disk leaves told (holds told.0)))
             (λ content left. subst (λ (s : SharedState). IsAdmitted s.writer content) (sym is) (is_at.images told content left))
             (ends.crash told);
         counts = counts_within (g.faults old) (g.faults session.disk) (g.faults new) (g.faults new) run later ends.counts (omega arith);

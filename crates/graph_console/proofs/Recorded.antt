@@ -114,7 +114,8 @@ module _ (old : State) (well : IsWell old) (line : InputLine) (own : IsOfWriter 
     change_goes : (reply : Reply) → kind_of command ≡ Change → IsAccepted old line → Confirms reply → MakesChange old command reply new
         → Goes old (replied reply) new
     change_goes reply is accepted told (inl (transaction, opened, graph, weight, changes, weighs, same)) =
-        quiet reply (other reply (apart commands.Commit (λ e. let clash : Change ≡ Bound = sym is ∙ e in cc)) (λ closed change. let clash : false ≡ true = sym closed ∙ ap is_some opened in cc)) same refl well
+        quiet reply (other reply (apart commands.Commit (λ e. let clash : Change ≡ Bound = sym is ∙ e in cc)) (λ closed change. let clash : false ≡ true = sym
+        closed ∙ ap is_some opened in cc)) same refl well
     change_goes reply is accepted told (inr (closed, graph, changes, same)) =
         let live = live_at accepted (λ e. let clash : Change ≡ Blanks = sym is ∙ e in cc) (λ e. let clash : Change ≡ Ending = sym is ∙ e in cc)
         (λ e. let clash : Change ≡ Upkeep = sym is ∙ e in cc) in
@@ -122,17 +123,20 @@ module _ (old : State) (well : IsWell old) (line : InputLine) (own : IsOfWriter 
 
     question_goes : (reply : Reply) → kind_of command ≡ Question → new ≡ old → Goes old (replied reply) new
     question_goes reply is same =
-        quiet reply (other reply (apart commands.Commit (λ e. let clash : Question ≡ Bound = sym is ∙ e in cc)) (λ closed change. let clash : AreChanges Question = subst AreChanges is change in absurd clash)) same refl well
+        quiet reply (other reply (apart commands.Commit (λ e. let clash : Question ≡ Bound = sym is ∙ e in cc)) (λ closed change. let clash : AreChanges
+        Question = subst AreChanges is change in absurd clash)) same refl well
 
   bound_goes : (command : Command) (reply : Reply) → SpellsLine line command → IsAccepted old line → Confirms reply → MovesBound old command reply new
       → Goes old (replied reply) new
   bound_goes commands.Begin reply spelled accepted told done =
-      quiet reply (other commands.Begin spelled reply (λ commit. let clash : commands.Commit ≡ commands.Begin = line_agrees line commands.Begin commands.Commit spelled commit in cc) (λ closed change. change)) done.1 refl well
+      quiet reply (other commands.Begin spelled reply (λ commit. let clash : commands.Commit ≡ commands.Begin = line_agrees line commands.Begin commands.Commit
+      spelled commit in cc) (λ closed change. change)) done.1 refl well
   bound_goes commands.Commit reply spelled accepted told done =
       let live = live_at commands.Commit spelled accepted (λ e. cc) (λ e. cc) (λ e. cc) in
       acknowledged reply (own, told, inl spelled) done.3 (subst (OpensWith done.1.graph) (sym live) tt)
   bound_goes commands.Rollback reply spelled accepted told done =
-      quiet reply (other commands.Rollback spelled reply (λ commit. let clash : commands.Commit ≡ commands.Rollback = line_agrees line commands.Rollback commands.Commit spelled commit in cc) (λ closed change. change)) done.1 refl well
+      quiet reply (other commands.Rollback spelled reply (λ commit. let clash : commands.Commit ≡ commands.Rollback = line_agrees line commands.Rollback
+      commands.Commit spelled commit in cc) (λ closed change. change)) done.1 refl well
   bound_goes command reply spelled accepted told never = absurd never
 
   -- `reopen` finds the committed graph, or the second that was left open

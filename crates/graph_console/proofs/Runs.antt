@@ -272,20 +272,21 @@ module _ {V : Type 0} (course : Course V) (blamed : AllBlame course) (first : V)
     serves_quit health ends_so is_quit text = (
       run_text run_after,
       text ∙ sym text_after,
-      closed (λ run last. (course.health last ≡ health) × AreUpToQuit (lines_of start.left) (run_lines run) × (NoQuit (run_lines run) → length start.left < 2 ^ 30) × (run_text run_after ≡ run_text run)) (
-        ends_so,
-        inr (record {
-          before = run_lines s.run;
-          quit = e.exchange.line;
-          later = lines_of (bytes_ahead new);
-          no_quit = s.no_quit;
-          is_quit = is_quit;
-          done_is = lines_after;
-          lines_are = all_lines;
-        }),
-        (λ none. absurd (no_quit_last (run_lines s.run) e.exchange.line (subst NoQuit lines_after none) is_quit)),
-        refl,
-      ),
+      closed (λ run last. (course.health last ≡ health) × AreUpToQuit (lines_of start.left) (run_lines run) × (NoQuit (run_lines run) → length start.left < 2 ^
+          30) × (run_text run_after ≡ run_text run)) (
+            ends_so,
+            inr (record {
+              before = run_lines s.run;
+              quit = e.exchange.line;
+              later = lines_of (bytes_ahead new);
+              no_quit = s.no_quit;
+              is_quit = is_quit;
+              done_is = lines_after;
+              lines_are = all_lines;
+            }),
+            (λ none. absurd (no_quit_last (run_lines s.run) e.exchange.line (subst NoQuit lines_after none) is_quit)),
+            refl,
+          ),
     )
 
     pub serves_short : ¬ IsQuit e.exchange.line → TakesFront old.taken new.taken (exchange_text e.exchange)
@@ -324,7 +325,8 @@ module _ {V : Type 0} (course : Course V) (first : V) (old_is_at is_at : List Ex
         ∙ s.lines in (
           run_text s.run,
           same ∙ s.text,
-          closed_here (λ run last. (course.health last ≡ health) × AreUpToQuit (lines_of start.left) (run_lines run) × (NoQuit (run_lines run) → length start.left < 2 ^ 30) × (run_text s.run ≡ run_text run))
+          closed_here (λ run last. (course.health last ≡ health) × AreUpToQuit (lines_of start.left) (run_lines run) × (NoQuit (run_lines run)
+              → length start.left < 2 ^ 30) × (run_text s.run ≡ run_text run))
               (ends_so, inl (subst NoQuit all s.no_quit, all), (λ none. short), refl),
         )
 

@@ -44,5 +44,6 @@ opens_empty g options config old new asked told unmade opens stored none =
     let begins = (subst (λ (c : Config). Opens g c old new.session) asked opens).begins true
     (λ _. record { shape = shape; graph = empty_graph; stands = inl (unmade, refl) }) in
     subst (λ (state : State). IsSharedAt g new (begins_with state))
-    (state_is begins.0 50 (options.count + 16) empty_graph begins.1.suits.0 begins.1.suits.1 (begins.1.same told shape empty_graph (inl (unmade, refl))) begins.1.closed begins.1.live)
+    (state_is begins.0 50 (options.count + 16) empty_graph begins.1.suits.0 begins.1.suits.1 (begins.1.same told shape empty_graph (inl (unmade, refl)))
+    begins.1.closed begins.1.live)
     (opens-shared g new begins.0 begins.2 stored begins.1.closed none)

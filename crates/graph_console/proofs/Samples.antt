@@ -158,9 +158,20 @@ module _ {D : Type 0} {disk : DiskGhosts D} {options : SampleOptions} where
   -- what was written so far is a prefix of what a sample ends with
   begins_ending : (asked later : List (List ℕ)) (now : SharedView D) (text : List ℕ) → last_lines ≡ asked ++ later → SampledTo disk options asked now text
       → (whole : List ℕ) × Ending disk.tells_reads options whole × (rest : List ℕ) × (whole ≡ text ++ rest)
-  begins_ending asked [] now text all s =
-      (text, inl (ends_sample now text (subst (λ (lines : List (List ℕ)). SampledTo disk options lines now text) (sym (all ∙ append-nil asked)) s)), [], sym (append-nil text))
-  begins_ending asked (line ∷ later) now text all s = (text ++ fault_line WantOfMemory, inr (lacks_next asked line later now text all s), fault_line WantOfMemory, refl)
+  begins_ending asked [] now text all s = (
+    text,
+    inl (ends_sample now text (subst (λ (lines : List (List ℕ)). SampledTo disk options lines now text) (sym (all ∙ append-nil asked)) s)),
+    [],
+    sym
+        (append-nil text),
+  )
+  begins_ending asked (line ∷ later) now text all s = (
+    text ++ fault_line WantOfMemory,
+    inr (lacks_next asked line later now text all s),
+    fault_line
+        WantOfMemory,
+    refl,
+  )
 
   -- the sample ends in this line
   pub ends_in_line : (asked : List (List ℕ)) (line : List ℕ) (later : List (List ℕ)) (old new : SharedView D) (text : List ℕ)
@@ -206,8 +217,13 @@ ends_first tells options old new exit (inl lacks) =
 ends_first tells options old new exit (inr fails) = let written : List ℕ = take fails.1.0 (fault_line WantOfMemory) in (
   written,
   fails.1.2,
-  subst (λ (e : Exit). Samples tells options e written) (sym fails.0)
-      (fault_line WantOfMemory, inr (lacks_first tells options), drop fails.1.0 (fault_line WantOfMemory), sym (take-append-drop fails.1.0 (fault_line WantOfMemory))),
+  subst (λ (e : Exit). Samples tells options e written) (sym fails.0) (
+    fault_line WantOfMemory,
+    inr (lacks_first tells options),
+    drop fails.1.0 (fault_line WantOfMemory),
+    sym (take-append-drop fails.1.0
+        (fault_line WantOfMemory)),
+  ),
 )
 
 -- There are five last lines.

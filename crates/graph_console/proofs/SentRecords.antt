@@ -190,7 +190,8 @@ module _ {D : Type 0} (g : DiskGhosts D) (told : g.tells_reads) (shape : Shape) 
   live-before live = standing-live before.writer.standing (sym was.is_at.writer.health ∙ live)
 
   -- it has sent them, where they have what is committed
-  has-sent : (later : List (List ℕ)) → IsSent shape later → (after.writer.standing ≡ Live → new.session.console.committed ≡ sender_records shape later (length later)) → HasSent g shape later new after
+  has-sent : (later : List (List ℕ)) → IsSent shape later → (after.writer.standing ≡ Live → new.session.console.committed ≡ sender_records shape later
+      (length later)) → HasSent g shape later new after
   has-sent later well committed = record {
     is_at = at-after;
     shape_is = at-after.writer.shape ∙ moves.shape ∙ shape-old;
@@ -201,7 +202,8 @@ module _ {D : Type 0} (g : DiskGhosts D) (told : g.tells_reads) (shape : Shape) 
   }
 
   -- a line that acknowledges no transaction
-  goes_on-none : ¬ Acknowledges old.session.console.is_open line reply → (SpellsLine line commands.Reopen → Confirms reply → new.session.console.committed ≡ sender_records shape sent (length sent))
+  goes_on-none : ¬ Acknowledges old.session.console.is_open line reply → (SpellsLine line commands.Reopen → Confirms reply → new.session.console.committed ≡
+      sender_records shape sent (length sent))
       → HasSent g shape sent new after
   goes_on-none none found = has-sent sent was.well (λ live. by live moves.leaves)
     where
@@ -233,7 +235,8 @@ module _ {D : Type 0} (g : DiskGhosts D) (told : g.tells_reads) (shape : Shape) 
       let well : IsIndexed new.session.console.committed shape = subst (IsIndexed new.session.console.committed)
       (at-after.writer.shape ∙ moves.shape ∙ shape-old) (at-after.writer.holds told live).committed in
       has-sent (sent ++ bytes ∷ [])
-      (sent_more bytes shape sent was.well small (shipment-back shape (length sent + 1) tap was.allowed small are) (number-back shape (length sent + 1) tap was.allowed small are)
+      (sent_more bytes shape sent was.well small (shipment-back shape (length sent + 1) tap was.allowed small are) (number-back shape (length sent + 1)
+      tap was.allowed small are)
       (subst (λ (space : Key → Rec). IsIndexed space shape) records well))
       (λ still. records ∙ ap (sender_records shape (sent ++ bytes ∷ [])) (sym (long bytes sent)))
 

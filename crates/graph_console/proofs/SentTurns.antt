@@ -118,7 +118,8 @@ module _ {D : Type 0} (g : DiskGhosts D) where
   -- the shipment of one more was made
   pub sent_more : (options : SampleOptions) (turns : ℕ) (sample next : SampleState) (sent : List (List ℕ)) (old new : SharedView D) (text : List ℕ)
       (tap : Pairs) → g.tells_reads → turns < 2 ^ 32
-      → ((sent later : List (List ℕ)) (line : InputLine) (old new : SharedView D) (before : SharedState) (reply : Reply) (tap : Pairs) → HasSent g (shape_of (sample_config options)) sent old before
+      → ((sent later : List (List ℕ)) (line : InputLine) (old new : SharedView D) (before : SharedState) (reply : Reply) (tap : Pairs) → HasSent g
+      (shape_of (sample_config options)) sent old before
       → (steps : Steps g line old before reply new tap) → Sends line old reply new tap (shape_of (sample_config options)) sent later
       → HasSent g (shape_of (sample_config options)) later new steps.settles.shared.after)
       → HasSentTurns g options turns sample sent old → AnswersTapped g (turn sample).line text old new tap → Adds text (turn sample).after next → tap ≢ []

@@ -74,7 +74,8 @@ module _ (old new : State) (failed : Bool) (live : old.standing ≡ Live) (close
   not_refused why step =
       none-first refusal_order old stats_line why
       (idle-accepted old stats_only (λ change. change) (unchanging-free commands.Stats (λ change. change) old.shape.limit (seen old) tt tt)
-      (reached old stats_only (inl (λ is. subst IsFailed live is)) (λ needs. elim needs [ inl e ↦ cc | inr (inl e) ↦ cc | inr (inr e) ↦ cc ]) (λ needs. elim needs [ inl e ↦ cc | inr e ↦ cc ])))
+      (reached old stats_only (inl (λ is. subst IsFailed live is)) (λ needs. elim needs [ inl e ↦ cc | inr (inl e) ↦ cc | inr (inr e) ↦ cc ])
+      (λ needs. elim needs [ inl e ↦ cc | inr e ↦ cc ])))
       step.0
 
   told : (reply : Reply) → IsDone old (record { line = stats_line; disk_failed = failed; reply = reply }) new

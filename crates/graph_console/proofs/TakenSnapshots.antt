@@ -74,7 +74,11 @@ module _ (old : SharedState) (x : Exchange) (new : SharedState) (reader : ℕ) (
   sees_as state is sees = subst (λ (s : SharedState). Sees s.readers reader graph) is sees
 
   writer_since : WriterStep old x new → Sees new.readers reader graph → HasSince
-  writer_since (inl refused) sees = inl (sees_as old refused.2 sees, λ moves. let clash : replies.Refused refusals.Writer ≡ replies.Done = sym refused.1 ∙ moves.2 in cc)
+  writer_since (inl refused) sees = inl (
+    sees_as old refused.2 sees,
+    λ moves. let clash : replies.Refused refusals.Writer ≡ replies.Done = sym refused.1
+        ∙ moves.2 in cc,
+  )
   writer_since (inr writes) sees = inl (
     ⊎_elim (λ ends. sees_outliving ends.0 old.readers.open_ones old.readers.ended new.readers ends.3 reader graph sees)
         (λ same. subst (λ (readers : Readers). Sees readers reader graph) same.1 sees) writes.1.1,
@@ -89,7 +93,12 @@ module _ (old : SharedState) (x : Exchange) (new : SharedState) (reader : ℕ) (
           | inl had ↦ inl (
             had,
             λ moves.
-                none.1.1.1.1.0 refusals.SnapshotOpen (spells, subst (IsOpenFor old.readers) (sym moves.0 ∙ own) (open_of old.readers.open_ones reader graph had), refl),
+                none.1.1.1.1.0 refusals.SnapshotOpen (
+                  spells,
+                  subst (IsOpenFor old.readers) (sym moves.0 ∙ own) (open_of old.readers.open_ones reader graph
+                      had),
+                  refl,
+                ),
           )
           | inr took ↦ inr ((own ∙ took.0, spells, done), sym took.1)
         ]
@@ -105,7 +114,11 @@ module _ (old : SharedState) (x : Exchange) (new : SharedState) (reader : ℕ) (
         by (replies.NodeMade id) is never = absurd never
         by (replies.EdgeMade id) is never = absurd never
         by (replies.Told lines last) is s = inl (sees_as old s.1 sees, λ moves. let clash : replies.Told lines last ≡ replies.Done = sym is ∙ moves.2 in cc)
-        by (replies.Faulted lines fault) is s = inl (sees_as old s.1 sees, λ moves. let clash : replies.Faulted lines fault ≡ replies.Done = sym is ∙ moves.2 in cc)
+        by (replies.Faulted lines fault) is s = inl (
+          sees_as old s.1 sees,
+          λ moves. let clash : replies.Faulted lines fault ≡ replies.Done = sym is ∙ moves.2 in
+              cc,
+        )
         by (replies.Refused why) is s = inl (sees_as old s.1 sees, λ moves. let clash : replies.Refused why ≡ replies.Done = sym is ∙ moves.2 in cc)
 
   shared_since : SharedStep old x new → Sees new.readers reader graph → HasSince
@@ -125,7 +138,18 @@ taken_in tells told first [] last same reader graph sees = inl (subst (λ (s : S
 taken_in tells told first (x ∷ later) last steps reader graph sees = elim (taken_in tells told steps.0 later last steps.2 reader graph sees) [
   | inl kept ↦ elim (shared_since first x steps.0 reader graph (steps.1.step told) kept.0) [
     | inl had ↦ inl (had.0, (had.1, kept.1))
-    | inr took ↦ inr (record { before = []; taking = x; later = later; run_is = refl; state = first; leads = refl; takes = took.0; graph_is = took.1; since = kept.1 })
+    | inr took ↦ inr (record {
+      before = [];
+      taking = x;
+      later = later;
+      run_is = refl;
+      state = first;
+      leads = refl;
+      takes = took.0;
+      graph_is = took.1;
+      since =
+          kept.1;
+    })
   ]
   | inr has ↦ inr (record {
     before = x ∷ has.before;

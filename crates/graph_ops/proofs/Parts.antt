@@ -57,7 +57,17 @@ one_part tells command Shown reply weight s t before names made light writes sho
         shown,
         record {
           store = one.store;
-          each = (reply, weight, graph_in t, [], 0, refl, omega arith, record { changes = one.changes; weighs = one.weighs; free = one.free }, (refl, refl, refl));
+          each = (
+            reply,
+            weight,
+            graph_in t,
+            [],
+            0,
+            refl,
+            omega arith,
+            record { changes = one.changes; weighs = one.weighs; free = one.free },
+            (refl, refl, refl),
+          );
         },
       );
   few = omega arith;
@@ -100,11 +110,13 @@ module _ (xs ys : List Command) (w v both : ℕ) (s t u : State) (is : both ≡ 
     store = next.store;
     each =
         subst (λ (n : ℕ). MakesEach s.shape.limit s.shape.threshold (graph_in s) (xs ++ ys) (rs ++ ts) n (graph_in u)) (sym is)
-        (each_then s.shape.limit s.shape.threshold (graph_in s) (graph_in t) (graph_in u) xs ys rs ts w v made.each (subst (λ (z : Shape). MakesEach z.limit z.threshold (graph_in t) ys ts v (graph_in u)) shape next.each));
+        (each_then s.shape.limit s.shape.threshold (graph_in s) (graph_in t) (graph_in u) xs ys rs ts w v made.each
+        (subst (λ (z : Shape). MakesEach z.limit z.threshold (graph_in t) ys ts v (graph_in u)) shape next.each));
   }
 
   pub part_then : {tells : Type 0} {Shown Next Then : List Reply → Type 0} (b m n : List (List ℕ)) → t.shape ≡ s.shape
-      → ((rs ts : List Reply) (total : ℕ) → Shown rs → MakesEach s.shape.limit s.shape.threshold (graph_in s) xs rs total (graph_in t) → Next ts → Then (rs ++ ts)) → MakesPart tells xs Shown w s t b m → MakesPart tells ys Next v t u m n
+      → ((rs ts : List Reply) (total : ℕ) → Shown rs → MakesEach s.shape.limit s.shape.threshold (graph_in s) xs rs total (graph_in t) → Next ts → Then
+      (rs ++ ts)) → MakesPart tells xs Shown w s t b m → MakesPart tells ys Next v t u m n
       → MakesPart tells (xs ++ ys) Then both s u b n
   part_then b m n shape joins made next = record {
     made = λ told store.
@@ -160,7 +172,8 @@ next_refused told s t xs ys zs all w before names part store shape is fault refu
     list_by s.shape.limit (graph_in t) (graph_in s) ys all
     (λ why refuses.
     subst (λ (cs : List Command). RefusesEach s.shape.limit (graph_in s) cs why) (sym is)
-    (refuses_then s.shape.limit s.shape.threshold (graph_in s) (graph_in t) xs (ys ++ zs) replies w why made.each (refuses_more s.shape.limit s.shape.threshold (graph_in t) ys zs why refuses)))
+    (refuses_then s.shape.limit s.shape.threshold (graph_in s) (graph_in t) xs (ys ++ zs) replies w why made.each (refuses_more s.shape.limit s.shape.threshold
+    (graph_in t) ys zs why refuses)))
     fault
     (subst (λ (z : Shape). IsListRefusal z.limit (graph_in t) ys fault) shape (refused made.store))
 
@@ -227,7 +240,8 @@ module _ {X : Type 0} (of : List X → List Command) (spread : IsSpread of) (xs 
   pub making_more : {tells on next_on : Type 0} {Shown Next Then : List Reply → Type 0} (w v both : ℕ) (s t u : State) (b m n : List (List ℕ))
       (faults now then : ℕ) → both ≡ w + v → both ≤ most_drafted → IsMaking tells on (of (take i xs)) Shown w s t b m faults now
       → MakesPart tells (of (item ∷ [])) Next v t u m n → ((rest : List (List ℕ)) × (n ≡ m ++ rest)) → u.shape ≡ t.shape → next_on → now ≤ then
-      → ((rs ts : List Reply) (total : ℕ) → Shown rs → MakesEach s.shape.limit s.shape.threshold (graph_in s) (of (take i xs)) rs total (graph_in t) → Next ts → Then (rs ++ ts)) → IsMaking tells next_on (of (take (i + 1) xs)) Then both s u b n faults then
+      → ((rs ts : List Reply) (total : ℕ) → Shown rs → MakesEach s.shape.limit s.shape.threshold (graph_in s) (of (take i xs)) rs total (graph_in t) → Next ts
+      → Then (rs ++ ts)) → IsMaking tells next_on (of (take (i + 1) xs)) Then both s u b n faults then
   making_more {tells} {on} {next_on} {Shown} {Next} {Then} w v both s t u b m n faults now then is few making part grown shape next later joins = record {
     part = subst (λ (cs : List Command). MakesPart tells cs Then both s u b n) (sym up_to)
         (part_then (of (take i xs)) (of (item ∷ [])) w v both s t u is few b m n making.shape joins making.part part);
@@ -324,8 +338,12 @@ module _ {tells : Type 0} (results shown start : List Item) (weight told : ℕ) 
       (λ replies. shown ≡ start ++ new_elements (commands.Node label pairs ∷ []) replies) weight s t b n → tells → IsStore s b
       → MakesMutation (mutations.AddV label pairs) results shown told s t n
   vertex_made label pairs none part tells_it store =
-      let made = part.made tells_it store in
-      (made.0, from_none shown start (new_elements (commands.Node label pairs ∷ []) made.0) none made.1, node_whole label pairs made.0 weight told s t n is made.2)
+      let made = part.made tells_it store in (
+        made.0,
+        from_none shown start (new_elements (commands.Node label pairs ∷ []) made.0) none made.1,
+        node_whole label pairs made.0 weight told s t n is
+            made.2,
+      )
 
   pub edges_made : (label : List ℕ) (to : ℕ) (pairs : List Pair) → start ≡ []
       → MakesPart tells (changes_of (mutations.AddE label to pairs) results)
@@ -333,8 +351,12 @@ module _ {tells : Type 0} (results shown start : List Item) (weight told : ℕ) 
       → MakesMutation (mutations.AddE label to pairs) results shown told s t n
   edges_made label to pairs none part tells_it store =
       let made = part.made tells_it store in
-      let list = changes_of (mutations.AddE label to pairs) results in
-      (made.0, from_none shown start (new_elements list made.0) none made.1, edges_whole list made.0 weight told s t n (edges_all label to pairs results) is made.2)
+      let list = changes_of (mutations.AddE label to pairs) results in (
+        made.0,
+        from_none shown start (new_elements list made.0) none made.1,
+        edges_whole list made.0 weight told s t n (edges_all label to pairs results)
+            is made.2,
+      )
 
   pub values_made : (pairs : List Pair) → MakesPart tells (changes_of (mutations.Property pairs) results) any_replies weight s t b n → tells → IsStore s b
       → MakesMutation (mutations.Property pairs) results results told s t n
@@ -345,5 +367,9 @@ module _ {tells : Type 0} (results shown start : List Item) (weight told : ℕ) 
   pub drops_made : shown ≡ [] → MakesPart tells (changes_of mutations.Drop results) any_replies weight s t b n → tells → IsStore s b
       → MakesMutation mutations.Drop results shown told s t n
   drops_made none part tells_it store =
-      let made = part.made tells_it store in
-      (made.0, none, elements_whole (changes_of mutations.Drop results) made.0 weight told s t n (deletions_all (targets_once [] (elements_of results))) is made.2)
+      let made = part.made tells_it store in (
+        made.0,
+        none,
+        elements_whole (changes_of mutations.Drop results) made.0 weight told s t n (deletions_all (targets_once [] (elements_of results)))
+            is made.2,
+      )

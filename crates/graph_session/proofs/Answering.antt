@@ -101,7 +101,14 @@ module _ {D : Type 0} {g : DiskGhosts D} {old new : SessionView D} where
         → (g.tells_reads → ConsoleStep before (exchange line true reply) after) → UsesDisk g line before reply old.disk new.disk
         → Settles g line old new before reply
     settles-fault reply after arrives rose step uses =
-        record { after = after; arrives = arrives; disk_failed = true; counted = λ e. rose; step = record { step = step; blames = λ blames. refl }; uses = uses }
+        record {
+          after = after;
+          arrives = arrives;
+          disk_failed = true;
+          counted = λ e. rose;
+          step = record { step = step; blames = λ blames. refl };
+          uses = uses;
+        }
 
     -- a refused line changes nothing
     pub settles-refused : IsAt g old before → Stays g old new → (why : Refusal) → (g.tells_reads → IsRefused before line why)
@@ -175,7 +182,8 @@ module _ {D K : Type 0} {g : DiskGhosts D} {sink : SinkGhosts K} {line : InputLi
   -- the reply of a settled line was given to the sink
   pub given-with : (reply : Reply) → Gives sink (marked_text (mark_in line) reply) old.output new.output turn → ¬ IsQuit line → Onward g old.session new.session
       → (HasNoDraft old.session → MayStepAs g (session_in line) line (shared_in old) reply (shared_in new)) → JudgesLine g line (shared_in old) reply
-      → ((known : Bool) (state : SharedState) → IsSharedAt (as_known known g) (shared_in old) state → SettlesLine (as_known known g) line (shared_in old) (shared_in new) state reply) → AnswersWith g sink line old new turn reply
+      → ((known : Bool) (state : SharedState) → IsSharedAt (as_known known g) (shared_in old) state → SettlesLine (as_known known g) line (shared_in old)
+      (shared_in new) state reply) → AnswersWith g sink line old new turn reply
   given-with reply gives runs onward may judges settles = (
     record {
       reply = reply;
@@ -194,7 +202,8 @@ module _ {D K : Type 0} {g : DiskGhosts D} {sink : SinkGhosts K} {line : InputLi
   pub answers-given : (reply : Reply) → Gives sink (marked_text (mark_in line) reply) old.output new.output turn → ¬ IsQuit line
       → Onward g old.session new.session
       → (HasNoDraft old.session → MayStepAs g (session_in line) line (shared_in old) reply (shared_in new)) → JudgesLine g line (shared_in old) reply
-      → ((known : Bool) (state : SharedState) → IsSharedAt (as_known known g) (shared_in old) state → SettlesLine (as_known known g) line (shared_in old) (shared_in new) state reply) → AnswersLine g sink line old new turn
+      → ((known : Bool) (state : SharedState) → IsSharedAt (as_known known g) (shared_in old) state → SettlesLine (as_known known g) line (shared_in old)
+      (shared_in new) state reply) → AnswersLine g sink line old new turn
   answers-given reply gives runs onward may judges settles = (given-with reply gives runs onward may judges settles).0
 
 -- a turn without a fault of the sink delivers nothing
@@ -225,7 +234,8 @@ module _ {D K : Type 0} {g : DiskGhosts D} (only : OnlyNow g) {sink : SinkGhosts
       → Gives sink (marked_text (mark_in line) reply) before after turn → ¬ IsQuit line
       → MayStepAs g (session_in line) line (record { session = session; held = held }) reply (record { session = session; held = held })
       → JudgesLine g line (record { session = session; held = held }) reply
-      → ((known : Bool) (state : SharedState) → IsSharedAt (as_known known g) (record { session = session; held = held }) state → SharedStep state (exchange line false reply) state)
+      → ((known : Bool) (state : SharedState) → IsSharedAt (as_known known g) (record { session = session; held = held }) state → SharedStep state
+      (exchange line false reply) state)
       → AnswersWith g sink line (record { session = session; held = held; output = before }) (record { session = session; held = held; output = after }) turn
       reply
   unchanged-with reply quiet gives runs may judges step =
@@ -236,6 +246,7 @@ module _ {D K : Type 0} {g : DiskGhosts D} (only : OnlyNow g) {sink : SinkGhosts
       → Gives sink (marked_text (mark_in line) reply) before after turn → ¬ IsQuit line
       → MayStepAs g (session_in line) line (record { session = session; held = held }) reply (record { session = session; held = held })
       → JudgesLine g line (record { session = session; held = held }) reply
-      → ((known : Bool) (state : SharedState) → IsSharedAt (as_known known g) (record { session = session; held = held }) state → SharedStep state (exchange line false reply) state)
+      → ((known : Bool) (state : SharedState) → IsSharedAt (as_known known g) (record { session = session; held = held }) state → SharedStep state
+      (exchange line false reply) state)
       → AnswersLine g sink line (record { session = session; held = held; output = before }) (record { session = session; held = held; output = after }) turn
   answers-unchanged reply quiet gives runs may judges step = (unchanged-with reply quiet gives runs may judges step).0

@@ -68,7 +68,8 @@ module _ {D : Type 0} (g : Ghosts D) (old : SessionView D) (reply : Reply) (new 
 module _ {D : Type 0} {g : Ghosts D} {old new : SessionView D} (command : Command) (base : Session D g) (now : D) where
   -- no change was drafted
   pub may-stopped : (why : Answer) → IsStopped command base now why → (¬ (why ≡ answers.DiskFailed) → Stays g old new)
-      → (why ≡ answers.DiskFailed → Rose (g.faults base.store.base.disk.now) (g.faults now) → Rose (g.faults old.disk) (g.faults new.disk) × HasFailedChange g old new)
+      → (why ≡ answers.DiskFailed → Rose (g.faults base.store.base.disk.now) (g.faults now) → Rose (g.faults old.disk) (g.faults new.disk) × HasFailedChange g
+      old new)
       → IsSeen old.console (state_of base.store) → base.names.names ≡ old.console.names → MayChange g old (reply_of why) new command
   may-stopped answers.Done stopped stays fault seen names = absurd stopped
   may-stopped (answers.NodeMade id) stopped stays fault seen names = absurd stopped

@@ -87,7 +87,8 @@ found-store : (content : Files) (shape other : Shape) (before : Key → Rec) (gr
 found-store content shape other before graph redoes found (inl unmade) = absurd (unmade-not_found content shape before unmade.0 redoes found)
 found-store content shape other before graph redoes found (inr made) =
     let same : made.space ≡ before = Redoes-unique content made.space before made.redoes redoes in
-    let shapes : other ≡ shape = same_one other shape (sym made.store.made.own ∙ ap (λ (records : Key → Rec). shape_of_record (records own_key)) same ∙ found.own) in
+    let shapes : other ≡ shape = same_one other shape (sym made.store.made.own ∙ ap (λ (records : Key → Rec). shape_of_record (records own_key)) same
+    ∙ found.own) in
     subst (λ (s : Shape). IsIndexedIn before s) shapes (subst (λ (records : Key → Rec). IsIndexedIn records other) same made.store)
 
 -- The store that is opened keeps all rules, where the content stands for a graph.
@@ -118,7 +119,12 @@ opened-starts content config shape space (inr (before, redoes, found, suits, is)
 left-made : (content : Files) (images : Files → Type 0) (config : Config) (shape : Shape) (store : IsStore content shape)
     → (left : Files) → images left ⊎ IsOldOrRaised shape store.space left → LeavesOldOrSame content images config left
 left-made content images config shape store left (inl old) = inl old
-left-made content images config shape store left (inr redoes) = inr (inr ((λ unmade. unmade-not_found content shape store.space unmade store.redoes store.made), shape, store, redoes))
+left-made content images config shape store left (inr redoes) = inr (inr (
+  (λ unmade. unmade-not_found content shape store.space unmade store.redoes store.made),
+  shape,
+  store,
+  redoes,
+))
 
 left-new : (content : Files) (images : Files → Type 0) (config : Config) → is_allowed (shape_of config) ≡ true → IsUnmade content
     → (left : Files) → images left ⊎ IsOldOrNew content (shape_of config) left → LeavesOldOrSame content images config left
@@ -151,7 +157,8 @@ module _ {D : Type 0} (g : Ghosts D) (config : Config) (old : D) where
       (leaves.blank told.0 told.1 unmade) (left-new (g.reads old) (g.may_leave old) config allowed unmade)
   opening-leaves new allowed leaves told (space, redoes, inr (shape, made)) =
       at_each_moment_weaker g old new (λ left. g.may_leave old left ⊎ IsOldOrRaised shape space left) (LeavesOldOrSame (g.reads old) (g.may_leave old) config)
-      (leaves.made told.0 told.1 space shape redoes made) (left-made (g.reads old) (g.may_leave old) config shape (record { space = space; redoes = redoes; made = made }))
+      (leaves.made told.0 told.1 space shape redoes made) (left-made (g.reads old) (g.may_leave old) config shape
+      (record { space = space; redoes = redoes; made = made }))
 
   -- and by calls that only read
   loading-leaves : (mid new : D) → CountsNow g → LeavesByOpening g config old mid → OnlyReads g mid new → LeavesByOpening g config old new
@@ -310,8 +317,10 @@ module _ {D : Type 0} {g : Ghosts D} (counts : CountsNow g) (config : Config) (o
       inr (
         shape,
         found,
-        inr (subst (λ (records : Key → Rec). Redoes (g.reads loaded.base.disk.now) records) is ((same-stored opened loaded reads (committed opened) opens.stored).read told)),
-        (λ images. at_each_moment_read g old opened.base.disk.now loaded.base.disk.now (λ left. g.may_leave old left ⊎ IsOldOrRaised shape found.space left) counts images (opens.leaves.made told images found.space shape found.redoes found.made) reads.disk),
+        inr (subst (λ (records : Key → Rec). Redoes (g.reads loaded.base.disk.now) records) is ((same-stored opened loaded reads (committed opened)
+            opens.stored).read told)),
+        (λ images. at_each_moment_read g old opened.base.disk.now loaded.base.disk.now (λ left. g.may_leave old left ⊎ IsOldOrRaised shape found.space left)
+            counts images (opens.leaves.made told images found.space shape found.redoes found.made) reads.disk),
       )
 
   names-refused : (T : Type 0) (fault : Fault) → IsRefusal (unloaded fault) → (AreLoadable (committed opened) → NotDamaged {T = T} (Err fault)) → g.tells_reads
@@ -319,7 +328,8 @@ module _ {D : Type 0} {g : Ghosts D} (counts : CountsNow g) (config : Config) (o
   names-refused T Memory refusal sound told opens_as = absurd refusal
   names-refused T Disk refusal sound told opens_as = absurd refusal
   names-refused T (Damaged damage) refusal sound told (inl new) =
-      absurd (sound (loadable (committed opened) opened.base.shape (new-store (g.reads old) config opened.base.shape (committed opened) new.0 opens.allowed new.1 new.2)))
+      absurd (sound (loadable (committed opened) opened.base.shape (new-store (g.reads old) config opened.base.shape (committed opened) new.0 opens.allowed
+      new.1 new.2)))
   names-refused T (Damaged damage) refusal sound told (inr (before, redoes, found, suits, is)) =
       refused-leaves (record { space = before; redoes = redoes; made = found }) is told
 
@@ -345,7 +355,8 @@ module _ {D : Type 0} {g : Ghosts D} (counts : CountsNow g) (config : Config) (o
         committed = same_committed ∙ committed-read opened.base loaded.base reads;
         working = same_working ∙ working-read opened.base loaded.base reads ∙ working-none opened.base opens.own;
         names = λ told. names (told_of known g told) ∙ ap names_of (drafted-none opened opens.draft ∙ working-none opened.base opens.own);
-        stored = on_disk-known known (subst (λ (d : D). IsOnDisk g d (λ left. Redoes left (committed opened))) (sym disk) (same-stored opened loaded reads (committed opened) opens.stored));
+        stored = on_disk-known known (subst (λ (d : D). IsOnDisk g d (λ left. Redoes left (committed opened))) (sym disk) (same-stored opened loaded reads
+            (committed opened) opens.stored));
       }),
     );
     recoverable = λ told. opens-recoverable (g.reads old) config opened.base.shape (committed opened) (opens.opened told);
@@ -368,7 +379,8 @@ module _ {D : Type 0} {g : Ghosts D} (counts : CountsNow g) (config : Config) (o
         refused = λ told. load-refuses T (g.reads old) config opened.base.shape (committed opened) fault opens.allowed (opens.opened told)
             (subst (λ (records : Key → Rec). IsLoadFault records fault) same (damaged told)) (right told);
         sound = λ told shape graph stands.
-            load-sound T shape config fault (right told (loadable (committed opened) opened.base.shape (opened-store (g.reads old) config opened.base.shape (committed opened) opens.allowed (opens.opened told) shape graph stands)));
+            load-sound T shape config fault (right told (loadable (committed opened) opened.base.shape (opened-store (g.reads old) config opened.base.shape
+            (committed opened) opens.allowed (opens.opened told) shape graph stands)));
         crash = loaded-leaves;
         careful = λ told. inr (opens-recoverable (g.reads old) config opened.base.shape (committed opened) (opens.opened told));
         differs = λ told space redoes other. absurd (unloaded-asked fault other);

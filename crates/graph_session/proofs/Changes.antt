@@ -120,7 +120,11 @@ module _ {D : Type 0} {g : Ghosts D} {old new : SessionView D} {state : State} (
             working = (grown told).store;
             working_graph = refl;
             names = (grown told).named;
-            brought = (had.brought.0 ++ keeps.brought.0, keeps.brought.1 ∙ ap (λ (names : List (List ℕ)). names ++ keeps.brought.0) had.brought.1 ∙ append_assoc state.committed.names had.brought.0 keeps.brought.0);
+            brought = (
+              had.brought.0 ++ keeps.brought.0,
+              keeps.brought.1 ∙ ap (λ (names : List (List ℕ)). names ++ keeps.brought.0) had.brought.1 ∙ append_assoc
+                  state.committed.names had.brought.0 keeps.brought.0,
+            );
           };
       known = λ told failed. absurd (not_failed at live failed);
       reads = reads-kept at new.disk keeps.beneath.disk;
@@ -152,7 +156,15 @@ module _ {D : Type 0} {g : Ghosts D} {old new : SessionView D} {state : State} (
         → Settles g (Whole line) old new state (Faulted [] DiskFailed)
     settles-change_fault {line = line} {command = command} only change stays rose =
         settles-fault {line = Whole line} {before = state} (Faulted [] DiskFailed) state (comes-stays at stays) rose
-        (λ told. (refl, change-reached at live only change, command, only.spelled, inl refl, leaves-change state state line command change (inl (transaction, is, refl))))
+        (λ told. (
+          refl,
+          change-reached at live only change,
+          command,
+          only.spelled,
+          inl refl,
+          leaves-change state state line command change
+              (inl (transaction, is, refl)),
+        ))
         (uses-reads state only (change-needs command change) (change-reached at live only change) stays.beneath.disk)
 
   module _ (closed : old.console.is_open ≡ false) where
@@ -162,7 +174,15 @@ module _ {D : Type 0} {g : Ghosts D} {old new : SessionView D} {state : State} (
         → Settles g (Whole line) old new state (Faulted [] DiskFailed)
     settles-alone_read_fault {line = line} {command = command} only change fails rose =
         settles-fault {line = Whole line} {before = state} (Faulted [] DiskFailed) (stopped state) (comes-fails at live fails) rose
-        (λ told. (refl, change-reached at live only change, command, only.spelled, inl refl, leaves-change state (stopped state) line command change (inr (is_closed at closed, inl refl))))
+        (λ told. (
+          refl,
+          change-reached at live only change,
+          command,
+          only.spelled,
+          inl refl,
+          leaves-change state (stopped state) line command change
+              (inr (is_closed at closed, inl refl)),
+        ))
         (uses-reads state only (change-needs command change) (change-reached at live only change) fails.disk)
 
     module _ (now : Key → Rec) where
@@ -208,8 +228,15 @@ module _ {D : Type 0} {g : Ghosts D} {old new : SessionView D} {state : State} (
           let after = changed state (graph_of now) in
           settles-done {line = Whole line} {before = state} reply after good
           (record { is_at = commits_alone-at grown commits; crash = alone-crash after from (alone-one at live now (λ told. (grown told).store)) })
-          (λ told. (accepted told, command, only.spelled, carries-change state after command reply change (inr (is_closed at closed, graph_of now, changes told, refl))))
-          (uses-writes state only (change-needs command change) (change-reached at live only change) (inl (is_closed at closed, command, change, only.spelled)) (good-changed reply good))
+          (λ told. (
+            accepted told,
+            command,
+            only.spelled,
+            carries-change state after command reply change
+                (inr (is_closed at closed, graph_of now, changes told, refl)),
+          ))
+          (uses-writes state only (change-needs command change) (change-reached at live only change) (inl (is_closed at closed, command, change, only.spelled))
+          (good-changed reply good))
 
       in_doubt-at : (g.tells_reads → IsGrown state now new.console.names) → IsAloneInDoubt g old new now → IsAt g new (in_doubt state (graph_of now))
       in_doubt-at grown left = record {
@@ -230,7 +257,8 @@ module _ {D : Type 0} {g : Ghosts D} {old new : SessionView D} {state : State} (
             (doubt-one at live now (λ told. (grown told).store) told) (left.stored.read told);
         images = λ told image leaves.
             held-admitted (in_doubt state (graph_of now)) image
-            (either-held (in_doubt state (graph_of now)) old.console.committed now image (first-one at live told.0 (graph_of now)) (doubt-one at live now (λ told. (grown told).store) told.0) (left.stored.images told image leaves));
+            (either-held (in_doubt state (graph_of now)) old.console.committed now image (first-one at live told.0 (graph_of now)) (doubt-one at live now
+            (λ told. (grown told).store) told.0) (left.stored.images told image leaves));
       }
 
       -- the disk failed as a change alone was committed
@@ -251,4 +279,5 @@ module _ {D : Type 0} {g : Ghosts D} {old new : SessionView D} {state : State} (
             inl refl,
             leaves-change state after line command change (inr (is_closed at closed, inr (accepted told, reply, graph_of now, changes told, refl))),
           ))
-          (uses-writes state only (change-needs command change) (change-reached at live only change) (inl (is_closed at closed, command, change, only.spelled)) (λ none. none))
+          (uses-writes state only (change-needs command change) (change-reached at live only change) (inl (is_closed at closed, command, change, only.spelled))
+          (λ none. none))

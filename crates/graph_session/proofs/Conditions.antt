@@ -113,7 +113,18 @@ module _ (state : State) {line : List ℕ} {command : Command} (only : SpellsOnl
 
   -- a failed console refuses a line that gets a reply
   pub failed-refused : IsFailed state.standing → ¬ IsMute command → command ≢ commands.Reopen → IsRefused state (Whole line) refusals.Failed
-  failed-refused failed loud other = inr (whole state line, inr (faultless, inl (failed, (λ h. loud (silent-mute only h)), (λ h. other (spells-same only commands.Reopen h)), refl)))
+  failed-refused failed loud other = inr (
+    whole state line,
+    inr (
+      faultless,
+      inl (
+        failed,
+        (λ h. loud (silent-mute only h)),
+        (λ h. other (spells-same only commands.Reopen h)),
+        refl,
+      ),
+    ),
+  )
 
   spells : (other : Command) → command ≡ other → SpellsLine (Whole line) other
   spells other e = (subst (λ (c : Command). SpellsOnly line c) e only).spelled
@@ -130,7 +141,20 @@ module _ (state : State) {line : List ℕ} {command : Command} (only : SpellsOnl
 
   -- none is open
   pub closed-refused : MayServe state command → NeedsOne command → ¬ NeedsNone command → ¬ IsOpen state → IsRefused state (Whole line) refusals.NoTransaction
-  closed-refused may needs other none = inr (whole state line, inr (faultless, inr (serves may, inr (none_open (λ h. absurd (other h)), inl (none, spelled needs, refl)))))
+  closed-refused may needs other none = inr (
+    whole state line,
+    inr (
+      faultless,
+      inr (
+        serves may,
+        inr (
+          none_open (λ h. absurd (other h)),
+          inl
+              (none, spelled needs, refl),
+        ),
+      ),
+    ),
+  )
     where
       spelled : NeedsOne command → SpellsLine (Whole line) commands.Commit ⊎ SpellsLine (Whole line) commands.Rollback
       spelled (inl e) = inl (spells commands.Commit e)

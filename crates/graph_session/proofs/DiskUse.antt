@@ -74,4 +74,9 @@ module _ (state : State) {line : List ℕ} {command : Command} (only : SpellsOnl
 
       -- it may have been written
       pub uses-writes : MayWrite state (Whole line) → ¬ TellsNoChange reply → UsesDisk g (Whole line) state reply old new
-      uses-writes may changed = record { no_write = λ none. absurd (none may); no_change = λ tells. absurd (changed tells); no_call = λ idle. absurd (needs-disk idle) }
+      uses-writes may changed = record {
+        no_write = λ none. absurd (none may);
+        no_change = λ tells. absurd (changed tells);
+        no_call = λ idle. absurd
+            (needs-disk idle);
+      }

@@ -90,7 +90,8 @@ module _ {D K : Type 0} {g : DiskGhosts D} {sink : SinkGhosts K} {line : List �
       let first = parsed.session_is ∙ writes in
       let none = apart-only parsed.only apart in
       given-with {line = Whole line} reply (given-marked parsed reply gives) (quit-only parsed.only (λ e. loud-not_mute command loud (inr e))) settles.onward
-      (λ free. may-write (shared_in old) (shared_in new) (session_of line) first none (may-served parsed.only served (settles.may free)) (keeps-end (shared_in old) (shared_in new) parsed.only keeps))
+      (λ free. may-write (shared_in old) (shared_in new) (session_of line) first none (may-served parsed.only served (settles.may free))
+      (keeps-end (shared_in old) (shared_in new) parsed.only keeps))
       (judges-parsed g (shared_in old) parsed reply judges)
       (λ known state at.
       let done = settles.settles known line state.writer parsed.only served at.writer in
@@ -114,7 +115,8 @@ module _ {D K : Type 0} (g : DiskGhosts D) (only_now : OnlyNow g) (sink : SinkGh
       (may-turn_away g (record { session = session; held = held }) (session_of line) first (Whole line) (Refused refusals.Failed) none
       (inr (inr (refl, failed, (λ silent. mute (silent-mute only silent)), λ spells. again (spells-same only commands.Reopen spells)))))
       (judges-failed g (record { session = session; held = held }) (Whole line) (Refused refusals.Failed) failed)
-      (λ known state at. step-refused (session_of line) first state (Whole line) none refusals.Failed (failed-refused state.writer only (is_failed at.writer failed) mute again))
+      (λ known state at. step-refused (session_of line) first state (Whole line) none refusals.Failed (failed-refused state.writer only
+      (is_failed at.writer failed) mute again))
 
   -- it has no snapshots
   pub answers-writer : IsOfSnapshots command → Gives sink (marked_text mark (Refused refusals.Writer)) before after turn
@@ -166,7 +168,8 @@ module _ {D K : Type 0} (g : DiskGhosts D) (only_now : OnlyNow g) (sink : SinkGh
         → AnswersLine g sink Long (record { session = session; held = held; output = before }) (record { session = session; held = held; output = after }) turn
     answers-long gives =
         answers-unchanged {g = g} only_now {line = Long} (Refused refusals.LongLine) refl gives (λ quit. quit)
-        (may-unanswered g (record { session = session; held = held }) 0 Long (Refused refusals.LongLine) long-apart (inl (refusals.LongLine, refl, inl (refl, refl))))
+        (may-unanswered g (record { session = session; held = held }) 0 Long (Refused refusals.LongLine) long-apart
+        (inl (refusals.LongLine, refl, inl (refl, refl))))
         (judges-none g (record { session = session; held = held }) Long (Refused refusals.LongLine) (λ asks. asks.1))
         (λ known state at. step-refused 0 refl state Long long-apart refusals.LongLine (long-refused state.writer))
       where
@@ -197,6 +200,7 @@ module _ {D K : Type 0} (g : DiskGhosts D) (only_now : OnlyNow g) (sink : SinkGh
               let first = leftmost (refused-other fault why is) in
               let apart = fault-apart line (spells-none line fault none memory) in
               unchanged-with {g = g} only_now {line = Whole line} (Refused why) refl given (spells-none line fault none memory commands.Quit tt)
-              (may-unanswered g (record { session = session; held = held }) (session_of line) (Whole line) (Refused why) apart (inl (why, refl, inr (line, refl, fault, first, is))))
+              (may-unanswered g (record { session = session; held = held }) (session_of line) (Whole line) (Refused why) apart
+              (inl (why, refl, inr (line, refl, fault, first, is))))
               (judges-none g (record { session = session; held = held }) (Whole line) (Refused why) (λ asks. none (refused-other fault why is) asks.0 asks.1))
               (λ known state at. step-fault (session_of line) state line apart fault why first is)

@@ -29,7 +29,8 @@ crash-either : {D : Type 0} (g : Ghosts D) (disk other now : D) (a b c d : Key �
     → AtEachMoment g disk now (λ left. Redoes left a ⊎ Redoes left b) → AtEachMoment g other now (λ left. Redoes left c ⊎ Redoes left d)
 crash-either {D = D} g disk other now a b c d same e f h =
     subst (λ (records : Key → Rec). AtEachMoment g other now (λ left. Redoes left c ⊎ Redoes left records)) f
-    (subst (λ (records : Key → Rec). AtEachMoment g other now (λ left. Redoes left records ⊎ Redoes left b)) e (subst (λ (was : D). AtEachMoment g was now (λ left. Redoes left a ⊎ Redoes left b)) same h))
+    (subst (λ (records : Key → Rec). AtEachMoment g other now (λ left. Redoes left records ⊎ Redoes left b)) e
+    (subst (λ (was : D). AtEachMoment g was now (λ left. Redoes left a ⊎ Redoes left b)) same h))
 
 -- what snapshots see over the same records, by the same old ones
 pub sights-as : {D : Type 0} (g : Ghosts D) (disk : D) (a b : Key → Rec) (held old new : Snapshots) → a ≡ b → held ≡ old → KeepsSights g a disk held new
@@ -61,7 +62,13 @@ module _ {D : Type 0} {g : Ghosts D} where
   module _ {old mid new : Session D g} (same : SameBeneath old.store.base mid.store.base) (kept : store.working mid.store ≡ store.drafted old.store) where
     closes-kept : Closes mid new → Closes old new
     closes-kept closes =
-        record { same = record { same_disk = closes.same.same_disk ∙ same.same_disk; shape = closes.same.shape ∙ same.shape }; in_transaction = closes.in_transaction; own = closes.own; draft = closes.draft }
+        record {
+          same = record { same_disk = closes.same.same_disk ∙ same.same_disk; shape = closes.same.shape ∙ same.shape };
+          in_transaction =
+              closes.in_transaction;
+          own = closes.own;
+          draft = closes.draft;
+        }
 
     commits-kept : mid.names.names ≡ old.names.names → mid.health ≡ old.health → CommitsRecords (store.working mid.store) mid new
         → CommitsRecords (store.drafted old.store) old new
@@ -129,5 +136,21 @@ module _ {D : Type 0} {g : Ghosts D} where
   pub records-failed : (old new : Session D g) → Closes old new → new.health ≡ healths.Failed → new.names.names ≡ old.names.names
       → Rose (g.faults old.store.base.disk.now) (g.faults new.store.base.disk.now)
       → HasFailedCommit old.store.base new.store.base → DropsRecords old new ⊎ DoubtsRecords (store.working old.store) old new
-  records-failed old new closes health names rose (inl dropped) = inl (record { closes = closes; health = health; names = names; live = dropped.live; disk = dropped.reads; rose = rose })
-  records-failed old new closes health names rose (inr doubt) = inr (record { closes = closes; health = health; names = names; failed = doubt.failed; stored = doubt.stored; rose = rose })
+  records-failed old new closes health names rose (inl dropped) = inl (record {
+    closes = closes;
+    health = health;
+    names = names;
+    live = dropped.live;
+    disk =
+        dropped.reads;
+    rose = rose;
+  })
+  records-failed old new closes health names rose (inr doubt) = inr (record {
+    closes = closes;
+    health = health;
+    names = names;
+    failed = doubt.failed;
+    stored =
+        doubt.stored;
+    rose = rose;
+  })

@@ -66,7 +66,8 @@ module _ (records : Records) (shape : Shape) (names : List (List ℕ)) (store : 
       (cases_lt number (name_count records)))
 
   pub stands-unknown : ¬ Contains names text → StandFor records (length names ∷ []) (text ∷ [])
-  stands-unknown unknown = stands-one records (length names) text (finds-past records (length names) text (names_enough records shape names store) (finds_unknown records shape names store text unknown))
+  stands-unknown unknown = stands-one records (length names) text (finds-past records (length names) text (names_enough records shape names store)
+      (finds_unknown records shape names store text unknown))
 
   -- the number that is taken for the text
   pub stands-number : AreDistinct names → (found : Option ℕ) (count : ℕ) → IfSome found (λ number. slice_get names number ≡ Some text)
@@ -140,7 +141,8 @@ pub rows-degree : (records : Records) (shape : Shape) → IsWellFormed records s
     → StandFor records numbers (types_of label) → (direction : Direction) (id : ℕ)
     → length (rows_at direction numbers id (rows_of records)) ≡ degree_at (graph_of records) id direction label
 rows-degree records shape store numbers label stand direction id =
-    sym (AllZip-long (IsRowOf records) (rows_at direction numbers id (rows_of records)) (edges_at (graph_of records) direction (types_of label) id) (rows_at_are records shape store numbers (types_of label) stand id direction))
+    sym (AllZip-long (IsRowOf records) (rows_at direction numbers id (rows_of records)) (edges_at (graph_of records) direction (types_of label) id)
+    (rows_at_are records shape store numbers (types_of label) stand id direction))
 
 -- what holds of a result's value
 pub ok-then : {T E : Type 0} {P Q : T → Type 0} (result : Result T E) → ((value : T) → P value → Q value) → IfOk result P → IfOk result Q

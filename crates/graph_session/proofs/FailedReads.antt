@@ -17,7 +17,14 @@ use Rattle.graph_session.proofs.Storage.{stopped}
 
 -- one that brought no names
 pub fails-drafted : {D : Type 0} {g : Ghosts D} {old new : SessionView D} → FailsRead g old new → FailsDrafted g old new
-fails-drafted {old = old} {new = new} fails = record { ends = fails.ends; health = fails.health; live = fails.live; brought = begin-all new.console.names old.console.names fails.names; disk = fails.disk }
+fails-drafted {old = old} {new = new} fails = record {
+  ends = fails.ends;
+  health = fails.health;
+  live = fails.live;
+  brought = begin-all new.console.names
+      old.console.names fails.names;
+  disk = fails.disk;
+}
 
 module _ {D : Type 0} {g : Ghosts D} {old : SessionView D} {state : State} (at : IsAt g old state) (live : old.console.health ≡ healths.Live) where
   -- what is admitted is the committed graph, which stays open
@@ -42,7 +49,8 @@ module _ {D : Type 0} {g : Ghosts D} {old new : SessionView D} {state : State} (
     closed = λ failed. refl;
     holds = λ told stands. cc;
     known = λ told failed graph admits.
-        known-one new.console.names state.committed graph admits (begin-more new.console.names old.console.names state.committed.names fails.brought (held at live told).brought);
+        known-one new.console.names state.committed graph admits (begin-more new.console.names old.console.names state.committed.names fails.brought
+        (held at live told).brought);
     reads = λ told. stopped-held at live (g.reads new.disk) (reads-kept at new.disk fails.disk told);
     images = λ told image left. stopped-admitted at live image (images-kept at new.disk fails.disk told image left);
   }

@@ -84,13 +84,15 @@ module _ {D : Type 0} {g : Ghosts D} where
       (change : IsChange command) (base : Session D g) (now : D) (has : (as_known known g).tells_reads → HasStore base)
       (sees : (as_known known g).tells_reads → Sees (state_of base.store) state) where
     pub settles-stopped : (why : Answer) → IsStopped command base now why → (¬ (why ≡ answers.DiskFailed) → Stays g old new)
-        → (why ≡ answers.DiskFailed → Rose (g.faults base.store.base.disk.now) (g.faults now) → Settles (as_known known g) (Whole line) old new state (Faulted [] DiskFailed)) → Settles (as_known known g) (Whole line) old new state (reply_of why)
+        → (why ≡ answers.DiskFailed → Rose (g.faults base.store.base.disk.now) (g.faults now) → Settles (as_known known g) (Whole line) old new state
+        (Faulted [] DiskFailed)) → Settles (as_known known g) (Whole line) old new state (reply_of why)
     settles-stopped answers.Done stopped stays fault = absurd stopped
     settles-stopped (answers.NodeMade id) stopped stays fault = absurd stopped
     settles-stopped (answers.EdgeMade id) stopped stays fault = absurd stopped
     settles-stopped (answers.Results results) stopped stays fault = absurd stopped
     settles-stopped (answers.Refused why) stopped stays fault =
-        settles-refused at (stays-known known (stays (λ e. cc))) why (λ told. refused state spelled (change-reached at live spelled change) why (sees-as (sees told) (λ shape graph. FirstReason line_reasons shape.limit graph command why) (stopped (told_of known g told) (has told))))
+        settles-refused at (stays-known known (stays (λ e. cc))) why (λ told. refused state spelled (change-reached at live spelled change) why
+        (sees-as (sees told) (λ shape graph. FirstReason line_reasons shape.limit graph command why) (stopped (told_of known g told) (has told))))
         (unmade-uses at live spelled change (stays-known known (stays (λ e. cc))))
     settles-stopped answers.NoMemory stopped stays fault = unmade-memory at live spelled change (stays-known known (stays (λ e. cc)))
     settles-stopped answers.DiskFailed stopped stays fault = fault refl stopped
@@ -148,7 +150,8 @@ module _ {D : Type 0} {g : Ghosts D} where
           (has-draft told).weighs
 
       weighs-only : (told : (as_known known g).tells_reads) (other : ℕ) → WeighsIn state command other → other ≡ (has-draft told).total
-      weighs-only told = sees-as (has-sees known old at live told) (λ shape graph. (other : ℕ) → LineWeighs shape.limit shape.threshold graph command other → other ≡ (has-draft told).total) (has-draft told).only
+      weighs-only told = sees-as (has-sees known old at live told) (λ shape graph. (other : ℕ) → LineWeighs shape.limit shape.threshold graph command other
+          → other ≡ (has-draft told).total) (has-draft told).only
 
       -- no reason refuses the change in the graph that the line sees
       is-free : (as_known known g).tells_reads → NoReason line_reasons state.shape.limit (seen state) command
@@ -180,15 +183,19 @@ module _ {D : Type 0} {g : Ghosts D} where
           })
           (λ told.
           accepted state spelled (change-reached at live spelled change) (is-free told)
-          (weight-light state command (has-draft told).total (weighs-only told) (let a = before-it in let same = whole told in let fits = kept.fits in omega (arith, a, same, fits))))
+          (weight-light state command (has-draft told).total (weighs-only told) (let a = before-it in let same = whole told in let fits = kept.fits in omega
+          (arith, a, same, fits))))
           (λ told.
           subst (λ (limit : ℕ). LineChanges limit transaction.graph command (reply_of made.answer) (graph_of (working new.store)))
           (ap (λ (shape : Shape). shape.limit) (sym at.shape))
-          (subst (λ (graph : Graph). LineChanges old.store.base.shape.limit graph command (reply_of made.answer) (graph_of (working new.store))) (same-graph told)
-          (subst (λ (records : Key → Rec). LineChanges old.store.base.shape.limit (graph_in (state_of old.store)) command (reply_of made.answer) (graph_of records)) (sym kept.working) (has-draft told).changes)))
+          (subst (λ (graph : Graph). LineChanges old.store.base.shape.limit graph command (reply_of made.answer) (graph_of (working new.store)))
+          (same-graph told)
+          (subst (λ (records : Key → Rec). LineChanges old.store.base.shape.limit (graph_in (state_of old.store)) command (reply_of made.answer)
+          (graph_of records)) (sym kept.working) (has-draft told).changes)))
           (λ told.
           subst (λ (weight : ℕ). LineWeighs state.shape.limit state.shape.threshold transaction.graph command weight) (whole told)
-          (subst (λ (graph : Graph). LineWeighs state.shape.limit state.shape.threshold graph command (has-draft told).total) (seen_open state transaction is) (weighs-it told)))
+          (subst (λ (graph : Graph). LineWeighs state.shape.limit state.shape.threshold graph command (has-draft told).total) (seen_open state transaction is)
+          (weighs-it told)))
         where
           -- a weight that fits is told whole
           whole : (told : (as_known known g).tells_reads) → (has-draft told).total ≡ made.weight
@@ -232,7 +239,8 @@ module _ {D : Type 0} {g : Ghosts D} where
             (settles-full known change spelled at made drafts.1 one.0 one.1 (stays-discarded count counts drops) more);
         may = λ none.
             subst (λ (a : Answer). MayAnswer g command (view old) (reply_of a) (view new)) (sym told_so)
-            (may-change g (view old) (reply_of (answers.Refused refusals.TransactionFull)) (view new) command change (inr (inl ((refusals.TransactionFull, refl), stays-discarded count counts drops))));
+            (may-change g (view old) (reply_of (answers.Refused refusals.TransactionFull)) (view new) command change
+            (inr (inl ((refusals.TransactionFull, refl), stays-discarded count counts drops))));
         onward = record { disk_later = later-on new.store.base.disk.now drops.beneath.disk };
       }
       settles-finish (Ok made) answer drafts (inr (inr told_so, drops)) = record {

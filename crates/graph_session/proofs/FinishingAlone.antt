@@ -174,7 +174,8 @@ module _ {D : Type 0} {g : Ghosts D} {begun mid : Session D g} (old new : Sessio
         (alone-draft told).weighs
 
     alone-only : (told : (as_known known g).tells_reads) (other : ℕ) → WeighsIn state command other → other ≡ (alone-draft told).total
-    alone-only told = sees-as (sees-begun known at told) (λ shape graph. (other : ℕ) → LineWeighs shape.limit shape.threshold graph command other → other ≡ (alone-draft told).total) (alone-draft told).only
+    alone-only told = sees-as (sees-begun known at told) (λ shape graph. (other : ℕ) → LineWeighs shape.limit shape.threshold graph command other → other ≡
+        (alone-draft told).total) (alone-draft told).only
 
     alone-free : (as_known known g).tells_reads → NoReason line_reasons state.shape.limit (seen state) command
     alone-free told = sees-as (sees-begun known at told) (λ shape graph. NoReason line_reasons shape.limit graph command) (alone-draft told).free
@@ -195,7 +196,8 @@ module _ {D : Type 0} {g : Ghosts D} {begun mid : Session D g} (old new : Sessio
     fits-alone : start_weight + made.weight ≤ most_weight → (as_known known g).tells_reads → IsAccepted state (Whole line)
     fits-alone fits told =
         accepted state spelled (change-reached at live spelled change) (alone-free told)
-        (weight-light state command (alone-draft told).total (alone-only told) (let a = alone-before in let whole = told-whole (alone-draft told).total made.weight (alone-draft told).told (omega (arith, fits)) in omega (arith, a, whole, fits)))
+        (weight-light state command (alone-draft told).total (alone-only told) (let a = alone-before in let whole = told-whole (alone-draft told).total
+        made.weight (alone-draft told).told (omega (arith, fits)) in omega (arith, a, whole, fits)))
 
   module _ (made : Drafted) (answer : Answer) (fits : start_weight + made.weight ≤ most_weight)
       (tries : TriesCommit (drafted mid.store) (merged mid.store.base.own.pairs mid.store.draft.pairs) mid new made.answer answer) where
@@ -204,7 +206,8 @@ module _ {D : Type 0} {g : Ghosts D} {begun mid : Session D g} (old new : Sessio
       mid = mid.store.base.disk.now;
       reads = reads-mid;
       crash = λ told.
-          subst (λ (records : Key → Rec). AtEachMoment g mid.store.base.disk.now new.store.base.disk.now (λ left. Redoes left records ⊎ Redoes left (drafted mid.store))) committed-mid
+          subst (λ (records : Key → Rec). AtEachMoment g mid.store.base.disk.now new.store.base.disk.now (λ left. Redoes left records ⊎ Redoes left
+          (drafted mid.store))) committed-mid
           (tries.crash told.0 told.1);
     }
 
@@ -257,7 +260,8 @@ module _ {D : Type 0} {g : Ghosts D} {begun mid : Session D g} (old new : Sessio
         left-committed : CommitsRecords (drafted mid.store) mid new → g.tells_reads → LeavesRecords command (drafted old.store) (drafted new.store)
         left-committed commits told =
             subst (λ (was : Key → Rec). LeavesRecords command was (drafted new.store)) (seen-begun none).records
-            (subst (LeavesRecords command (drafted begun.store)) (sym (drafted-none new.store commits.closes.draft ∙ working-none new.store.base commits.closes.own ∙ commits.committed told)) (left told))
+            (subst (LeavesRecords command (drafted begun.store)) (sym (drafted-none new.store commits.closes.draft ∙ working-none new.store.base
+            commits.closes.own ∙ commits.committed told)) (left told))
 
         by : EndsCommit (drafted mid.store) mid new made.answer answer → MayAnswer g command (view old) (reply_of answer) (view new)
         by (inl (is, commits)) =
@@ -287,7 +291,8 @@ module _ {D : Type 0} {g : Ghosts D} {begun mid : Session D g} (old new : Sessio
       alone-changes told =
           subst (λ (limit : ℕ). LineChanges limit state.committed command (reply_of made.answer) (graph_of (drafted mid.store)))
           (ap (λ (shape : Shape). shape.limit) (same.shape ∙ sym at.shape))
-          (subst (λ (graph : Graph). LineChanges begun.store.base.shape.limit graph command (reply_of made.answer) (graph_of (drafted mid.store))) (begun-graph known at told) (draft-told told).changes)
+          (subst (λ (graph : Graph). LineChanges begun.store.base.shape.limit graph command (reply_of made.answer) (graph_of (drafted mid.store)))
+          (begun-graph known at told) (draft-told told).changes)
 
       settles-tried : Settles (as_known known g) (Whole line) (view old) (view new) state (reply_of answer)
       settles-tried = by tries.ends
@@ -298,14 +303,16 @@ module _ {D : Type 0} {g : Ghosts D} {begun mid : Session D g} (old new : Sessio
           by : EndsCommit (drafted mid.store) mid new made.answer answer → Settles (as_known known g) (Whole line) (view old) (view new) state (reply_of answer)
           by (inl (is, commits)) =
               subst (λ (a : Answer). Settles (as_known known g) (Whole line) (view old) (view new) state (reply_of a)) (sym is)
-              (settles-alone at live closed (drafted mid.store) spelled change (reply_of made.answer) (made-good command (reply_of made.answer) tells) (from-known known from-mid) (commits_alone-known known (commits-mid commits))
+              (settles-alone at live closed (drafted mid.store) spelled change (reply_of made.answer) (made-good command (reply_of made.answer) tells)
+              (from-known known from-mid) (commits_alone-known known (commits-mid commits))
               (λ told. record { store = alone-store told; named = commits.names ∙ (draft-told told).store.names }) is_accepted alone-changes)
           by (inr (is, inl drops)) =
               subst (λ (a : Answer). Settles (as_known known g) (Whole line) (view old) (view new) state (reply_of a)) (sym is)
               (settles-alone_read_fault at live closed spelled change (fails_drafted-known known (drops-mid drops)) (rose-mid drops.rose))
           by (inr (is, inr doubts)) =
               subst (λ (a : Answer). Settles (as_known known g) (Whole line) (view old) (view new) state (reply_of a)) (sym is)
-              (settles-alone_fault at live closed (drafted mid.store) spelled change (reply_of made.answer) (from-known known from-mid) (alone_in_doubt-known known (doubts-mid doubts))
+              (settles-alone_fault at live closed (drafted mid.store) spelled change (reply_of made.answer) (from-known known from-mid)
+              (alone_in_doubt-known known (doubts-mid doubts))
               (λ told. record { store = alone-store told; named = doubts.names ∙ (draft-told told).store.names }) is_accepted alone-changes
               (rose-mid doubts.rose))
 
@@ -318,14 +325,16 @@ module _ {D : Type 0} {g : Ghosts D} {begun mid : Session D g} (old new : Sessio
       onward = record { disk_later = later-tried made answer fits tries };
     }
     settles-finish_alone (Ok made) answer drafts (inr (inl (is, more), drops)) =
-        let stays = stays-dropped count counts answer drops (λ failed. let clash : answers.Refused refusals.TransactionFull ≡ answers.DiskFailed = sym is ∙ failed in cc) in
+        let stays = stays-dropped count counts answer drops (λ failed. let clash : answers.Refused refusals.TransactionFull ≡ answers.DiskFailed = sym is
+        ∙ failed in cc) in
         record {
           settles = λ known line state spelled served at.
               subst (λ (a : Answer). Settles (as_known known g) (Whole line) (view old) (view new) state (reply_of a)) (sym is)
               (full-alone made known change drafts.1 spelled at stays more);
           may = λ none.
               subst (λ (a : Answer). MayAnswer g command (view old) (reply_of a) (view new)) (sym is)
-              (may-change g (view old) (reply_of (answers.Refused refusals.TransactionFull)) (view new) command change (inr (inl ((refusals.TransactionFull, refl), stays))));
+              (may-change g (view old) (reply_of (answers.Refused refusals.TransactionFull)) (view new) command change
+              (inr (inl ((refusals.TransactionFull, refl), stays))));
           onward = record { disk_later = later-dropped count counts answer drops };
         }
     settles-finish_alone (Ok made) answer drafts (inr (inr is, drops)) =

@@ -89,7 +89,8 @@ module _ (s : Records) (shape : Shape) (names : List (List ℕ)) (store : IsName
   all-rows : (m : ℕ) → m ≤ count → map line_of (rows m) ≡ map line (ids test (m * count))
   all-rows zero le = let none : 0 ≡ zero * count = omega arith in ap (λ (n : ℕ). map line (ids test n)) none
   all-rows (suc m) le =
-      ap (map line_of) (flat_map-append (λ l. collect (row l) count) (ids (λ l. true) m) (m ∷ []) ∙ ap (λ (more : List Index). rows m ++ more) (append-nil (collect (row m) count)))
+      ap (map line_of) (flat_map-append (λ l. collect (row l) count) (ids (λ l. true) m) (m ∷ []) ∙ ap (λ (more : List Index). rows m ++ more)
+      (append-nil (collect (row m) count)))
       ∙ map-append line_of (rows m) (collect (row m) count)
       ∙ ap (λ (lines : List (List ℕ)). lines ++ map line_of (collect (row m) count)) (all-rows m (omega (arith, le)))
       ∙ label-rows m count (omega (arith, le)) (omega arith)

@@ -40,7 +40,8 @@ module _ {R : Type 0} (space : SpaceGhosts R) (names : List (List ℕ)) (query :
   -- where the line ends
   pub line-ends : (now : R) (run : Run) → HopGoes space names query old now run → HopLine space names query old now
   line-ends now run goes id hop is shown tells store =
-      ⊎_elim (λ (here : (now ≡ old) × IsHop run id hop). subst (λ (r : R). ReadsAtMost (reads_for_hop (space.state old).records hop id) (space.state old) (space.state r)) (sym here.0) (reads_none (reads_for_hop (space.state old).records hop id) (space.state old)))
+      ⊎_elim (λ (here : (now ≡ old) × IsHop run id hop). subst (λ (r : R). ReadsAtMost (reads_for_hop (space.state old).records hop id) (space.state old)
+      (space.state r)) (sym here.0) (reads_none (reads_for_hop (space.state old).records hop id) (space.state old)))
       (λ (made : HopCost space names old now hop id × IsReady run). made.0 tells store) (goes id hop is shown)
 
   -- the next result was asked for

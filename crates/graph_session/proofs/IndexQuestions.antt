@@ -50,10 +50,12 @@ module _ {R K : Type 0} {space : SpaceGhosts R} {sink : SinkGhosts K} {names : L
         empty_graph,
         refusals.NoIndex,
         change_first 0 empty_graph command refusals.NoIndex
-            (unindexed-refused command idle 0 empty_graph refusals.NoIndex (elements empty_graph) (subst (λ (o : Option Index). lacks_index o empty_graph refusals.NoIndex) (sym is) (empty-unindexed index))),
+            (unindexed-refused command idle 0 empty_graph refusals.NoIndex (elements empty_graph)
+            (subst (λ (o : Option Index). lacks_index o empty_graph refusals.NoIndex) (sym is) (empty-unindexed index))),
       ) in
       asks-refused asks read refusals.NoIndex refusable (inr (subst (λ (o : Option Index). TellsUnindexed o refusals.NoIndex) (sym is) refl))
-      (λ told store limit. unindexed-refused command idle limit (graph_of (space.state a).records) refusals.NoIndex (elements (graph_of (space.state a).records)) (lacks told store)) gives
+      (λ told store limit. unindexed-refused command idle limit (graph_of (space.state a).records) refusals.NoIndex
+      (elements (graph_of (space.state a).records)) (lacks told store)) gives
 
   -- what it begins with is not known
   pub asks-unfound : (fault : LookupFault) → (fault ≡ faults.NoIndex → index_of command ≢ None) → (fault ≡ faults.Disk → Rose (space.faults a) (space.faults b))

@@ -94,7 +94,16 @@ gives-counts names read counts are gives = record {
   reply = Told [] (counts_text counts);
   form = (one_line (counts_text counts), (counts, refl), refl, refl);
   gives = gives;
-  means = λ told store. ((λ limit. idle_reasons), (one_line (counts_text counts), ap (λ (c : Counts). one_line (counts_text c)) (are store.store), refl, refl, refl));
+  means = λ told store. (
+    (λ limit. idle_reasons),
+    (
+      one_line (counts_text counts),
+      ap (λ (c : Counts). one_line (counts_text c)) (are store.store),
+      refl,
+      refl,
+      refl,
+    ),
+  );
   judges = λ told. record { verdict = λ is. cc; blames = tt };
   told = λ blames. absurd (blames refl);
   read = read;

@@ -118,7 +118,8 @@ module _ {D : Type 0} {g : Ghosts D} {command : Command} (change : IsChange comm
       held = keeps-kind g (shared_view old) (reply_of answer) (shared_view new) command change (inl (kept.snaps ∙ only.snaps, inl opened));
       weighed = λ none weighed open_now.
           subst (λ n. AreWeighed new.store.base.own.pairs n) (sym (kept.weight ∙ ap (λ n. n + made.weight) only.weight))
-          (subst (λ (written : Pairs). AreWeighed written (old.weight + made.weight)) (sym (kept.own ∙ ap (λ (written : Pairs). merged written mid.store.draft.pairs) (own-mid only)))
+          (subst (λ (written : Pairs). AreWeighed written (old.weight + made.weight))
+          (sym (kept.own ∙ ap (λ (written : Pairs). merged written mid.store.draft.pairs) (own-mid only)))
           (weighed-kept old.store.base.own.pairs mid.store.draft.pairs old.weight made.weight (state_of old.store) (state_of mid.store) (weighed opened)
           (λ key. ap (λ (pairs : Pairs). is_some (find_pair pairs key)) none) (λ key. refl) (drafts.2 (let fits = kept.fits in omega (arith, fits)))));
     }
@@ -147,13 +148,15 @@ module _ {D : Type 0} {g : Ghosts D} {command : Command} (change : IsChange comm
         subst (λ (weight : ℕ). LineWeighs begun.store.base.shape.limit begun.store.base.shape.threshold (graph_of (drafted begun.store)) command weight)
         (told-whole made_line.total made.weight made_line.told (omega (arith, light))) made_line.weighs in
         subst (λ (shape : Shape). LineWeighs shape.limit shape.threshold (graph_of (committed old.store)) command made.weight) same.shape
-        (subst (λ (records : Key → Rec). LineWeighs begun.store.base.shape.limit begun.store.base.shape.threshold (graph_of records) command made.weight) is weighs)
+        (subst (λ (records : Key → Rec). LineWeighs begun.store.base.shape.limit begun.store.base.shape.threshold (graph_of records) command made.weight)
+        is weighs)
 
     weighed-alone : (made : Drafted) → start_weight + made.weight ≤ most_weight → Drafts command begun mid (Ok made)
         → AreWeighed (merged mid.store.base.own.pairs mid.store.draft.pairs) (start_weight + made.weight)
     weighed-alone made light drafts =
         subst (λ (written : Pairs). AreWeighed (merged written mid.store.draft.pairs) (start_weight + made.weight)) (sym (own-mid only ∙ own))
-        (weighed-kept [] mid.store.draft.pairs start_weight made.weight (state_of begun.store) (state_of mid.store) weighed-start (λ key. ap (λ (pairs : Pairs). is_some (find_pair pairs key)) draft) (λ key. refl)
+        (weighed-kept [] mid.store.draft.pairs start_weight made.weight (state_of begun.store) (state_of mid.store) weighed-start
+        (λ key. ap (λ (pairs : Pairs). is_some (find_pair pairs key)) draft) (λ key. refl)
         (drafts.2 (omega (arith, light))))
 
     -- what it has written by itself

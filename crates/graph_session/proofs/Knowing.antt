@@ -43,40 +43,118 @@ module _ (known : Bool) {D : Type 0} {g : Ghosts D} where
   on_disk-known x = record { read = λ t. x.read (told_of known g t); images = λ t. x.images (told_of known g t) }
 
   pub beneath-known : {old new : SessionView D} → KeepsBeneath g old new → KeepsBeneath (as_known known g) old new
-  beneath-known x = record { shape = x.shape; is_live = x.is_live; committed = λ t. x.committed (told_of known g t); no_draft = x.no_draft; disk = reads-known x.disk }
+  beneath-known x = record {
+    shape = x.shape;
+    is_live = x.is_live;
+    committed = λ t. x.committed (told_of known g t);
+    no_draft = x.no_draft;
+    disk = reads-known
+        x.disk;
+  }
 
   pub stays-known : {old new : SessionView D} → Stays g old new → Stays (as_known known g) old new
-  stays-known x = record { beneath = beneath-known x.beneath; health = x.health; is_open = x.is_open; weight = x.weight; names = x.names; written = x.written; working = λ t. x.working (told_of known g t) }
+  stays-known x = record {
+    beneath = beneath-known x.beneath;
+    health = x.health;
+    is_open = x.is_open;
+    weight = x.weight;
+    names = x.names;
+    written = x.written;
+    working = λ t. x.working (told_of known g t);
+  }
 
   pub begins-known : {old new : SessionView D} → Begins g old new → Begins (as_known known g) old new
-  begins-known x = record { beneath = beneath-known x.beneath; same_disk = x.same_disk; health = x.health; is_open = x.is_open; weight = x.weight; names = x.names; written = x.written; working = λ t. x.working (told_of known g t) }
+  begins-known x = record {
+    beneath = beneath-known x.beneath;
+    same_disk = x.same_disk;
+    health = x.health;
+    is_open = x.is_open;
+    weight = x.weight;
+    names =
+        x.names;
+    written = x.written;
+    working = λ t. x.working (told_of known g t);
+  }
 
   pub drops-known : {old new : SessionView D} → Drops g old new → Drops (as_known known g) old new
-  drops-known x = record { beneath = beneath-known x.beneath; same_disk = x.same_disk; health = x.health; is_open = x.is_open; names = x.names; working = λ t. x.working (told_of known g t) }
+  drops-known x = record {
+    beneath = beneath-known x.beneath;
+    same_disk = x.same_disk;
+    health = x.health;
+    is_open = x.is_open;
+    names = x.names;
+    working = λ t.
+        x.working (told_of known g t);
+  }
 
   pub commits-known : {old new : SessionView D} → Commits g old new → Commits (as_known known g) old new
-  commits-known x = record { ends = x.ends; health = x.health; live = x.live; names = x.names; committed = λ t. x.committed (told_of known g t); working = λ t. x.working (told_of known g t); stored = stored-known x.stored }
+  commits-known x = record {
+    ends = x.ends;
+    health = x.health;
+    live = x.live;
+    names = x.names;
+    committed = λ t. x.committed (told_of known g t);
+    working = λ t.
+        x.working (told_of known g t);
+    stored = stored-known x.stored;
+  }
 
   pub left_open-known : {old new : SessionView D} → IsLeftOpen g old new → IsLeftOpen (as_known known g) old new
   left_open-known x = record { ends = x.ends; health = x.health; failed = x.failed; names = x.names; stored = stored-known x.stored }
 
   pub brought-known : {old new : SessionView D} → IsBrought g old new → IsBrought (as_known known g) old new
-  brought-known x = record { ends = x.ends; health = x.health; live = x.live; names = x.names; committed = λ t. x.committed (told_of known g t); working = λ t. x.working (told_of known g t); stored = stored-known x.stored }
+  brought-known x = record {
+    ends = x.ends;
+    health = x.health;
+    live = x.live;
+    names = x.names;
+    committed = λ t. x.committed (told_of known g t);
+    working = λ t.
+        x.working (told_of known g t);
+    stored = stored-known x.stored;
+  }
 
   pub stopped-known : {old new : SessionView D} → IsStopped g old new → IsStopped (as_known known g) old new
   stopped-known x = record { ends = x.ends; health = x.health; names = x.names; stored = stored-known x.stored }
 
   pub found-known : {old new : SessionView D} → IsFound g old new → IsFound (as_known known g) old new
-  found-known x = record { clean = λ t. λ closed. reads-known (x.clean (told_of known g t) closed); ends = x.ends; health = x.health; live = x.live; names = λ t. x.names (told_of known g t); committed = λ t. x.committed (told_of known g t); working = λ t. x.working (told_of known g t); read = λ t. x.read (told_of known g t); images = λ t. x.images (told_all known g t) }
+  found-known x = record {
+    clean = λ t. λ closed. reads-known (x.clean (told_of known g t) closed);
+    ends = x.ends;
+    health = x.health;
+    live = x.live;
+    names =
+        λ t. x.names (told_of known g t);
+    committed = λ t. x.committed (told_of known g t);
+    working = λ t. x.working (told_of known g t);
+    read = λ t. x.read
+        (told_of known g t);
+    images = λ t. x.images (told_all known g t);
+  }
 
   pub lost-known : {old new : SessionView D} → IsLost g old new → IsLost (as_known known g) old new
-  lost-known x = record { clean = λ t. λ closed. reads-known (x.clean (told_of known g t) closed); ends = x.ends; health = x.health; names = x.names; read = λ t. x.read (told_of known g t) }
+  lost-known x = record {
+    clean = λ t. λ closed. reads-known (x.clean (told_of known g t) closed);
+    ends = x.ends;
+    health = x.health;
+    names = x.names;
+    read =
+        λ t. x.read (told_of known g t);
+  }
 
   pub keeps-known : {old new : SessionView D} {weight : ℕ} → Keeps g old new weight → Keeps (as_known known g) old new weight
   keeps-known x = record { beneath = beneath-known x.beneath; health = x.health; is_open = x.is_open; weighs = x.weighs; brought = x.brought }
 
   pub commits_alone-known : {old new : SessionView D} {now : Key → Rec} → CommitsAlone g old new now → CommitsAlone (as_known known g) old new now
-  commits_alone-known x = record { ends = x.ends; health = x.health; live = x.live; committed = λ t. x.committed (told_of known g t); working = λ t. x.working (told_of known g t); stored = stored-known x.stored }
+  commits_alone-known x = record {
+    ends = x.ends;
+    health = x.health;
+    live = x.live;
+    committed = λ t. x.committed (told_of known g t);
+    working = λ t. x.working
+        (told_of known g t);
+    stored = stored-known x.stored;
+  }
 
   pub alone_in_doubt-known : {old new : SessionView D} {now : Key → Rec} → IsAloneInDoubt g old new now → IsAloneInDoubt (as_known known g) old new now
   alone_in_doubt-known x = record { ends = x.ends; health = x.health; failed = x.failed; brought = x.brought; stored = stored-known x.stored }

@@ -15,7 +15,11 @@ begin-all names first same = ([], same ∙ sym (append-nil first))
 
 -- and so do more names
 pub begin-more : (names old first : List (List ℕ)) → BeginWith names old → BeginWith old first → BeginWith names first
-begin-more names old first more begins = (begins.0 ++ more.0, more.1 ∙ ap (λ (known : List (List ℕ)). known ++ more.0) begins.1 ∙ append_assoc first begins.0 more.0)
+begin-more names old first more begins = (
+  begins.0 ++ more.0,
+  more.1 ∙ ap (λ (known : List (List ℕ)). known ++ more.0) begins.1 ∙ append_assoc first begins.0
+      more.0,
+)
 
 begin-of : (names : List (List ℕ)) (a graph : Graph) → a ≡ graph → BeginWith names a.names → BeginWith names graph.names
 begin-of names a graph is = subst (λ (found : Graph). BeginWith names found.names) is

@@ -198,7 +198,8 @@ module _ {D : Type 0} {g : Ghosts D} (command : Command) (old : Session D g) (no
       → IsStopped command old now answer
   change-stopped left names brought fault why blames rose answer is = subst (λ (a : Answer). IsStopped command old now a) (sym is) (by fault why blames rose)
     where
-      by : (fault : ChangeFault) → (g.tells_reads → HasStore old → IsRefusedBy line_reasons (store.state_of old.store).shape.limit (graph_in (store.state_of old.store)) command fault)
+      by : (fault : ChangeFault) → (g.tells_reads → HasStore old → IsRefusedBy line_reasons (store.state_of old.store).shape.limit
+          (graph_in (store.state_of old.store)) command fault)
           → (g.tells_reads → Blames command (store.state_of old.store) left old.names.names names fault)
           → (fault ≡ faults.Disk → Rose (g.faults old.store.base.disk.now) (g.faults now)) → IsStopped command old now (answer_for fault)
       by (faults.NoNode id) why blames rose = why
@@ -220,14 +221,16 @@ module _ {D : Type 0} {g : Ghosts D} {T : Type 0} (answer : T → Answer) (weigh
     (tells : (made : T) → TellsMade command (reply_of (answer made))) {old new : Session D g} (only : OnlyDrafts old new) where
   -- what it says, as a draft
   pub drafts-call : (outcome : Result T ChangeFault)
-      → (g.tells_reads → IfOk outcome (λ made. HasStore old → MakesChange command (reply_of (answer made)) (weight made) (store.state_of old.store) (store.state_of new.store) new.names.names))
+      → (g.tells_reads → IfOk outcome (λ made. HasStore old → MakesChange command (reply_of (answer made)) (weight made) (store.state_of old.store)
+      (store.state_of new.store) new.names.names))
       → IfOk outcome (λ made. weight made + start_weight ≤ most_weight)
       → IfOk outcome (λ made. WritesAtMost (weight made) (store.state_of old.store) (store.state_of new.store))
       → (g.tells_reads → HasStore old → IfErr outcome (IsRefusal (store.state_of old.store).shape.limit (graph_in (store.state_of old.store)) command))
       → (g.tells_reads → IfErr outcome (Blames command (store.state_of old.store) (store.state_of new.store) old.names.names new.names.names))
       → ((made : T) → outcome ≡ Ok made → g.tells_reads → LeavesRecords command (store.drafted old.store) (store.drafted new.store))
       → HasChangeCause (g.faults old.store.base.disk.now) (g.faults new.store.base.disk.now) outcome → Drafts command old new (drafted_by answer weight outcome)
-  drafts-call (Ok made) makes light writes refused blames left cause = change-drafts command (reply_of (answer made)) (tells made) (λ told has. makes told has) light writes
+  drafts-call (Ok made) makes light writes refused blames left cause = change-drafts command (reply_of (answer made)) (tells made) (λ told has. makes told has)
+      light writes
       (left made refl)
   drafts-call (Err fault) makes light writes refused blames left cause =
       let limit = (store.state_of old.store).shape.limit in

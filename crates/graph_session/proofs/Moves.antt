@@ -225,7 +225,8 @@ module _ {D : Type 0} {g : Ghosts D} where
 
   module _ (s t : Store D g) (same : SameStore s.base t.base) (was_closed : s.base.in_transaction ≡ false) (closed : t.base.in_transaction ≡ false)
       (draft : t.draft ≡ s.draft)
-      (later_on : g.faults s.base.disk.now ≤ g.faults t.base.disk.now) (crash : g.tells_reads → g.tells_images → AtEachMoment g s.base.disk.now t.base.disk.now (λ left. Redoes left (committed s)))
+      (later_on : g.faults s.base.disk.now ≤ g.faults t.base.disk.now) (crash : g.tells_reads → g.tells_images → AtEachMoment g s.base.disk.now t.base.disk.now
+      (λ left. Redoes left (committed s)))
       (health : Health) (live : health ≡ healths.Live) (weight : ℕ) (names : List (List ℕ)) where
     no_draft : s.draft.pairs ≡ [] → t.draft.pairs ≡ []
     no_draft none = ap (λ (held : Held). held.pairs) draft ∙ none

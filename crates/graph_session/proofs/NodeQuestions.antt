@@ -99,7 +99,8 @@ one-missing V fault node graph tells id is =
 pub end-missing : (V : Type 0) (fault : ExpandFault) (from to : ℕ) (graph : Graph)
     → TellsEnds {T = V} (Err fault) from to (has_node graph from) (has_node graph to) → (id : ℕ) → fault ≡ faults.NoNode id
     → LacksElement graph (Between from to) (refusals.NoNode id)
-end-missing V fault from to graph tells id is = by (subst (λ (f : ExpandFault). TellsEnds {T = V} (Err f) from to (has_node graph from) (has_node graph to)) is tells)
+end-missing V fault from to graph tells id is = by (subst (λ (f : ExpandFault). TellsEnds {T = V} (Err f) from to (has_node graph from) (has_node graph to))
+    is tells)
   where
     by : ((id ≡ from) × (has_node graph from ≡ false)) ⊎ ((id ≡ to) × (has_node graph from ≡ true) × (has_node graph to ≡ false))
         → LacksElement graph (Between from to) (refusals.NoNode id)

@@ -60,7 +60,8 @@ leaves-admitted content images config state live (inr made) left (inr (inr (was_
     inr (
       state.committed,
       admits-own state live,
-      inr (redone-made content left state.shape state.committed store.space made.0 store.redoes (subst (λ (s : Shape). IsOldOrRaised s store.space left) shapes left_so)),
+      inr (redone-made content left state.shape state.committed store.space made.0 store.redoes (subst (λ (s : Shape). IsOldOrRaised s store.space left)
+          shapes left_so)),
     )
 
 -- a content that a session begins with stands for its graph

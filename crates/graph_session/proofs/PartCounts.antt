@@ -20,7 +20,8 @@ use Rattle.graph_session.proofs.Held.{length-names}
 pub is_some-node : (records : Key → Rec) (x : ℕ) → is_some (node_of records x) ≡ is_live records nodes_file x
 is_some-node records x = by (nat_eq (kind_at records nodes_file x) 0)
   where
-    by : (free : Bool) → is_some (node_from (rec_at records names_file) (property_records records) (cond free None (Some (node_in (rec_at records nodes_file x) x)))) ≡ not free
+    by : (free : Bool) → is_some (node_from (rec_at records names_file) (property_records records)
+        (cond free None (Some (node_in (rec_at records nodes_file x) x)))) ≡ not free
     by true = refl
     by false = refl
 

@@ -150,7 +150,8 @@ pair-at count l k pair l_low k_low = by (nat_lt pair.label count && nat_lt pair.
         none false is = refl
         none true is =
             let are = parts is in
-            absurd (true≢false (sym ((λ i. lt_true pair.label count (subst (λ (n : ℕ). n < count) (sym are.0) l_low) i && nat_lt pair.key count) ∙ lt_true pair.key count (subst (λ (n : ℕ). n < count) (sym are.1) k_low)) ∙ both))
+            absurd (true≢false (sym ((λ i. lt_true pair.label count (subst (λ (n : ℕ). n < count) (sym are.0) l_low) i && nat_lt pair.key count)
+            ∙ lt_true pair.key count (subst (λ (n : ℕ). n < count) (sym are.1) k_low)) ∙ both))
 
 -- ---- the lines
 
@@ -195,5 +196,9 @@ module _ (names : List (List ℕ)) (count : ℕ) (pairs : List IndexPair) where
                 ∙ ap (λ (lines : List (List ℕ)). lines ++ last) some.1
                 ∙ sym (map-append (place_line names count) (ids (is_taken count pairs) n) (option_list (if_test (is_taken count pairs) n))),
           ))
-          (λ (high : suc n ≤ m). let same : m ≡ suc n = omega (arith, low, high) in ([], append-nil (lines_below names count pairs m) ∙ ap (lines_below names count pairs) same))
+          (λ (high : suc n ≤ m). let same : m ≡ suc n = omega (arith, low, high) in (
+            [],
+            append-nil (lines_below names count pairs m) ∙ ap
+                (lines_below names count pairs) same,
+          ))
           (cases_lt m (suc n))

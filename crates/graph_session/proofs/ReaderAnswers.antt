@@ -129,7 +129,8 @@ module _ {D K : Type 0} where
     module _ (old new : SharedView D) (served : ServesReader reader old command) (reply : Reply) (gives : Gives sink (marked_text mark reply) before after turn)
       where
         uncalled : new.session ≡ old.session → ¬ IsQuestion command → MayStepReader g reader old reply new (Whole line)
-            → ((known : Bool) (state : SharedState) → IsSharedAt (as_known known g) old state → SettlesShared (ReaderStep reader) (as_known known g) (Whole line) old new state reply)
+            → ((known : Bool) (state : SharedState) → IsSharedAt (as_known known g) old state → SettlesShared (ReaderStep reader) (as_known known g)
+            (Whole line) old new state reply)
             → AnswersLine g sink (Whole line) (terminal old before) (terminal new after) turn
         uncalled same unasked may settles =
             answers-reader seven parsed loud {old = terminal old before} {new = terminal new after} reply gives
@@ -146,7 +147,8 @@ module _ {D K : Type 0} where
             → AnswersLine g sink (Whole line) (terminal old before) (terminal new after) turn
         answers-snapshot is may =
             uncalled (snapped-same may) (λ asks. subst IsQuestion is asks) (inr (inr (command, parsed.only.spelled, inr (served, inl (is, may)))))
-            (λ known state at. settles-snapshot (as_known known g) only_now reader parsed.only at seven served is (suits-snapshot (state_of old.held reader) command served.1 is) reply new may)
+            (λ known state at. settles-snapshot (as_known known g) only_now reader parsed.only at seven served is (suits-snapshot (state_of old.held reader)
+            command served.1 is) reply new may)
 
         -- one is released
         pub answers-release : command ≡ commands.Release → MayRelease g reader old reply new → SameSights old.held.open_ones new.held.open_ones
@@ -166,5 +168,7 @@ module _ {D K : Type 0} where
         answers-reader seven parsed loud {old = terminal old before} {new = terminal new after} given.reply given.gives reads
         (record { disk_later = given.later })
         (λ none. inr (inr (command, parsed.only.spelled, inr (served, inr (inr (asks, (given.form, given.told, same, stays none, idle)))))))
-        (λ told live _ records seen. subst (λ (found : Records). Judges found old.session.console.shape command given.reply) (sym (seen-through old reader seven records seen).1) (given.judges told))
-        (λ known state at. settles-asks known reader parsed.only asks at served opened (stays at.writer.no_draft) same given.reply given.form given.told given.means)
+        (λ told live _ records seen. subst (λ (found : Records). Judges found old.session.console.shape command given.reply)
+        (sym (seen-through old reader seven records seen).1) (given.judges told))
+        (λ known state at. settles-asks known reader parsed.only asks at served opened (stays at.writer.no_draft) same given.reply given.form given.told
+        given.means)

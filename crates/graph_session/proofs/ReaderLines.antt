@@ -118,10 +118,12 @@ module _ {D : Type 0} (g : Ghosts D) (only_now : OnlyNow g) (reader : ℕ) {line
       → SettlesShared (ReaderStep reader) g (Whole line) old new state reply
   settles-snapshot seven served is other reply new (inl (done, held, same)) =
       subst (λ (r : Reply). SettlesShared (ReaderStep reader) g (Whole line) old new state r) (sym done)
-      (subst (λ (view : SharedView D). SettlesShared (ReaderStep reader) g (Whole line) old view state Done) (sym (view-is new (taken reader old.held) held same)) (settles-taken seven served is other))
+      (subst (λ (view : SharedView D). SettlesShared (ReaderStep reader) g (Whole line) old view state Done)
+      (sym (view-is new (taken reader old.held) held same)) (settles-taken seven served is other))
   settles-snapshot seven served is other reply new (inr (lacks, same)) =
       subst (λ (r : Reply). SettlesShared (ReaderStep reader) g (Whole line) old new state r) (sym lacks)
-      (subst (λ (view : SharedView D). SettlesShared (ReaderStep reader) g (Whole line) old view state (Faulted [] NoMemory)) (sym same) (settles-lacks (snapshot-spared is)))
+      (subst (λ (view : SharedView D). SettlesShared (ReaderStep reader) g (Whole line) old view state (Faulted [] NoMemory)) (sym same)
+      (settles-lacks (snapshot-spared is)))
 
   -- and of `release`
   pub settles-release : IsReader reader → ServesReader reader old command → command ≡ commands.Release → (reply : Reply) (new : SharedView D)
@@ -166,7 +168,8 @@ module _ {D : Type 0} {g : Ghosts D} (known : Bool) (reader : ℕ) {line : List 
     weighed = weighed-on;
     snapshots =
         subst (λ (held : Snapshots). HoldsSnapshots (as_known known g) held new.session.disk state) (sym same)
-        (holds-still (as_known known g) old.held old.session.disk state at.snapshots new.session.disk state.writer (λ told. refl) (λ told graph admits. (graph, admits, begin-all graph.names graph.names refl))
+        (holds-still (as_known known g) old.held old.session.disk state at.snapshots new.session.disk state.writer (λ told. refl)
+        (λ told graph admits. (graph, admits, begin-all graph.names graph.names refl))
         (λ told. (quiet-stays (as_known known g) old.session new.session told (stays-known known stays) (at.stored told)).same));
   }
 

@@ -50,7 +50,12 @@ module _ (state : State) {line : List ℕ} {command : Command} (only : SpellsOnl
       carries-told state command asks lines last means.1,
     )
     asked-step failed (Faulted lines PastCount) form blames means = (reach, command, only.spelled, means, refl)
-    asked-step failed (Faulted lines NoMemory) form blames means = ((λ spared. form.0 (spared-only only spared)), refl, inr (command, only.spelled, reach, means))
+    asked-step failed (Faulted lines NoMemory) form blames means = (
+      (λ spared. form.0 (spared-only only spared)),
+      refl,
+      inr
+          (command, only.spelled, reach, means),
+    )
     asked-step failed (Faulted lines DiskFailed) form blames means =
         (blames (λ e. absurd (omega (arith, e))), reach, command, only.spelled, means, leaves-same state line command asks)
     asked-step failed (Faulted lines (DamagedRecord file id)) form blames means = absurd means
@@ -87,7 +92,8 @@ module _ {D : Type 0} {g : Ghosts D} {view : SharedView D} {state : SharedState}
   own-snapshot =
       find-snapshot IsSeen state.readers.open_ones reader
       (ap (list_any (nat_eq reader)) (sym at.snapshots.readers) ∙ sym (open-any reader view.held.open_ones) ∙ opened)
-      (all_both (ShowsGraph view.held.open_ones state.writer.shape view.session.console.committed) (λ (snapshot : Snapshot). BeginWith state.writer.committed.names snapshot.graph.names) IsSeen state.readers.open_ones
+      (all_both (ShowsGraph view.held.open_ones state.writer.shape view.session.console.committed) (λ (snapshot : Snapshot).
+      BeginWith state.writer.committed.names snapshot.graph.names) IsSeen state.readers.open_ones
       (λ snapshot shows begins. (shows, begins)) (at.snapshots.shows told view.session.console.committed (at.stored told live))
       (at.snapshots.names told state.writer.committed (admits-own state.writer (is_live at.writer live))))
 
@@ -107,7 +113,12 @@ module _ {D : Type 0} {g : Ghosts D} {view : SharedView D} {state : SharedState}
       let begins = begin-on view.session.console.names state.writer.committed.names own-snapshot.snapshot.graph.names had.brought own-snapshot.says.1 in
       let store = subst (λ (shape : Shape). IsIndexed own_records shape) at.writer.shape
       (subst (λ (records : Key → Rec). IsIndexed records state.writer.shape) seen-as own-snapshot.says.0.store) in
-      record { store = store.store; indexes = store.indexes; more = begins.0; named = begins.1 ∙ ap (λ (graph : Graph). graph.names ++ begins.0) (sym own-graph) }
+      record {
+        store = store.store;
+        indexes = store.indexes;
+        more = begins.0;
+        named = begins.1 ∙ ap (λ (graph : Graph). graph.names ++ begins.0) (sym own-graph);
+      }
 
   -- what a reply means in the graph of the records it means in the snapshot's
   pub means-own : (command : Command) (reply : Reply) → Means (graph_of own_records) command reply → Means own-snapshot.snapshot.graph command reply

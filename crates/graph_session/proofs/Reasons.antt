@@ -97,8 +97,37 @@ unchanging-free (commands.Unset target key) idle limit graph has there = absurd 
 unchanging-free (commands.Delete target) idle limit graph has there = absurd (idle tt)
 unchanging-free (commands.Index label key) idle limit graph has there = absurd (idle tt)
 unchanging-free command idle limit graph has there =
-    let asked : Asked = asked_of command in
-    (λ _ h. h, (has_source graph asked has, (has_target graph asked has, (λ _ h. h, (has_only graph asked has, (has_only_edge graph asked has, (λ _ h. h, (λ _ h. h, (λ _ h. h, (has_index_asked graph (index_of command) there, (λ _ h. h, (λ _ h. h, (λ _ h. h, (λ _ h. h, (λ _ h. h, (λ _ h. h, tt))))))))))))))))
+    let asked : Asked = asked_of command in (
+      λ _ h. h,
+      (
+        has_source graph asked has,
+        (
+          has_target graph asked has,
+          (
+            λ _ h. h,
+            (
+              has_only graph asked has,
+              (
+                has_only_edge graph asked has,
+                (
+                  λ _ h. h,
+                  (
+                    λ _ h. h,
+                    (
+                      λ _ h. h,
+                      (
+                        has_index_asked graph (index_of command) there,
+                        (λ _ h. h, (λ _ h. h, (λ _ h. h, (λ _ h. h, (λ _ h. h, (λ _ h. h, tt)))))),
+                      ),
+                    ),
+                  ),
+                ),
+              ),
+            ),
+          ),
+        ),
+      ),
+    )
 
 -- it is no mutating query, of whose changes one could be refused
 pub unchanging-unrefused : (command : Command) → ¬ IsChange command → (limit : ℕ) (graph : Graph) (why : Refusal) → ¬ first_refused limit graph command why
@@ -136,7 +165,23 @@ unindexed-refused (commands.Delete target) idle limit graph why has lacks = absu
 unindexed-refused (commands.Index label key) idle limit graph why has lacks = absurd (idle tt)
 unindexed-refused command idle limit graph why has lacks =
     let asked : Asked = asked_of command in
-    inr (λ _ h. h, inr (has_source graph asked has, inr (has_target graph asked has, inr (λ _ h. h, inr (has_only graph asked has, inr (has_only_edge graph asked has, inr (λ _ h. h, inr (λ _ h. h, inr (λ _ h. h, inl lacks)))))))))
+    inr (
+      λ _ h. h,
+      inr (
+        has_source graph asked has,
+        inr (
+          has_target graph asked has,
+          inr (
+            λ _ h. h,
+            inr (
+              has_only graph asked has,
+              inr
+                  (has_only_edge graph asked has, inr (λ _ h. h, inr (λ _ h. h, inr (λ _ h. h, inl lacks)))),
+            ),
+          ),
+        ),
+      ),
+    )
 
 -- the empty graph lacks each element
 pub empty-lacks : (asked : Asked) → AsksSome asked → (why : Refusal) × LacksElement empty_graph asked why

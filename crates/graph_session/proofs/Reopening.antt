@@ -58,7 +58,8 @@ module _ {D : Type 0} {g : Ghosts D} where
   module _ (counts : CountsNow g) (s t : Store D g) (same : SameStore s.base t.base) (was_closed : s.base.in_transaction ≡ false)
       (closed : t.base.in_transaction ≡ false) (draft : t.draft.pairs ≡ [])
       (later_on : g.faults s.base.disk.now ≤ g.faults t.base.disk.now)
-      (crash : g.tells_reads → g.tells_images → (space : Key → Rec) → Redoes (content s) space → AtEachMoment g s.base.disk.now t.base.disk.now (λ left. g.may_leave s.base.disk.now left ⊎ Redoes left space))
+      (crash : g.tells_reads → g.tells_images → (space : Key → Rec) → Redoes (content s) space → AtEachMoment g s.base.disk.now t.base.disk.now
+      (λ left. g.may_leave s.base.disk.now left ⊎ Redoes left space))
       (read : g.tells_reads → (space : Key → Rec) → Redoes (content s) space → Redoes (content t) space) (clean : ReadsClean g s.base.disk.now t.base.disk.now)
       (health : Health) (weight : ℕ) (names : List (List ℕ)) where
     leaves : LeavesSame g s.base.disk.now t.base.disk.now
@@ -73,10 +74,17 @@ module _ {D : Type 0} {g : Ghosts D} where
     -- the disk failed in the recovery
     pub lost_disk : Rose (g.faults s.base.disk.now) (g.faults t.base.disk.now)
         → SettlesCommand g commands.Reopen (seen_as s health weight names) (seen_as t healths.Failed weight names) (Faulted [] DiskFailed)
-    lost_disk rose = record { settles = λ known line state only served at. settles-reopen_fault {g = as_known known g} counts at was_closed only (leaves_known known) (lost-known known lost-at_once) rose; may = λ none. inr (was_closed, leaves, inr (inl ((refl, rose), lost-at_once))); onward = record { disk_later = later_on } }
+    lost_disk rose = record {
+      settles = λ known line state only served at. settles-reopen_fault {g = as_known known g} counts at was_closed only
+          (leaves_known known) (lost-known known lost-at_once) rose;
+      may = λ none. inr (was_closed, leaves, inr (inl ((refl, rose), lost-at_once)));
+      onward =
+          record { disk_later = later_on };
+    }
 
     -- what is read was told to be no store of the newest version
-    pub lost_damaged : (damage : Damage) → (g.tells_reads → (space : Key → Rec) → Redoes (content s) space → finding.IsMade space s.base.shape → ¬ IsOld space → ⊥)
+    pub lost_damaged : (damage : Damage) → (g.tells_reads → (space : Key → Rec) → Redoes (content s) space → finding.IsMade space s.base.shape → ¬ IsOld space
+        → ⊥)
         → (g.tells_reads → RefusesAgain (content s) s.base.shape (again_faults.Damaged damage))
         → SettlesCommand g commands.Reopen (seen_as s health weight names) (seen_as t healths.Failed weight names)
         (Faulted [] (DamagedRecord damage.file damage.id))
@@ -90,7 +98,8 @@ module _ {D : Type 0} {g : Ghosts D} where
         none : (known : Bool) {state : State} → IsAt (as_known known g) (seen_as s health weight names) state → (as_known known g).tells_reads → ⊥
         none known {state = state} at told =
             let had = (at.reads told).2 in
-            sound (told_of known g told) had.space had.redoes (subst (λ (shape : Shape). finding.IsMade had.space shape) at.shape (newest-made had.space state.shape had.store.store.ranges))
+            sound (told_of known g told) had.space had.redoes (subst (λ (shape : Shape). finding.IsMade had.space shape) at.shape
+            (newest-made had.space state.shape had.store.store.ranges))
             (newest-not_old had.space state.shape had.store.store.ranges)
 
     module _ (own : t.base.own ≡ s.base.own) (no_own : length s.base.own.pairs ≡ 0) (recovered : IsRecovered s.base t.base) (u : Store D g)
@@ -172,9 +181,21 @@ module _ {D : Type 0} {g : Ghosts D} where
       named_again healthier weigher named answers.NoMemory takes = absurd takes
       named_again healthier weigher named answers.DiskFailed takes = record {
         settles = λ known line state only served at. settles-reopen_fault {g = as_known known g} counts at was_closed only (leaves_all_known known)
-            (lost-known known (lost healthier weigher named takes.0)) (Rose-from (g.faults s.base.disk.now) (g.faults t.base.disk.now) (g.faults u.base.disk.now) later_on takes.1);
+            (lost-known known (lost healthier weigher named takes.0)) (Rose-from (g.faults s.base.disk.now) (g.faults t.base.disk.now)
+            (g.faults u.base.disk.now) later_on takes.1);
         may = λ none.
-            inr (was_closed, leaves_all, inr (inl ((refl, Rose-from (g.faults s.base.disk.now) (g.faults t.base.disk.now) (g.faults u.base.disk.now) later_on takes.1), lost healthier weigher named takes.0)));
+            inr (
+              was_closed,
+              leaves_all,
+              inr (inl (
+                (
+                  refl,
+                  Rose-from (g.faults s.base.disk.now) (g.faults t.base.disk.now) (g.faults u.base.disk.now)
+                      later_on takes.1,
+                ),
+                lost healthier weigher named takes.0,
+              )),
+            );
         onward = record { disk_later = far };
       }
       named_again healthier weigher named (answers.Damaged damage) takes = record {
@@ -182,6 +203,16 @@ module _ {D : Type 0} {g : Ghosts D} where
             settles-reopen_damaged {g = as_known known g} counts at was_closed only damage.file damage.id (leaves_all_known known)
             (lost-known known (lost healthier weigher named takes.0))
             (λ told. let begins = names-begin known at told in names-other (drafted t) names begins.0 damage begins.1 (takes.1 (told_of known g told)));
-        may = λ none. inr (was_closed, leaves_all, inr (inr (damage, refl, lost healthier weigher named takes.0, λ told. inr (other-found damage takes.1 told))));
+        may = λ none. inr (
+          was_closed,
+          leaves_all,
+          inr (inr (
+            damage,
+            refl,
+            lost healthier weigher named takes.0,
+            λ told. inr
+                (other-found damage takes.1 told),
+          )),
+        );
         onward = record { disk_later = far };
       }

@@ -202,7 +202,8 @@ module _ {R K : Type 0} {space : SpaceGhosts R} {sink : SinkGhosts K} {names : L
   running-stopped reads (faults.Damaged damage) rose blames then turn gives =
       let broken : space.tells → Breaks (space.state old).records (space.state old).shape damage = λ told.
       blamed-same (space.state old) (space.state now) (faults.Damaged damage) running.read.same (blames told) in
-      running-fault reads (DamagedRecord damage.file damage.id) (λ told store. absurd (none_broken (space.state old).records (space.state old).shape store.store damage (broken told)))
+      running-fault reads (DamagedRecord damage.file damage.id) (λ told store. absurd (none_broken (space.state old).records (space.state old).shape store.store
+      damage (broken told)))
       (λ told. absurd (told refl)) (λ told. (damage.rule, inl (broken told))) then turn gives
 
   -- ---- one more result

@@ -90,7 +90,11 @@ module _ {D : Type 0} (g : Ghosts D) (old new : SessionView D) (told : g.tells_r
   }
 
   pub quiet-stopped : IsStopped g old new → old.console.health ≡ healths.Live → IsStoredNow old → IsQuiet
-  quiet-stopped stopped live stored = record { same = back live stored (stopped.stored.read told); stored = λ is. absurd (failed-live new.console.health stopped.health is) }
+  quiet-stopped stopped live stored = record {
+    same = back live stored (stopped.stored.read told);
+    stored = λ is. absurd
+        (failed-live new.console.health stopped.health is);
+  }
 
   -- what was read is found again
   module _ (space : Key → Rec) (was : Redoes (g.reads old.disk) space) where

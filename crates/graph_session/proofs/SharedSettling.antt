@@ -102,7 +102,8 @@ module _ {D : Type 0} {g : Ghosts D} (known : Bool) {line : List ℕ} {command :
           weighed = keeps.weighed at.writer.no_draft at.weighed;
           snapshots = subst (λ held. HoldsSnapshots (as_known known g) held new.session.disk (record { writer = settles.after; readers = state.readers }))
               (sym same)
-              (holds-still (as_known known g) old.held old.session.disk state at.snapshots new.session.disk settles.after (λ told. (goes told).shape) (λ told. (goes told).names) (λ told. reads told));
+              (holds-still (as_known known g) old.held old.session.disk state at.snapshots new.session.disk settles.after (λ told. (goes told).shape)
+              (λ told. (goes told).names) (λ told. reads told));
         };
         crash = settles.arrives.crash;
       };
@@ -177,7 +178,8 @@ module _ {D : Type 0} {g : Ghosts D} (known : Bool) {line : List ℕ} {command :
       settled-same same (λ told. same-bound g old.session reply new.session (told_of known g told) (at.stored told) (was told) commands.Begin (λ e. cc) answer)
       (ends-none (λ e. let clash : commands.Begin ≡ commands.Commit = is ∙ e in cc) (λ change. let clash : Bound ≡ Change = ap kind_of is ∙ change in cc))
   of-bound commands.Rollback is kind same answer =
-      settled-same same (λ told. same-bound g old.session reply new.session (told_of known g told) (at.stored told) (was told) commands.Rollback (λ e. cc) answer)
+      settled-same same (λ told. same-bound g old.session reply new.session (told_of known g told) (at.stored told) (was told) commands.Rollback (λ e. cc)
+      answer)
       (ends-none (λ e. let clash : commands.Rollback ≡ commands.Commit = is ∙ e in cc) (λ change. let clash : Bound ≡ Change = ap kind_of is ∙ change in cc))
   of-bound c is kind same answer = absurd answer
 
@@ -192,7 +194,15 @@ module _ {D : Type 0} {g : Ghosts D} (known : Bool) {line : List ℕ} {command :
   of-change kind (inr (closed, written, writes, committed, kept)) answer =
       let live = served-live (λ e. let clash : Change ≡ Upkeep = sym kind ∙ ap kind_of e in cc) in
       settled-kept live written kept (start_weight + writes.more) (length-weighed written (start_weight + writes.more) writes.weighed)
-      (λ told. inr (is_closed at.writer closed, command, only.spelled, writes.more, weighed-so told live closed writes.more (writes.weighs (told_of known g told)), refl))
+      (λ told. inr (
+        is_closed at.writer closed,
+        command,
+        only.spelled,
+        writes.more,
+        weighed-so told live closed writes.more
+            (writes.weighs (told_of known g told)),
+        refl,
+      ))
     where
       weighed-so : (told : (as_known known g).tells_reads) → old.session.console.health ≡ healths.Live → old.session.console.is_open ≡ false → (more : ℕ)
           → (IsIndexed old.session.console.committed old.session.console.shape → old.session.console.names ≡ names_of old.session.console.committed
@@ -203,7 +213,8 @@ module _ {D : Type 0} {g : Ghosts D} (known : Bool) {line : List ℕ} {command :
           let there = weighs (subst (λ (shape : Shape). IsIndexed old.session.console.committed shape) at.writer.shape had.committed)
           (had.names ∙ ap (λ (graph : Graph). graph.names) (seen_closed state.writer (is_closed at.writer closed) ∙ sym had.committed_graph)) in
           subst (λ (shape : Shape). LineWeighs shape.limit shape.threshold state.writer.committed command more) (sym at.writer.shape)
-          (subst (λ (graph : Graph). LineWeighs old.session.console.shape.limit old.session.console.shape.threshold graph command more) had.committed_graph there)
+          (subst (λ (graph : Graph). LineWeighs old.session.console.shape.limit old.session.console.shape.threshold graph command more) had.committed_graph
+          there)
 
   pub settles-shared : SettlesShared SharedConsoleStep (as_known known g) (Whole line) old new state reply
   settles-shared = by (kind_of command) refl keeps.held may

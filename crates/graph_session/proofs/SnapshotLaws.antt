@@ -41,7 +41,8 @@ shows-on before after old new earlier later snapshot shape sight shows = record 
 module _ {D : Type 0} (g : Ghosts D) (held : Snapshots) (old : D) (state : SharedState) (holds : HoldsSnapshots g held old state) (new : D) (writer : State)
     (shape : g.tells_reads → writer.shape ≡ state.writer.shape)
     (names : NamesGoOn g.tells_reads state.writer writer) where
-  names-on : (snapshots : List Snapshot) → (told : g.tells_reads) → ((graph : Graph) → Admits state.writer graph → AllByRecursion (λ (snapshot : Snapshot). BeginWith graph.names snapshot.graph.names) snapshots)
+  names-on : (snapshots : List Snapshot) → (told : g.tells_reads) → ((graph : Graph) → Admits state.writer graph → AllByRecursion (λ (snapshot : Snapshot).
+      BeginWith graph.names snapshot.graph.names) snapshots)
       → (graph : Graph) → Admits writer graph → AllByRecursion (λ (snapshot : Snapshot). BeginWith graph.names snapshot.graph.names) snapshots
   names-on snapshots told had graph admits =
       let found = names told graph admits in
@@ -75,7 +76,8 @@ module _ {D : Type 0} (g : Ghosts D) (held : Snapshots) (old : D) (state : Share
     left : IsLeft weight state.readers.open_ones state.readers.ended (with_room (lacked written held.open_ones) held.open_ones held.ended)
     left = outlives-with_room weight (lacked written held.open_ones) held.open_ones state.readers.open_ones held.ended state.readers.ended holds.within.sums
         holds.readers holds.within.each (apart-of held.open_ones holds.form.distinct)
-        (subst (λ n. AllByRecursion (λ reader. reader < n) (readers_of held.open_ones)) (sym holds.form.width) (all-readers (λ reader. reader < 8) held.open_ones holds.form.few)) holds.ended
+        (subst (λ n. AllByRecursion (λ reader. reader < n) (readers_of held.open_ones)) (sym holds.form.width) (all-readers (λ reader. reader < 8)
+        held.open_ones holds.form.few)) holds.ended
         (λ reader was gone. keeps.overfull holds.within.sums holds.within.covered reader was (ends.open_ones reader ∙ gone))
 
     order : readers_of kept.open_ones ≡ snapshot_readers left.readers.open_ones
@@ -89,7 +91,8 @@ module _ {D : Type 0} (g : Ghosts D) (held : Snapshots) (old : D) (state : Share
       distinct = distinct-of kept.open_ones (subst AreApart (sym ends.order) left.apart);
       few = all-layers (λ reader. reader < 8) kept.open_ones
           (subst (λ (xs : List ℕ). AllByRecursion (λ reader. reader < 8) xs) (sym ends.order)
-          (subst (λ n. AllByRecursion (λ reader. reader < n) (readers_of (with_room (lacked written held.open_ones) held.open_ones held.ended).open_ones)) (width-with_room (lacked written held.open_ones) held.open_ones held.ended ∙ holds.form.width) left.few));
+          (subst (λ n. AllByRecursion (λ reader. reader < n) (readers_of (with_room (lacked written held.open_ones) held.open_ones held.ended).open_ones))
+          (width-with_room (lacked written held.open_ones) held.open_ones held.ended ∙ holds.form.width) left.few));
       width = width;
     }
 
@@ -112,8 +115,10 @@ module _ {D : Type 0} (g : Ghosts D) (held : Snapshots) (old : D) (state : Share
         shows = λ told later redoes.
             all_both (ShowsGraph held.open_ones state.writer.shape committed) (λ (snapshot : Snapshot). is_open snapshot.reader kept.open_ones ≡ true)
             (ShowsGraph kept.open_ones writer.shape later) left.readers.open_ones
-            (λ snapshot shows is. shows-on held.open_ones kept.open_ones state.writer.shape writer.shape committed later snapshot (shape told) (sights told later redoes snapshot.reader is) shows)
-            (all-left (ShowsGraph held.open_ones state.writer.shape committed) (ShowsGraph held.open_ones state.writer.shape committed) weight state.readers.open_ones state.readers.ended left.readers
+            (λ snapshot shows is. shows-on held.open_ones kept.open_ones state.writer.shape writer.shape committed later snapshot (shape told)
+            (sights told later redoes snapshot.reader is) shows)
+            (all-left (ShowsGraph held.open_ones state.writer.shape committed) (ShowsGraph held.open_ones state.writer.shape committed)
+            weight state.readers.open_ones state.readers.ended left.readers
             (λ snapshot shows. record { store = shows.store; graph = shows.graph }) (holds.shows told committed (stored told)) left.outlive)
             (all-open kept.open_ones left.readers.open_ones order);
         names = λ told. names-on left.readers.open_ones told (λ graph admits.

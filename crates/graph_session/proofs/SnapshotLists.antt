@@ -144,7 +144,8 @@ not-left count (layer ∷ younger) flags reader closed =
     later false b h = h
 
     by : (t : Bool) → (is_open reader younger ≡ false → is_open reader (with_room count younger (slice_set flags layer.reader true)).open_ones ≡ false)
-        → is_open reader (cond t (with_room count younger (slice_set flags layer.reader true)) (record { open_ones = layer ∷ younger; ended = flags })).open_ones ≡ false
+        → is_open reader (cond t (with_room count younger (slice_set flags layer.reader true))
+        (record { open_ones = layer ∷ younger; ended = flags })).open_ones ≡ false
     by true more = more (later (nat_eq reader layer.reader) (is_open reader younger) closed)
     by false more = closed
 
@@ -183,10 +184,12 @@ outlives-with_room weight count (layer ∷ younger) (snapshot ∷ later) flags e
     by : (t : Bool) → lacks_room count (layer ∷ younger) ≡ t
         → (EndsOverfull weight sums younger (with_room count younger (slice_set flags layer.reader true)).open_ones
         → IsLeft weight later (snapshot.reader ∷ ended) (with_room count younger (slice_set flags layer.reader true)))
-        → IsLeft weight (snapshot ∷ later) ended (cond t (with_room count younger (slice_set flags layer.reader true)) (record { open_ones = layer ∷ younger; ended = flags }))
+        → IsLeft weight (snapshot ∷ later) ended (cond t (with_room count younger (slice_set flags layer.reader true))
+        (record { open_ones = layer ∷ younger; ended = flags }))
     by true e further =
         let ends : EndsOverfull weight sums (layer ∷ younger) (with_room count younger (slice_set flags layer.reader true)).open_ones =
-        subst (λ (t : Bool). EndsOverfull weight sums (layer ∷ younger) (cond t (with_room count younger (slice_set flags layer.reader true)) (record { open_ones = layer ∷ younger; ended = flags })).open_ones) e over in
+        subst (λ (t : Bool). EndsOverfull weight sums (layer ∷ younger) (cond t (with_room count younger (slice_set flags layer.reader true))
+        (record { open_ones = layer ∷ younger; ended = flags })).open_ones) e over in
         let more = further (λ reader was gone. ends reader (or_right (nat_eq reader layer.reader) (is_open reader younger) was) gone) in
         let gone = not-left count younger (slice_set flags layer.reader true) layer.reader (open-any layer.reader younger ∙ apart.0) in
         let over_one = ends layer.reader (or_left (nat_eq layer.reader layer.reader) (is_open layer.reader younger) (own_number layer.reader)) gone in

@@ -58,7 +58,8 @@ without-any r reader (x ∷ xs) = by (nat_eq x reader) (nat_eq r reader) refl re
     by true true e f later = ap (λ (t : Bool). cond t false (list_any (nat_eq r) xs)) (sym f) ∙ later
     by true false e f later = ap (λ (b : Bool). b || list_any (nat_eq r) xs) (misses e f) ∙ ap (λ (t : Bool). cond t false (list_any (nat_eq r) xs)) (sym f)
         ∙ later
-    by false true e f later = sym (ap (λ (b : Bool). b || list_any (nat_eq r) (but reader xs)) (passes e f) ∙ sym later ∙ ap (λ (t : Bool). cond t false (list_any (nat_eq r) xs)) f)
+    by false true e f later = sym (ap (λ (b : Bool). b || list_any (nat_eq r) (but reader xs)) (passes e f) ∙ sym later ∙ ap (λ (t : Bool). cond t false
+        (list_any (nat_eq r) xs)) f)
     by false false e f later = ap (λ (b : Bool). nat_eq r x || b) (ap (λ (t : Bool). cond t false (list_any (nat_eq r) xs)) (sym f) ∙ later)
 
 -- one that isn't there takes none away
@@ -107,7 +108,8 @@ kept-readers reader (snapshot ∷ later) = by (nat_eq snapshot.reader reader) (k
   where
     by : (t : Bool) → but reader (snapshot_readers later) ≡ snapshot_readers (filter (λ (s : Snapshot). not (is_of reader s)) later)
         → cond (not t) (snapshot.reader ∷ but reader (snapshot_readers later)) (but reader (snapshot_readers later))
-        ≡ snapshot_readers (cond (not t) (snapshot ∷ filter (λ (s : Snapshot). not (is_of reader s)) later) (filter (λ (s : Snapshot). not (is_of reader s)) later))
+        ≡ snapshot_readers (cond (not t) (snapshot ∷ filter (λ (s : Snapshot). not (is_of reader s)) later) (filter (λ (s : Snapshot). not (is_of reader s))
+        later))
     by true more = more
     by false more = ap (λ xs. snapshot.reader ∷ xs) more
 
@@ -148,7 +150,8 @@ module _ {D : Type 0} (g : Ghosts D) (held : Snapshots) (disk : D) (state : Shar
   module _ (closed : is_open reader held.open_ones ≡ false) (live : state.writer.standing ≡ Live)
       (stored : g.tells_reads → HoldsAdmitted state.writer (g.reads disk))
       (own : (committed : Key → Rec) → sees (taken reader held).open_ones reader committed ≡ committed)
-      (sights : (other : ℕ) (committed : Key → Rec) → is_open other held.open_ones ≡ true → sees (taken reader held).open_ones other committed ≡ sees held.open_ones other committed) where
+      (sights : (other : ℕ) (committed : Key → Rec) → is_open other held.open_ones ≡ true → sees (taken reader held).open_ones other committed ≡ sees
+      held.open_ones other committed) where
     abbrev snapshot : Snapshot
     snapshot = record { reader = reader; graph = state.writer.committed; sum = 0 }
 
@@ -171,7 +174,11 @@ module _ {D : Type 0} (g : Ghosts D) (held : Snapshots) (disk : D) (state : Shar
           graph = ap graph_of (own committed ∙ same) ∙ sym found.2.graph_is ∙ admits-only state.writer found.0 live found.1;
         }
 
-    pub holds-taken : HoldsSnapshots g (taken reader held) disk (record { writer = state.writer; readers = with_snapshot reader state.writer.committed state.readers })
+    pub holds-taken : HoldsSnapshots g (taken reader held) disk (record {
+      writer = state.writer;
+      readers = with_snapshot reader state.writer.committed
+          state.readers;
+    })
     holds-taken = record {
       form = record {
         distinct = distinct-taken held.open_ones reader closed holds.form.distinct;
@@ -184,17 +191,21 @@ module _ {D : Type 0} (g : Ghosts D) (held : Snapshots) (disk : D) (state : Shar
       within = record {
         sums = sums;
         each = all_end (λ (s : Snapshot). sums s.reader ≡ s.sum) state.readers.open_ones snapshot
-            (all_both (λ (s : Snapshot). is_open s.reader held.open_ones ≡ true) (λ (s : Snapshot). holds.within.sums s.reader ≡ s.sum) (λ (s : Snapshot). sums s.reader ≡ s.sum) state.readers.open_ones
+            (all_both (λ (s : Snapshot). is_open s.reader held.open_ones ≡ true) (λ (s : Snapshot). holds.within.sums s.reader ≡ s.sum)
+            (λ (s : Snapshot). sums s.reader ≡ s.sum) state.readers.open_ones
             (λ s is sum. sums-other s.reader is ∙ sum) others-open holds.within.each)
             (ap (λ (t : Bool). cond t 0 (holds.within.sums reader)) (own_number reader));
         covered = covered-end holds.within.sums sums reader held.open_ones
-            (all_more (λ (layer : Layer). is_open layer.reader held.open_ones ≡ true) (λ (layer : Layer). sums layer.reader ≡ holds.within.sums layer.reader) held.open_ones
+            (all_more (λ (layer : Layer). is_open layer.reader held.open_ones ≡ true) (λ (layer : Layer). sums layer.reader ≡ holds.within.sums layer.reader)
+            held.open_ones
             (λ layer is. sums-other layer.reader is) (all-opens held.open_ones)) holds.within.covered;
       };
       shows = λ told committed redoes.
           all_end (ShowsGraph (taken reader held).open_ones state.writer.shape committed) state.readers.open_ones snapshot
-          (all_both (λ (s : Snapshot). is_open s.reader held.open_ones ≡ true) (ShowsGraph held.open_ones state.writer.shape committed) (ShowsGraph (taken reader held).open_ones state.writer.shape committed)
-          state.readers.open_ones (λ s is shows. shows-on held.open_ones (taken reader held).open_ones state.writer.shape state.writer.shape committed committed s refl (sights s.reader committed is) shows)
+          (all_both (λ (s : Snapshot). is_open s.reader held.open_ones ≡ true) (ShowsGraph held.open_ones state.writer.shape committed)
+          (ShowsGraph (taken reader held).open_ones state.writer.shape committed)
+          state.readers.open_ones (λ s is shows. shows-on held.open_ones (taken reader held).open_ones state.writer.shape state.writer.shape committed committed
+          s refl (sights s.reader committed is) shows)
           others-open (holds.shows told committed redoes))
           (shows-own committed told redoes);
       names = λ told graph admits.
@@ -234,9 +245,11 @@ module _ {D : Type 0} (g : Ghosts D) (held : Snapshots) (disk : D) (state : Shar
       shows = λ told committed redoes.
           all_both (λ (s : Snapshot). is_open s.reader kept.open_ones ≡ true) (ShowsGraph held.open_ones state.writer.shape committed)
           (ShowsGraph kept.open_ones state.writer.shape committed) left
-          (λ s is shows. shows-on held.open_ones kept.open_ones state.writer.shape state.writer.shape committed committed s refl (sights s.reader committed is) shows)
+          (λ s is shows. shows-on held.open_ones kept.open_ones state.writer.shape state.writer.shape committed committed s refl (sights s.reader committed is)
+          shows)
           (all-open kept.open_ones left same)
-          (all_filtered (ShowsGraph held.open_ones state.writer.shape committed) (λ (s : Snapshot). not (is_of reader s)) state.readers.open_ones (holds.shows told committed redoes));
+          (all_filtered (ShowsGraph held.open_ones state.writer.shape committed) (λ (s : Snapshot). not (is_of reader s)) state.readers.open_ones
+          (holds.shows told committed redoes));
       names = λ told graph admits.
           all_filtered (λ (s : Snapshot). BeginWith graph.names s.graph.names) (λ (s : Snapshot). not (is_of reader s)) state.readers.open_ones
           (holds.names told graph admits);

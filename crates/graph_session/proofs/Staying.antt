@@ -13,7 +13,16 @@ use Rattle.graph_session.specs.State.{State, Transaction}
 
 -- what is read stays admitted
 pub held-kept : (state : State) (old new : Files) → Same old new → HoldsAdmitted state old → HoldsAdmitted state new
-held-kept state old new same (graph, admits, made) = (graph, admits, record { space = made.space; redoes = Redoes-kept made.space old new made.redoes same; store = made.store; graph_is = made.graph_is })
+held-kept state old new same (graph, admits, made) = (
+  graph,
+  admits,
+  record {
+    space = made.space;
+    redoes = Redoes-kept made.space old new made.redoes same;
+    store = made.store;
+    graph_is = made.graph_is;
+  },
+)
 
 module _ {D : Type 0} {g : Ghosts D} where
   -- nothing was called

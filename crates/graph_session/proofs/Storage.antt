@@ -88,8 +88,17 @@ module _ {D : Type 0} {g : Ghosts D} {old new : SessionView D} {state : State} (
   pub settles-checkpoint : {line : List ℕ} → SpellsOnly line commands.Checkpoint → LeavesCommitted g old new.disk → IsBrought g old new
       → Settles g (Whole line) old new state Done
   settles-checkpoint {line = line} only leaves brought =
-      settles-done {line = Whole line} {before = state} Done state tt (record { is_at = brought-at brought; crash = checkpoint-crash at live state new.disk leaves })
-      (λ told. (idle-accepted state only (λ change. change) idle_reasons (checkpoint-reached at live only closed), commands.Checkpoint, only.spelled, (refl, refl)))
+      settles-done {line = Whole line} {before = state} Done state tt (record {
+        is_at = brought-at brought;
+        crash = checkpoint-crash at live state new.disk
+            leaves;
+      })
+      (λ told. (
+        idle-accepted state only (λ change. change) idle_reasons (checkpoint-reached at live only closed),
+        commands.Checkpoint,
+        only.spelled,
+        (refl, refl),
+      ))
       (uses-writes state only tt (checkpoint-reached at live only closed) (inr (inr (inl only.spelled))) (λ none. none))
 
   stopped-at : IsStopped g old new → IsAt g new (stopped state)
@@ -102,7 +111,8 @@ module _ {D : Type 0} {g : Ghosts D} {old new : SessionView D} {state : State} (
     closed = λ failed. refl;
     holds = λ told stands. cc;
     known = λ told failed graph admits.
-        known-one new.console.names state.committed graph admits (begin-same new.console.names old.console.names state.committed.names left.names (held at live told).brought);
+        known-one new.console.names state.committed graph admits (begin-same new.console.names old.console.names state.committed.names left.names
+        (held at live told).brought);
     reads = λ told. redone-held (stopped state) old.console.committed (g.reads new.disk) (stopped-one at live told) (left.stored.read told);
     images = λ told. all-admitted (stopped state) old.console.committed (g.may_leave new.disk) (stopped-one at live told.0) (left.stored.images told);
   }
@@ -229,7 +239,8 @@ module _ {D : Type 0} {g : Ghosts D} {old new : SessionView D} {state : State} (
     known = λ told failed. absurd failed;
     reads = λ told.
         redone-held after_found new.console.committed (g.reads new.disk) (found-one told)
-        (subst (λ (space : Key → Rec). Redoes (g.reads new.disk) space) (sym (found-same told)) (is.read told (at.reads told).2.space (at.reads told).2.redoes));
+        (subst (λ (space : Key → Rec). Redoes (g.reads new.disk) space) (sym (found-same told)) (is.read told (at.reads told).2.space
+        (at.reads told).2.redoes));
     images = λ told. all-admitted after_found new.console.committed (g.may_leave new.disk) (found-one told.0) (is.images told);
   }
 
@@ -241,6 +252,12 @@ module _ {D : Type 0} {g : Ghosts D} {old new : SessionView D} {state : State} (
         idle-accepted state only (λ change. change) idle_reasons (reopen-reached at closed only),
         commands.Reopen,
         only.spelled,
-        (refl, graph_of new.console.committed, subst (λ (space : Key → Rec). Admits state (graph_of space)) (sym (found-same told)) (read-one at closed told).admits, refl),
+        (
+          refl,
+          graph_of new.console.committed,
+          subst (λ (space : Key → Rec). Admits state (graph_of space)) (sym (found-same told))
+              (read-one at closed told).admits,
+          refl,
+        ),
       ))
       (uses-writes state only tt (reopen-reached at closed only) (inr (inr (inr only.spelled))) (λ none. none))

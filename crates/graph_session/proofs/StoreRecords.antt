@@ -13,7 +13,8 @@ use Rattle.txn_core.specs.declared.store.Store.{Store}
 -- pairs in which no key is found
 none-found : (pairs : Pairs) → ((key : Key) → is_some (find_pair pairs key) ≡ false) → pairs ≡ []
 none-found [] none = refl
-none-found (pair ∷ rest) none = absurd (true≢false (ap (λ (b : Bool). is_some (if b then Some pair.1 else find_pair rest pair.0)) (sym (key_eq-same pair.0)) ∙ none pair.0))
+none-found (pair ∷ rest) none = absurd (true≢false (ap (λ (b : Bool). is_some (if b then Some pair.1 else find_pair rest pair.0)) (sym (key_eq-same pair.0))
+    ∙ none pair.0))
 
 -- reads write no key
 written-gets : (n : ℕ) (s : spaces.State) → (after_gets n s).written ≡ s.written

@@ -192,13 +192,16 @@ module _ {D : Type 0} {g : DiskGhosts D} (command : Command) (change : IsChange 
           (inr (begins.closed, change)) pairs
           (λ commits. absurd (commit-still (subst IsChange commits change)))
           (λ also. subst (WritesAlone g command (view old)) (sym tapped.0)
-          (writes-alone change old new live begins.closed begins.idle begins.same begins.own begins.draft begins.names begins.health begins.snaps only made light drafts))
-          (tapped-from (view old) (view then) (view new) (committed-read mid.store.base then.store.base only.base ∙ committed-beneath old.store.base mid.store.base begins.same) pairs tapped.1)) takes
+          (writes-alone change old new live begins.closed begins.idle begins.same begins.own begins.draft begins.names begins.health begins.snaps only made
+          light drafts))
+          (tapped-from (view old) (view then) (view new) (committed-read mid.store.base then.store.base only.base ∙ committed-beneath old.store.base
+          mid.store.base begins.same) pairs tapped.1)) takes
       by (Ok made) drafts (inl (light, inr (told, none))) = takes-weaker was tap
           (taps-unconfirmed (λ confirms. subst (λ (a : Answer). Confirms (reply_of a)) told confirms)) none
       by (Ok made) drafts (inr (unkept, none)) = takes-weaker was tap (taps-unconfirmed (unkept-unconfirmed made.weight answer unkept)) none
       by (Err why) drafts (told, none) =
-          takes-weaker was tap (taps-unconfirmed (subst (λ (a : Answer). ¬ Confirms (reply_of a)) (sym told) (stopped-unconfirmed command mid then.store.base.disk.now why drafts))) none
+          takes-weaker was tap (taps-unconfirmed (subst (λ (a : Answer). ¬ Confirms (reply_of a)) (sym told)
+          (stopped-unconfirmed command mid then.store.base.disk.now why drafts))) none
 
 -- ---- a line
 
@@ -228,7 +231,8 @@ module _ {D : Type 0} {g : DiskGhosts D} {old new : SessionView D} where
     taken = λ ends. let both = acknowledges-ends only old.console.is_open reply ends in taps.taken both.0 both.1;
     written = λ ends commits. taps.written ends.1 (sym (only.only commands.Commit commits));
     alone = λ ends other spells change. let is = only.only other spells in let both = acknowledges-ends only old.console.is_open reply ends in
-        subst (λ (c : Command). WritesAlone g c old pairs) (sym is) (taps.alone both.0 (subst IsChange is change) (closed-by (subst IsChange is change) both.1));
+        subst (λ (c : Command). WritesAlone g c old pairs) (sym is) (taps.alone both.0 (subst IsChange is change) (closed-by (subst IsChange is change)
+        both.1));
     empty = λ no. taps.empty (λ both. no (ends-acknowledges only old.console.is_open reply first both.0 both.1));
   }
 
@@ -257,5 +261,8 @@ module _ {D K : Type 0} {g : DiskGhosts D} {sink : SinkGhosts K} {line : List �
   pub taps-settled : {reply : Reply} → SpellsOnly line command → session_of line ≡ 0 → (was tap : Option Held)
       → Takes (TapsCommand g command old.session reply new.session) was tap
       → AnswersWith g sink (Whole line) old new turn reply → TapsAnswer g sink (Whole line) old new turn was tap
-  taps-settled only first was tap takes (answers, is) =
-      (answers, takes-weaker was tap (λ pairs taps. subst (λ (r : Reply). Taps g (Whole line) old.session r new.session pairs) (sym is) (taps-line only first pairs taps)) takes)
+  taps-settled only first was tap takes (answers, is) = (
+    answers,
+    takes-weaker was tap (λ pairs taps. subst (λ (r : Reply). Taps g (Whole line) old.session r new.session pairs) (sym is)
+        (taps-line only first pairs taps)) takes,
+  )

@@ -60,11 +60,13 @@ in_doubt state graph = failing state (state.committed ∷ graph ∷ [])
 module _ {D : Type 0} {g : Ghosts D} {old : SessionView D} {state : State} (at : IsAt g old state) (live : old.console.health ≡ healths.Live) where
   begin-accepted : {line : List ℕ} → SpellsOnly line commands.Begin → old.console.is_open ≡ false → IsAccepted state (Whole line)
   begin-accepted only closed =
-      idle-accepted state only (λ change. change) idle_reasons (reached state only (inl (not_failed at live)) (λ needs. not_open at closed) (λ needs. absurd (begin-closed needs)))
+      idle-accepted state only (λ change. change) idle_reasons (reached state only (inl (not_failed at live)) (λ needs. not_open at closed)
+      (λ needs. absurd (begin-closed needs)))
 
   rollback-accepted : {line : List ℕ} → SpellsOnly line commands.Rollback → old.console.is_open ≡ true → IsAccepted state (Whole line)
   rollback-accepted only opened =
-      idle-accepted state only (λ change. change) idle_reasons (reached state only (inl (not_failed at live)) (λ needs. absurd (rollback-open needs)) (λ needs. is_open at opened))
+      idle-accepted state only (λ change. change) idle_reasons (reached state only (inl (not_failed at live)) (λ needs. absurd (rollback-open needs))
+      (λ needs. is_open at opened))
 
   commit-reached : {line : List ℕ} → SpellsOnly line commands.Commit → old.console.is_open ≡ true → IsReached state (Whole line)
   commit-reached only opened = reached state only (inl (not_failed at live)) (λ needs. absurd (commit-open needs)) (λ needs. is_open at opened)
@@ -219,7 +221,11 @@ module _ {D : Type 0} {g : Ghosts D} {old new : SessionView D} {state : State} (
         → Settles g (Whole line) old new state Done
     settles-commit {line = line} only opened leaves commits =
         settles-done {line = Whole line} {before = state} Done (with_commit state transaction) tt
-        (record { is_at = commits-at commits; crash = commit-crash at live (with_commit state transaction) new.disk (λ told. written-one at live told transaction is) leaves })
+        (record {
+          is_at = commits-at commits;
+          crash = commit-crash at live (with_commit state transaction) new.disk
+              (λ told. written-one at live told transaction is) leaves;
+        })
         (λ told. (commit-accepted at live only opened, commands.Commit, only.spelled, (refl, transaction, is, refl)))
         (uses-writes state only tt (commit-reached at live only opened) (inr (inl only.spelled)) (λ none. none))
 
@@ -238,6 +244,10 @@ module _ {D : Type 0} {g : Ghosts D} {old new : SessionView D} {state : State} (
         → Rose (g.faults old.disk) (g.faults new.disk) → Settles g (Whole line) old new state (Faulted [] DiskFailed)
     settles-commit_fault {line = line} only opened leaves left rose =
         settles-fault {line = Whole line} {before = state} (Faulted [] DiskFailed) (in_doubt state transaction.graph)
-        (record { is_at = left_open-at left; crash = commit-crash at live (in_doubt state transaction.graph) new.disk (λ told. second-one at live told transaction is) leaves }) rose
+        (record {
+          is_at = left_open-at left;
+          crash = commit-crash at live (in_doubt state transaction.graph) new.disk
+              (λ told. second-one at live told transaction is) leaves;
+        }) rose
         (λ told. (refl, commit-reached at live only opened, commands.Commit, only.spelled, inl refl, (transaction, is, inr refl)))
         (uses-writes state only tt (commit-reached at live only opened) (inr (inl only.spelled)) (λ none. none))

@@ -70,8 +70,16 @@ view-has graph (targets.Edge id) item is =
     any-found (λ edge. nat_eq (edge_number edge) id) graph.edges found.0 found.1
 
 view-lacks : (graph : Graph) (target : Target) → item_at graph target ≡ None → LacksElement graph (asked_of (commands.View target)) (no_element target)
-view-lacks graph (targets.Node id) is = (any-unfound (λ node. nat_eq (node_number node) id) graph.nodes (mapped-none vertex_of (find (λ node. nat_eq (node_number node) id) graph.nodes) is), refl)
-view-lacks graph (targets.Edge id) is = (any-unfound (λ edge. nat_eq (edge_number edge) id) graph.edges (mapped-none edge_item (find (λ edge. nat_eq (edge_number edge) id) graph.edges) is), refl)
+view-lacks graph (targets.Node id) is = (
+  any-unfound (λ node. nat_eq (node_number node) id) graph.nodes (mapped-none vertex_of
+      (find (λ node. nat_eq (node_number node) id) graph.nodes) is),
+  refl,
+)
+view-lacks graph (targets.Edge id) is = (
+  any-unfound (λ edge. nat_eq (edge_number edge) id) graph.edges (mapped-none edge_item
+      (find (λ edge. nat_eq (edge_number edge) id) graph.edges) is),
+  refl,
+)
 
 -- an element that is viewed is the one that is named, and none is where there is none
 viewed-item : (graph : Graph) (target : Target) (item : Item) (element : ElementMap) → view_of graph target ≡ Some (item, element)
@@ -84,8 +92,11 @@ viewed-item graph target item element is = by (item_at graph target) is
     by (Some own) is =
         let first : Item × ElementMap = (own, element_map graph [] own) in
         let row : Item × ElementMap = (item, element) in
-        let both : first ≡ row = some_same is in
-        (ap (λ (row : Item × ElementMap). Some row.0) both, sym (ap (λ (row : Item × ElementMap). row.1) both) ∙ ap (λ (row : Item × ElementMap). element_map graph [] row.0) both)
+        let both : first ≡ row = some_same is in (
+          ap (λ (row : Item × ElementMap). Some row.0) both,
+          sym (ap (λ (row : Item × ElementMap). row.1) both) ∙ ap (λ (row : Item × ElementMap).
+              element_map graph [] row.0) both,
+        )
       where
         some_same : {a b : Item × ElementMap} → Some a ≡ Some b → a ≡ b
         some_same e = cc
@@ -121,7 +132,8 @@ module _ {R K : Type 0} {space : SpaceGhosts R} {sink : SinkGhosts K} {names : L
       → GivesReading space sink names (commands.View target) mark a b before after turn
   gives-viewed line made gives =
       gives-told (asks-view target) read (one_line (making_text made.item made.element)) (made.item, made.element, refl) refl
-      (λ told store. view-has (graph_of (space.state a).records) target made.item (viewed-item (graph_of (space.state a).records) target made.item made.element (made.viewed told store)).0)
+      (λ told store. view-has (graph_of (space.state a).records) target made.item (viewed-item (graph_of (space.state a).records) target made.item made.element
+      (made.viewed told store)).0)
       (λ told store.
       let is = viewed-item (graph_of (space.state a).records) target made.item made.element (made.viewed told store) in
       (made.item, is.0, ap (λ (element : ElementMap). one_line (making_text made.item element)) is.1))

@@ -45,12 +45,14 @@ weight-only of names line a b h k = h.2 ∙ ap of (NeedsNames-only names line h.
 -- a change weighs one number
 pub Weighs-only : (threshold : ℕ) (graph : Graph) (command : Command) (a b : ℕ) → Weighs threshold graph command a → Weighs threshold graph command b → a ≡ b
 Weighs-only threshold graph (commands.Node label pairs) a b h k = weight-only
-    (λ (n : ℕ). 1 + properties_weight (with_pairs no_properties pairs) + n + entries_weight graph label (λ key. true) no_properties (with_pairs no_properties pairs)) graph.names (label ∷ keys_in pairs) a b h k
+    (λ (n : ℕ). 1 + properties_weight (with_pairs no_properties pairs) + n + entries_weight graph label (λ key. true) no_properties
+    (with_pairs no_properties pairs)) graph.names (label ∷ keys_in pairs) a b h k
 Weighs-only threshold graph (commands.Edge from label to pairs) a b h k =
     weight-only (λ (n : ℕ). 9 + properties_weight (with_pairs no_properties pairs) + n + ends_weight threshold graph from to) graph.names
     (label ∷ keys_in pairs) a b h k
 Weighs-only threshold graph (commands.Set target key value) a b h k =
-    weight-only (λ (n : ℕ). 2 + blocks_of value + blocks_at (properties_at graph target) key + n + element_weight graph target (is_text key) (maps.insert (properties_at graph target) key value)) graph.names (key ∷ []) a b h k
+    weight-only (λ (n : ℕ). 2 + blocks_of value + blocks_at (properties_at graph target) key + n + element_weight graph target (is_text key)
+    (maps.insert (properties_at graph target) key value)) graph.names (key ∷ []) a b h k
 Weighs-only threshold graph (commands.Unset target key) a b h k = h ∙ sym k
 Weighs-only threshold graph (commands.Delete (targets.Node id)) a b h k = h ∙ sym k
 Weighs-only threshold graph (commands.Delete (targets.Edge id)) a b h k = h ∙ sym k

@@ -101,7 +101,13 @@ module _ (query : Query) (lines : List (List ℕ)) (are : AreResults query.maps 
   query-stop PastCount = (query-spared query, record { lines = lines; last = end_text; is_past = true }, (lines, are, true, refl), refl, ([], append-nil lines))
   query-stop NoMemory = (query-spared query, record { lines = lines; last = end_text; is_past = true }, (lines, are, true, refl), tt, ([], append-nil lines))
   query-stop DiskFailed = (query-spared query, record { lines = lines; last = end_text; is_past = true }, (lines, are, true, refl), tt, ([], append-nil lines))
-  query-stop (DamagedRecord file id) = (query-spared query, record { lines = lines; last = end_text; is_past = true }, (lines, are, true, refl), (λ e. cc), ([], append-nil lines))
+  query-stop (DamagedRecord file id) = (
+    query-spared query,
+    record { lines = lines; last = end_text; is_past = true },
+    (lines, are, true, refl),
+    (λ e. cc),
+    ([], append-nil lines),
+  )
 
   -- and so may the end
   pub query-tell : MayTell (commands.Query query) (Told lines end_text)
@@ -110,7 +116,10 @@ module _ (query : Query) (lines : List (List ℕ)) (are : AreResults query.maps 
 -- all results are told
 pub query-all : (graph : Graph) (query : Query) → HasAsked graph (commands.Query query) → (lines : List (List ℕ)) → lines ≡ all_lines graph query
     → has_past_count graph query ≡ false → Means graph (commands.Query query) (Told lines end_text)
-query-all graph query there lines all none = ((λ limit. unchanging-free (commands.Query query) (λ h. h) limit graph tt there), (reading_of graph query, refl, none, all, refl))
+query-all graph query there lines all none = (
+  (λ limit. unchanging-free (commands.Query query) (λ h. h) limit graph tt there),
+  (reading_of graph query, refl, none, all, refl),
+)
 
 -- ---- the whole reply of which some lines were given
 

@@ -103,7 +103,8 @@ new_lacks : (m : Properties) (ps : List Pair) (k : List ℕ) → AreNew m ps →
 new_lacks m [] k new any = absurd (false≢true any)
 new_lacks m (p ∷ ps) k new any = by (eq_by_cmp order k p.key) refl (λ later. new_lacks (maps.insert m p.key p.value) ps k new.1 later) any
   where
-    by : (b : Bool) → eq_by_cmp order k p.key ≡ b → (list_any (λ (p : Pair). eq_by_cmp order k p.key) ps ≡ true → is_some (maps.get (maps.insert m p.key p.value) k) ≡ false) → (b || list_any (λ (p : Pair). eq_by_cmp order k p.key) ps) ≡ true → is_some (maps.get m k) ≡ false
+    by : (b : Bool) → eq_by_cmp order k p.key ≡ b → (list_any (λ (p : Pair). eq_by_cmp order k p.key) ps ≡ true → is_some
+        (maps.get (maps.insert m p.key p.value) k) ≡ false) → (b || list_any (λ (p : Pair). eq_by_cmp order k p.key) ps) ≡ true → is_some (maps.get m k) ≡ false
     by true same later any = ap (λ q. is_some (maps.get m q)) (same_key k p.key same) ∙ ap is_some new.0
     by false other later any = ap is_some (sym (get-insert nat_list_cmp_total m p.key p.value k ∙ ap (λ b. cond b (Some p.value) (maps.get m k)) other))
         ∙ later any
@@ -177,7 +178,9 @@ module _ (s : State) (names : List (List ℕ)) (store : IsMidway s names) (pairs
           let any = keys_same a.key low xs (λ j d lt. known (suc j) d (omega (arith, lt))) ∙ in_assigned a.key xs i in
           let none = new_lacks (maps.insert m (pair_in names pairs a).key (pair_in names pairs a).value) (map (pair_in names pairs) xs) (text s.records a.key)
           new.1 any in
-          let here = ap is_some (get-insert nat_list_cmp_total m (pair_in names pairs a).key (pair_in names pairs a).value (text s.records a.key) ∙ ap (λ b. cond b (Some (pair_in names pairs a).value) (maps.get m (text s.records a.key))) (key_test a.key low a (known 0 a (omega arith)) ∙ eq_true a.key a.key refl)) in
+          let here = ap is_some (get-insert nat_list_cmp_total m (pair_in names pairs a).key (pair_in names pairs a).value (text s.records a.key) ∙ ap
+          (λ b. cond b (Some (pair_in names pairs a).value) (maps.get m (text s.records a.key))) (key_test a.key low a (known 0 a (omega arith))
+          ∙ eq_true a.key a.key refl)) in
           false≢true (sym none ∙ here)
 
 pub assigned_once : (s : State) (names : List (List ℕ)) (pairs : List Pair) (assigned : List Assignment) → IsMidway s names → AreAssigned names pairs assigned
@@ -216,7 +219,12 @@ module _ (s : State) (names : List (List ℕ)) (store : IsStore s names) (label 
   one_gets : (d : ℕ) → In d ds → of_definition s.records weigh d ≡ (if gets d then 3 else 0)
   one_gets d i =
       let low = (apart s.records store.store.store.defined (wanted_in s.records) store.store.indexes).named d i in
-      rw (text_test (rec_at s.records format.names_file) (high s.records format.names_file) store.store.store.names (indexed_label s.records d) label low.0 label_low, has_given (indexed_key s.records d) low.1, no_key (text s.records (indexed_key s.records d)))
+      rw (
+        text_test (rec_at s.records format.names_file) (high s.records format.names_file) store.store.store.names (indexed_label s.records d)
+            label low.0 label_low,
+        has_given (indexed_key s.records d) low.1,
+        no_key (text s.records (indexed_key s.records d)),
+      )
       (by (nat_eq (indexed_label s.records d) label) (given (indexed_key s.records d)))
     where
       by : (a b : Bool) → (if a && true then 0 + (if b then 3 else 0) else 0) ≡ (if a && b then 3 else 0)
@@ -236,7 +244,8 @@ module _ (s : State) (names : List (List ℕ)) (store : IsStore s names) (label 
       ∙ sym (ap length (map_filter listed assigned)) ∙ length-map (indexed_of (map (pair_of s.records) ds) label assigned) (λ (a : Assignment). a.key)
     where
       once : AreOnce (map (indexed_key s.records) (filter gets ds))
-      once = once_map (indexed_key s.records) (filter gets ds) (once_filter gets ds (apart s.records store.store.store.defined (wanted_in s.records) store.store.indexes).once)
+      once = once_map (indexed_key s.records) (filter gets ds) (once_filter gets ds (apart s.records store.store.store.defined (wanted_in s.records)
+          store.store.indexes).once)
           (λ d e i j same.
           let p = in_filter gets d ds i in
           let q = in_filter gets e ds j in
@@ -251,7 +260,8 @@ module _ (s : State) (names : List (List ℕ)) (store : IsStore s names) (label 
           let both = and_parts (nat_eq (indexed_label s.records r.0) label) (given (indexed_key s.records r.0)) p.1 in
           let given_k = subst (λ z. given z ≡ true) (sym r.2) both.1 in
           filter_in listed k (map (λ (a : Assignment). a.key) assigned) (assigned_in s names (midway s names store) pairs k assigned given_k)
-          (listed_among s.records ds label k ∙ in_any (has_pair s.records label k) r.0 ds p.0 (rw (both.0, eq_true (indexed_key s.records r.0) k (sym r.2)) refl))
+          (listed_among s.records ds label k ∙ in_any (has_pair s.records label k) r.0 ds p.0 (rw (both.0, eq_true (indexed_key s.records r.0) k (sym r.2))
+          refl))
 
       back : (k : ℕ) → In k (filter listed (map (λ (a : Assignment). a.key) assigned)) → In k (map (indexed_key s.records) (filter gets ds))
       back k m =
@@ -260,7 +270,11 @@ module _ (s : State) (names : List (List ℕ)) (store : IsStore s names) (label 
           let q = pair_is s.records label k found.0 found.2 in
           let own = in_assigned s names (midway s names store) pairs k assigned p.0 in
           subst (λ z. In z (map (indexed_key s.records) (filter gets ds))) q.1
-          (image_in (indexed_key s.records) found.0 (filter gets ds) (filter_in gets found.0 ds found.1 (rw (eq_true (indexed_label s.records found.0) label q.0, ap given q.1 ∙ own) refl)))
+          (image_in (indexed_key s.records) found.0 (filter gets ds) (filter_in gets found.0 ds found.1 (rw (
+            eq_true (indexed_label s.records found.0)
+                label q.0,
+            ap given q.1 ∙ own,
+          ) refl)))
 
   pub added_weighs : entries_weight (graph_in s) (text s.records label) (λ key. true) no_properties (with_pairs no_properties pairs) ≡ 3 * length
       (indexed_of (map (pair_of s.records) ds) label assigned)
@@ -278,11 +292,17 @@ module _ (s : State) (names : List (List ℕ)) (store : IsStore s names) (label 
       (indexes_of s.records)
       ∙ sum_indexes s.records store.store.store.defined (wanted_in s.records) store.store.indexes
       (λ (index : Index). if is_text index.label (text s.records label) && is_some (maps.get (with_pairs no_properties pairs) index.key) then 1 else 0)
-      ∙ sum_same (of_definition s.records (λ (index : Index). if is_text index.label (text s.records label) && is_some (maps.get (with_pairs no_properties pairs) index.key) then 1 else 0)) (λ d. if gets d then 1 else 0) ds one_counts
+      ∙ sum_same (of_definition s.records (λ (index : Index). if is_text index.label (text s.records label) && is_some
+      (maps.get (with_pairs no_properties pairs) index.key) then 1 else 0)) (λ d. if gets d then 1 else 0) ds one_counts
       ∙ units gets ds
       ∙ as_many
     where
-      one_counts : (d : ℕ) → In d ds → of_definition s.records (λ (index : Index). if is_text index.label (text s.records label) && is_some (maps.get (with_pairs no_properties pairs) index.key) then 1 else 0) d ≡ (if gets d then 1 else 0)
+      one_counts : (d : ℕ) → In d ds → of_definition s.records (λ (index : Index). if is_text index.label (text s.records label) && is_some
+          (maps.get (with_pairs no_properties pairs) index.key) then 1 else 0) d ≡ (if gets d then 1 else 0)
       one_counts d i =
           let low = (apart s.records store.store.store.defined (wanted_in s.records) store.store.indexes).named d i in
-          rw (text_test (rec_at s.records format.names_file) (high s.records format.names_file) store.store.store.names (indexed_label s.records d) label low.0 label_low, has_given (indexed_key s.records d) low.1) refl
+          rw (
+            text_test (rec_at s.records format.names_file) (high s.records format.names_file) store.store.store.names (indexed_label s.records d)
+                label low.0 label_low,
+            has_given (indexed_key s.records d) low.1,
+          ) refl

@@ -42,12 +42,27 @@ clash e = cc
 
 pub node_joined : (limit : ℕ) (graph : Graph) (id d : ℕ) → has_node graph id ≡ true → degree_in graph id ≢ 0
     → IsRefusal limit graph (commands.Delete (targets.Node id)) (HasRelationships id d)
-node_joined limit graph id d there some = inr (λ o z. z, inr (λ o z. z, inr (λ o z. z, inr (λ o z. z, inr (λ o z. clash (sym there ∙ z.0), inr (λ o z. z, inl (some, refl)))))))
+node_joined limit graph id d there some = inr
+    (λ o z. z, inr (λ o z. z, inr (λ o z. z, inr (λ o z. z, inr (λ o z. clash (sym there ∙ z.0), inr (λ o z. z, inl (some, refl)))))))
 
 node_free : (limit : ℕ) (graph : Graph) (id : ℕ) → has_node graph id ≡ true → degree_in graph id ≡ 0
     → NoReason change_reasons limit graph (commands.Delete (targets.Node id))
-node_free limit graph id there lone =
-    (λ o z. z, (λ o z. z, (λ o z. z, (λ o z. z, (λ o z. clash (sym there ∙ z.0), (λ o z. z, (λ o z. z.0 lone, (λ o z. z, (λ o z. z, (λ o z. z, (λ o z. z, (λ o z. z, (λ o z. z, (λ o z. z, (λ o z. z, (λ o z. z, tt))))))))))))))))
+node_free limit graph id there lone = (
+  λ o z. z,
+  (
+    λ o z. z,
+    (
+      λ o z. z,
+      (
+        λ o z. z,
+        (
+          λ o z. clash (sym there ∙ z.0),
+          (λ o z. z, (λ o z. z.0 lone, (λ o z. z, (λ o z. z, (λ o z. z, (λ o z. z, (λ o z. z, (λ o z. z, (λ o z. z, (λ o z. z, (λ o z. z, tt))))))))))),
+        ),
+      ),
+    ),
+  ),
+)
 
 -- ---- the store after the properties of an element were taken away
 module _ (s u : State) (names : List (List ℕ)) (dropped : Dropped) (store : IsMidway s names) where
@@ -63,7 +78,8 @@ module _ (s u : State) (names : List (List ℕ)) (dropped : Dropped) (store : Is
       used_still = fr.used_now s.records u.records s.shape format.nodes_file id h.changes.before h.changes.after h.changes.changes
 
       bare : IsBare u.records id
-      bare = is_bare u.records u.shape node_store.store id used_still (fr.degrees_same s.records u.records s.shape format.nodes_file id h.changes.before h.changes.after h.changes.changes id ∙ lone) h.bare
+      bare = is_bare u.records u.shape node_store.store id used_still (fr.degrees_same s.records u.records s.shape format.nodes_file id h.changes.before
+          h.changes.after h.changes.changes id ∙ lone) h.bare
 
       pub node_gone : IsGone u.records t.records u.shape format.nodes_file id
       node_gone =

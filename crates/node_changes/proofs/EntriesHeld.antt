@@ -44,7 +44,8 @@ pub held_met : (records : Records) (label node : ℕ) (pair : IndexPair) → pai
     → label ≡ field 4 (rec_at records format.nodes_file node) format.node_label → (o : Option Value) → met records node pair.key ≡ o
     → held_at records label node pair ≡ held_if label pair.key node o
 held_met records label node pair same used is o here =
-    rw (eq_true pair.label label same) (ap (λ (v : Option Value). cond (is_some v) (held_as v) nothing) (own_met records node label pair.key used is ∙ here) ∙ by o)
+    rw (eq_true pair.label label same) (ap (λ (v : Option Value). cond (is_some v) (held_as v) nothing) (own_met records node label pair.key used is ∙ here)
+    ∙ by o)
   where
     nothing : Option IndexedValue
     nothing = None

@@ -126,7 +126,8 @@ module _ (listed : List IndexPair) (label node : ℕ) (pairs : List Pair) where
 
     -- before any has come
     pub entered_none : (s : Records) (ix : AreIndexed s wanted) → listed ≡ map (pair_of s) ix.definitions → AreIndexed s (entries_at 0)
-    entered_none s ix are = indexed_same s wanted (entries_at 0) ix (λ d e i l k. by e (nat_eq e.label label) refl (ap (λ ps. is_listed ps e.label e.key) are ∙ listed_in s ix.definitions d e.label e.key i l k))
+    entered_none s ix are = indexed_same s wanted (entries_at 0) ix (λ d e i l k. by e (nat_eq e.label label) refl (ap (λ ps. is_listed ps e.label e.key) are
+        ∙ listed_in s ix.definitions d e.label e.key i l k))
       where
         and_none : (b w : Bool) → ((b && false) || w) ≡ w
         and_none true w = refl
@@ -148,7 +149,8 @@ module _ (listed : List IndexPair) (label node : ℕ) (pairs : List Pair) where
           → entries_at i (entry_of label this.key node v) ≡ false
       entered_lacks there lacks once v =
           let none : gives_hash pairs (settled listed label assigned i) this.key (hash_of v) ≡ false
-          = given_at i this.key (hash_of v) ∙ (λ k. gives_no (take i assigned) is_indexed this.key (hash_of v) (fresh_key assigned i d lt once) k || others_none assigned this.key (hash_of v) there k) in
+          = given_at i this.key (hash_of v) ∙ (λ k. gives_no (take i assigned) is_indexed this.key (hash_of v) (fresh_key assigned i d lt once) k || others_none
+          assigned this.key (hash_of v) there k) in
           rw (eq_true label label refl, eq_true node node refl, none) (lacks label this.key (hash_of v))
 
       more : (l k n h a u w : Bool) → ((l && (k && (n && h))) || ((l && (n && (a || u))) || w)) ≡ ((l && (n && ((a || ((k && h) || false)) || u))) || w)
@@ -171,8 +173,10 @@ module _ (listed : List IndexPair) (label node : ℕ) (pairs : List Pair) where
           given key hash = λ k. flip this.key key k && (ap (λ u. nat_eq (hash_of u) hash) (sym is) ∙ flip (hash_of v) hash) k
 
           now : (key hash : ℕ) → gives_hash pairs (settled listed label assigned (i + 1)) key hash
-              ≡ ((list_any (gives key hash) (indexed_of listed label (take i assigned)) || ((nat_eq key this.key && nat_eq hash (hash_of v)) || false)) || list_any (gives key hash) (others_of assigned))
-          now key hash = given_at (i + 1) key hash ∙ ap (λ (xs : List Assignment). list_any (gives key hash) xs || list_any (gives key hash) (others_of assigned))
+              ≡ ((list_any (gives key hash) (indexed_of listed label (take i assigned)) || ((nat_eq key this.key && nat_eq hash (hash_of v)) || false))
+              || list_any (gives key hash) (others_of assigned))
+          now key hash = given_at (i + 1) key hash ∙ ap (λ (xs : List Assignment). list_any (gives key hash) xs || list_any (gives key hash)
+              (others_of assigned))
               (filter_more is_indexed assigned i d lt ∙ ap (λ b. indexed_of listed label (take i assigned) ++ cond b (this ∷ []) []) there)
               ∙ ap (λ b. b || list_any (gives key hash) (others_of assigned))
               (list_any-append (gives key hash) (indexed_of listed label (take i assigned)) (this ∷ [])
@@ -188,7 +192,8 @@ module _ (listed : List IndexPair) (label node : ℕ) (pairs : List Pair) where
       -- one that has no index is passed over
       pub settled_skip : is_indexed this ≡ false → settled listed label assigned (i + 1) ≡ settled listed label assigned i
       settled_skip none = ap (λ (xs : List Assignment). xs ++ others_of assigned)
-          (filter_more is_indexed assigned i d lt ∙ ap (λ b. indexed_of listed label (take i assigned) ++ cond b (this ∷ []) []) none ∙ append_nil (indexed_of listed label (take i assigned)))
+          (filter_more is_indexed assigned i d lt ∙ ap (λ b. indexed_of listed label (take i assigned) ++ cond b (this ∷ []) []) none ∙ append_nil
+          (indexed_of listed label (take i assigned)))
         where
           append_nil : (xs : List Assignment) → (xs ++ []) ≡ xs
           append_nil [] = refl
@@ -203,7 +208,8 @@ module _ (listed : List IndexPair) (label node : ℕ) (pairs : List Pair) where
     entered_all i le t ix = subst (AreIndexed t) (λ k e. ap (λ g. (nat_eq e.label label && (nat_eq e.node node && g)) || wanted e) (all e.key e.hash) k) ix
       where
         all : (key hash : ℕ) → gives_hash pairs (settled listed label assigned i) key hash ≡ gives_hash pairs assigned key hash
-        all key hash = given_at i key hash ∙ ap (λ (xs : List Assignment). list_any (gives key hash) (indexed_of listed label xs) || list_any (gives key hash) (others_of assigned)) (take_all i assigned le)
+        all key hash = given_at i key hash ∙ ap (λ (xs : List Assignment). list_any (gives key hash) (indexed_of listed label xs) || list_any (gives key hash)
+            (others_of assigned)) (take_all i assigned le)
             ∙ any_parts (gives key hash) is_indexed assigned
 
 -- the first assignments are in the indexes

@@ -89,7 +89,11 @@ module _ (n u v : State) (names : List (List ℕ)) (target : Target) (key : List
 
   -- the store is one again
   rest : IsMidway v names
-  rest = record { store = made.keeps; names = store.names ∙ sym (names_beside u.records v.records made.beside ∙ ap (λ (g : Graph). g.names) removes.graph ∙ without_names (target_of (owner_of target)) (text_at n number)) }
+  rest = record {
+    store = made.keeps;
+    names = store.names ∙ sym (names_beside u.records v.records made.beside ∙ ap (λ (g : Graph). g.names) removes.graph
+        ∙ without_names (target_of (owner_of target)) (text_at n number));
+  }
     where
       without_names : (t : Target) (k : List ℕ) → (without_value (graph_in n) t k).names ≡ (graph_in n).names
       without_names (targets.Node x) k = refl
@@ -164,7 +168,8 @@ pub unset_edge : (n u v : State) (names : List (List ℕ)) (id : ℕ) (key : Lis
 unset_edge n u v names id key number store there at owned has released removes alone held made none =
     unset_made n u v names (targets.Edge id) key number store there at owned has released removes alone held made (record {
       indexed = subst (λ (z : State). AreIndexed z.records (wanted_in z.records)) (sym (made.idle none))
-          (properties_keep n u n.shape format.relationships_file id removes.changes.before removes.changes.after removes.changes.changes refl store.store.store store.store.indexes);
+          (properties_keep n u n.shape format.relationships_file id removes.changes.before removes.changes.after removes.changes.changes refl store.store.store
+          store.store.indexes);
       weighs = sym (ap old_weight none);
     })
 
@@ -192,7 +197,11 @@ module _ (s : State) (old : List (List ℕ)) (target : Target) (key : List ℕ) 
   set_text = number_text n new number key kept.store at
 
   set_rest : IsMidway v new
-  set_rest = record { store = made.keeps; names = kept.store.names ∙ sym (names_beside u.records v.records made.beside ∙ ap (λ (g : Graph). g.names) sets.graph ∙ with_names (target_of (owner_of target)) (text_at n number)) }
+  set_rest = record {
+    store = made.keeps;
+    names = kept.store.names ∙ sym (names_beside u.records v.records made.beside ∙ ap (λ (g : Graph). g.names) sets.graph
+        ∙ with_names (target_of (owner_of target)) (text_at n number));
+  }
     where
       with_names : (t : Target) (k : List ℕ) → (with_value (graph_in n) t k value).names ≡ (graph_in n).names
       with_names (targets.Node x) k = refl
@@ -204,8 +213,15 @@ module _ (s : State) (old : List (List ℕ)) (target : Target) (key : List ℕ) 
   -- the element has in s what it has in n
   weighs_same : (t : Target) → element_weight (graph_in s) t (is_text key) (maps.insert (properties_at (graph_in s) t) key value) ≡ element_weight (graph_in n)
       t (is_text key) (maps.insert (properties_at (graph_in n) t) key value)
-  weighs_same (targets.Node id) = λ i. element_weight (record { nodes = sym kept.nodes i; edges = (graph_in n).edges; names = (graph_in n).names; indexes = sym kept.indexes i }) (targets.Node id) (is_text key)
-      (maps.insert (properties_at (record { nodes = sym kept.nodes i; edges = (graph_in n).edges; names = (graph_in n).names; indexes = sym kept.indexes i }) (targets.Node id)) key value)
+  weighs_same (targets.Node id) = λ i. element_weight (record {
+    nodes = sym kept.nodes i;
+    edges = (graph_in n).edges;
+    names = (graph_in n).names;
+    indexes = sym
+        kept.indexes i;
+  }) (targets.Node id) (is_text key)
+      (maps.insert (properties_at (record { nodes = sym kept.nodes i; edges = (graph_in n).edges; names = (graph_in n).names; indexes = sym kept.indexes i })
+      (targets.Node id)) key value)
   weighs_same (targets.Edge id) = refl
 
   record SetEnds (t : Target) : Type 0 where
@@ -252,7 +268,8 @@ module _ (s : State) (old : List (List ℕ)) (id : ℕ) (key : List ℕ) (value 
   put = maps.insert (properties_at (graph_in n) (targets.Node id)) key value
 
   three : entry_weight put key ≡ 3
-  three = ap (λ o. if is_some o then 3 else 0) (get-insert nat_list_cmp_total (properties_at (graph_in n) (targets.Node id)) key value key ∙ ap (λ b. cond b (Some value) (maps.get (properties_at (graph_in n) (targets.Node id)) key)) ((eq_by_cmp_equiv nat_list_cmp_total).refl key))
+  three = ap (λ o. if is_some o then 3 else 0) (get-insert nat_list_cmp_total (properties_at (graph_in n) (targets.Node id)) key value key ∙ ap
+      (λ b. cond b (Some value) (maps.get (properties_at (graph_in n) (targets.Node id)) key)) ((eq_by_cmp_equiv nat_list_cmp_total).refl key))
 
   new_weighs : (h : Option IndexedValue) → cond (is_some h) 3 0 ≡ new_weight h
   new_weighs None = refl
@@ -263,11 +280,13 @@ module _ (s : State) (old : List (List ℕ)) (id : ℕ) (key : List ℕ) (value 
   set_node last_shape = set_made s old (targets.Node id) key value store there n u v new number uses kept few at whole.store.indexes owned has released sets
       shape held made (record {
         indexed = held_again n u v id number old_value (Some value) whole.store.indexes put_change made.beside held is
-            (file_idle n u v held (set_index s old (targets.Node id) key value store there n u v new number uses kept few at whole.store.indexes owned has released sets shape held made) made.idle)
+            (file_idle n u v held (set_index s old (targets.Node id) key value store there n u v new number uses kept few at whole.store.indexes owned has
+            released sets shape held made) made.idle)
             (subst (AreIndexed v.records) (new_held (wanted_in n.records) held value) made.indexed);
         weighs = ap (λ k. element_weight (graph_in n) (targets.Node id) (is_text k) put) (sym put_text)
             ∙ held_weighs n id number has.used whole.store put_low put_known put held is
-            ∙ ap (λ w. old_weight held + w) (ap (λ k. cond (is_some held) (entry_weight put k) 0) put_text ∙ ap (λ w. cond (is_some held) w 0) three ∙ new_weighs held);
+            ∙ ap (λ w. old_weight held + w) (ap (λ k. cond (is_some held) (entry_weight put k) 0) put_text ∙ ap (λ w. cond (is_some held) w 0) three
+            ∙ new_weighs held);
         fits = λ last graph o full.
             let room = indexes_fit v last.store in
             let is = ap index_records graph in
@@ -290,7 +309,8 @@ set_edge s old id key value store there n u v new number uses kept few at whole 
     set_made s old (targets.Edge id) key value store there n u v new number uses kept few at whole.store.indexes owned has released sets shape held made
     (record {
       indexed = subst (λ (z : State). AreIndexed z.records (wanted_in z.records)) (sym (made.idle none))
-          (properties_keep n u n.shape format.relationships_file id sets.changes.before sets.changes.after sets.changes.changes refl whole.store.store whole.store.indexes);
+          (properties_keep n u n.shape format.relationships_file id sets.changes.before sets.changes.after sets.changes.changes refl whole.store.store
+          whole.store.indexes);
       weighs = sym (ap (λ h. old_weight h + new_weight h) none);
       fits = λ last graph o full. full;
     })
@@ -300,7 +320,8 @@ set_edge s old id key value store there n u v new number uses kept few at whole 
 -- the indexes are of what the nodes had before the element's properties changed
 pub indexes_between : (n u : State) (owner : Owner) → ChangesElement n u owner → AreIndexed n.records (wanted_in n.records)
     → AreIndexed u.records (wanted_in n.records)
-indexes_between n u owner change = indexes_stay n.records u.records (properties_index n.records u.records n.shape owner.key.file owner.key.id change.before change.after change.changes) (wanted_in n.records)
+indexes_between n u owner change = indexes_stay n.records u.records (properties_index n.records u.records n.shape owner.key.file owner.key.id change.before
+    change.after change.changes) (wanted_in n.records)
 
 pub unset_any : (n u v : State) (names : List (List ℕ)) (target : Target) (key : List ℕ) (number : ℕ) (store : IsStore n names)
     (there : has_element (graph_in n) target ≡ true) (at : slice_get names number ≡ Some key)

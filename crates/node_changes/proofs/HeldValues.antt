@@ -34,7 +34,8 @@ module _ (s u v : Records) (label key id : ℕ) (old new : Option Value) (change
           ⊎ ((e.key ≢ key) ⊎ (e.node ≢ id))
       apart d e i l k = ⊎_elim
           (λ (a : e.label ≡ label). ⊎_elim
-          (λ (b : e.key ≡ key). absurd (true≢false (sym (in_any (has_pair v label key) d ix.definitions i (rw (eq_true (indexed_label v d) label (sym l ∙ a), eq_true (indexed_key v d) key (sym k ∙ b)) refl)) ∙ none)))
+          (λ (b : e.key ≡ key). absurd (true≢false (sym (in_any (has_pair v label key) d ix.definitions i
+          (rw (eq_true (indexed_label v d) label (sym l ∙ a), eq_true (indexed_key v d) key (sym k ∙ b)) refl)) ∙ none)))
           (λ (b : e.key ≢ key). inr (inl b)) (nat_cases e.key key))
           (λ (a : e.label ≢ label). inl a) (nat_cases e.label label)
 

@@ -88,10 +88,12 @@ module _ (s u v : State) (id key : ℕ) (old new : Option Value) (ix : AreIndexe
       → AreIndexed v.records (with_held (wanted_in s.records) held new) → AreIndexed v.records (wanted_in v.records)
   held_again None is same iy =
       unlisted_again s.records u.records v.records (label_at s.records id) key id old new change beside iy
-      (among_same s.records v.records (same refl) (wanted_in s.records) (wanted_in s.records) ix iy (label_at s.records id) key ∙ sym (listed_among s.records ix.definitions (label_at s.records id) key) ∙ is)
+      (among_same s.records v.records (same refl) (wanted_in s.records) (wanted_in s.records) ix iy (label_at s.records id) key ∙ sym
+      (listed_among s.records ix.definitions (label_at s.records id) key) ∙ is)
   held_again (Some held) is same iy =
       listed_again s.records u.records v.records (label_at s.records id) key id old new change beside
-      (subst (AreIndexed v.records) (λ i. with_value (without_value (wanted_in s.records) (label_is i) (is.1 i) (is.0 i) (value_is i)) (label_is i) (is.1 i) (is.0 i) new) iy)
+      (subst (AreIndexed v.records) (λ i. with_value (without_value (wanted_in s.records) (label_is i) (is.1 i) (is.0 i) (value_is i)) (label_is i) (is.1 i)
+      (is.0 i) new) iy)
     where
       label_is : held.label ≡ label_at s.records id
       label_is = is.2
@@ -102,7 +104,8 @@ module _ (s u v : State) (id key : ℕ) (old new : Option Value) (ix : AreIndexe
 -- what the entries weigh
 module _ (s : State) (id key : ℕ) (used : kind_at s.records format.nodes_file id ≢ format.free_kind) (store : IsIndexed s.records s.shape)
     (low : key < high s.records format.names_file)
-    (known : is_some (maps.get (properties_at (graph_of s.records) (targets.Node id)) (text s.records key)) ≡ is_some (node_value s.records (label_at s.records id) key id)) where
+    (known : is_some (maps.get (properties_at (graph_of s.records) (targets.Node id)) (text s.records key)) ≡ is_some
+    (node_value s.records (label_at s.records id) key id)) where
   abbrev before : Properties
   before = properties_at (graph_of s.records) (targets.Node id)
 
@@ -117,8 +120,10 @@ module _ (s : State) (id key : ℕ) (used : kind_at s.records format.nodes_file 
   held_weighs after (Some held) is =
       key_weighs s.records id used s.shape store.store (wanted_in s.records) store.indexes key low after
       ∙ ap (λ b. cond b (entry_weight before (text s.records key) + entry_weight after (text s.records key)) 0)
-      (sym (listed_among s.records store.indexes.definitions (label_at s.records id) key) ∙ ap (λ l. is_listed (map (pair_of s.records) store.indexes.definitions) l key) (sym is.2) ∙ is.3)
-      ∙ ap (λ n. n + entry_weight after (text s.records key)) (ap (λ b. if b then 3 else 0) known ∙ by (node_value s.records (label_at s.records id) key id) ∙ ap value_weight (sym (is.4 ∙ ap (λ l. node_value s.records l key id) is.2)))
+      (sym (listed_among s.records store.indexes.definitions (label_at s.records id) key) ∙ ap
+      (λ l. is_listed (map (pair_of s.records) store.indexes.definitions) l key) (sym is.2) ∙ is.3)
+      ∙ ap (λ n. n + entry_weight after (text s.records key)) (ap (λ b. if b then 3 else 0) known ∙ by (node_value s.records (label_at s.records id) key id)
+      ∙ ap value_weight (sym (is.4 ∙ ap (λ l. node_value s.records l key id) is.2)))
     where
       by : (o : Option Value) → (if is_some o then 3 else 0) ≡ value_weight o
       by None = refl

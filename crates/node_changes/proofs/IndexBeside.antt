@@ -49,7 +49,11 @@ module _ (s t : Records) (beside : KeepsBesideIndex s t) where
       (rel_in (file_same format.relationships_file refl (λ e. omega arith) i x) x)
 
   pub files_same : property_records t ≡ property_records s
-  files_same = λ i. record { properties = file_same format.properties_file refl (λ e. omega arith) i; strings = file_same format.strings_file refl (λ e. omega arith) i }
+  files_same = λ i. record {
+    properties = file_same format.properties_file refl (λ e. omega arith) i;
+    strings = file_same format.strings_file refl
+        (λ e. omega arith) i;
+  }
 
   -- the nodes have the values that they had
   pub wanted_beside : wanted_in t ≡ wanted_in s
@@ -86,7 +90,10 @@ among_index (x ∷ ids) q (inl e) = inl (ap (λ (k : Key). k.file) e)
 among_index (x ∷ ids) q (inr i) = among_index ids q i
 
 pub touched_beside : {tells : Type 0} (most : ℕ) (s t : State) → tells → TouchesIndex tells most s t → KeepsBesideIndex s.records t.records
-touched_beside most s t told touches = record { others = λ key file meta. ⊎_elim (λ e. e) (λ i. absurd (⊎_elim file meta (among_index touches.ids key i))) ((touches.only.stays told).each key) }
+touched_beside most s t told touches = record {
+  others = λ key file meta. ⊎_elim (λ e. e) (λ i. absurd (⊎_elim file meta (among_index touches.ids key i)))
+      ((touches.only.stays told).each key);
+}
 
 own_index : (ids : List ℕ) → AreOwn (map (key_in format.index_file) ids)
 own_index [] = tt
@@ -103,4 +110,5 @@ pub index_written : {tells : Type 0} (most : ℕ) (s t : State) → TouchesIndex
 index_written most s t touches =
     let few = touches.few in
     let same = length-map touches.ids (key_in format.index_file) in
-    more_written (omega (arith, few, same)) (some_written s t (map (key_in format.index_file) touches.ids) (index_keys touches.ids) (own_index touches.ids) (parts_index touches.ids) touches.only.writes)
+    more_written (omega (arith, few, same)) (some_written s t (map (key_in format.index_file) touches.ids) (index_keys touches.ids) (own_index touches.ids)
+    (parts_index touches.ids) touches.only.writes)

@@ -42,5 +42,9 @@ module _ (s t : Records) (beside : IsSameBeside format.names_file s t) where
   pub count_kept : (l k : ℕ) → count_of t l k ≡ count_of s l k
   count_kept = count_same s t
       (λ i x. row_if (kind_in (mark_kept i) (nodes_kept.records i x) x) (node_in (nodes_kept.records i x) x))
-      (λ i. record { properties = (file_kept format.properties_file (λ e. omega arith) (λ e. omega arith)).records i; strings = (file_kept format.strings_file (λ e. omega arith) (λ e. omega arith)).records i })
+      (λ i. record {
+        properties = (file_kept format.properties_file (λ e. omega arith) (λ e. omega arith)).records i;
+        strings = (file_kept format.strings_file
+            (λ e. omega arith) (λ e. omega arith)).records i;
+      })
       mark_kept

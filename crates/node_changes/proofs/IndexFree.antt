@@ -32,7 +32,8 @@ listed_in (p ∷ ps) l k has = ⊎_elim
 module _ (s m : Records) (file : IsSameFile s m format.index_file) where
   walks_same : (xs ys : List ℕ) → IsWalk (next_definition s) (first_definition s) xs → IsWalk (next_definition m) (first_definition m) ys → ys ≡ xs
   walks_same xs ys was is = walk_is (next_definition s) (first_definition s) ys xs
-      (subst (λ (p : (ℕ → Rec) × Rec). IsWalk (λ d. field 4 (p.0 d) format.definition_next) (field 4 p.1 format.meta_definition) ys) (λ i. (file.records i, file.meta i)) is) was
+      (subst (λ (p : (ℕ → Rec) × Rec). IsWalk (λ d. field 4 (p.0 d) format.definition_next) (field 4 p.1 format.meta_definition) ys)
+      (λ i. (file.records i, file.meta i)) is) was
 
   -- the chain leads to the same pairs
   pairs_same : (old now : List IndexPair) → ArePairsMet s old → ArePairsMet m now → now ≡ old
@@ -48,7 +49,8 @@ module _ (s m : Records) (file : IsSameFile s m format.index_file) where
     pub none_there : (l k : ℕ) → (free.pair.label ≡ l) × (free.pair.key ≡ k) → ¬ HasPairMet m l k
     none_there l k same there =
         let listed = listed_in there.pairs l k there.there in
-        false≢true (sym free.unlisted ∙ (λ i. is_listed free.pairs (same.0 i) (same.1 i)) ∙ ap (λ ps. is_listed ps l k) (sym (pairs_same free.pairs there.pairs free.met there.met)) ∙ listed)
+        false≢true (sym free.unlisted ∙ (λ i. is_listed free.pairs (same.0 i) (same.1 i)) ∙ ap (λ ps. is_listed ps l k)
+        (sym (pairs_same free.pairs there.pairs free.met there.met)) ∙ listed)
 
     -- they aren't as many as there may be
     pub few_there : ¬ AreManyMet m

@@ -51,7 +51,8 @@ module _ (m t : State) (l k : ℕ) (was : IsIndexed m.records m.shape) (made : W
       defined_among t.records (wanted_in t.records) made.store.indexes a b
       ∙ sym (listed_among t.records made.store.indexes.definitions a b)
       ∙ ap (λ ps. is_listed ps a b) made.pairs
-      ∙ ap (λ z. (nat_eq l a && nat_eq k b) || z) (listed_among m.records was.indexes.definitions a b ∙ sym (defined_among m.records (wanted_in m.records) was.indexes a b))
+      ∙ ap (λ z. (nat_eq l a && nat_eq k b) || z) (listed_among m.records was.indexes.definitions a b ∙ sym (defined_among m.records (wanted_in m.records)
+      was.indexes a b))
 
   -- rows of the table of pairs
   abbrev old : ℕ → ℕ → Option Index
@@ -63,7 +64,8 @@ module _ (m t : State) (l k : ℕ) (was : IsIndexed m.records m.shape) (made : W
   places : (x : ℕ) → x < mark → place_in (names_of m.records) (text m.records x) ≡ x
   places x lt =
       place_at (names_of m.records) x (text m.records x) (first-names_of m.records x lt) (test x x lt lt ∙ eq_true x x refl)
-      (λ j other low at. ap (λ y. is_text y (text m.records x)) (inner other (text m.records j) (sym at ∙ first-names_of m.records j (omega (arith, low, lt)))) ∙ test j x (omega (arith, low, lt)) lt ∙ eq_false j x (λ e. omega (arith, low, e)))
+      (λ j other low at. ap (λ y. is_text y (text m.records x)) (inner other (text m.records j) (sym at ∙ first-names_of m.records j (omega (arith, low, lt))))
+      ∙ test j x (omega (arith, low, lt)) lt ∙ eq_false j x (λ e. omega (arith, low, e)))
     where
       test : (a b : ℕ) → a < mark → b < mark → is_text (text m.records a) (text m.records b) ≡ nat_eq a b
       test = text_test (rec_at m.records format.names_file) mark was.store.names
@@ -86,7 +88,8 @@ module _ (m t : State) (l k : ℕ) (was : IsIndexed m.records m.shape) (made : W
     is_below : (a b : ℕ) (e : Index) → a < mark → b < mark → old a b ≡ Some e → (a < l) ⊎ ((a ≡ l) × (b < k)) → is_before (names_of m.records) one e ≡ false
     is_below a b e al bl is lower = ap (is_before (names_of m.records) one) (sym (some_index (is_defined m.records a b) a b e is)) ∙ before a b al bl ∙ ⊎_elim
         (λ (lt : a < l). λ i. lt_false l a (omega arith) i || (eq_false l a (λ e. omega (arith, lt, e)) i && nat_lt k b))
-        (λ (q : (a ≡ l) × (b < k)). let qa = q.0 in let qb = q.1 in (λ i. lt_false l a (omega (arith, qa)) i || (nat_eq l a && lt_false k b (omega (arith, qb)) i)) ∙ last (nat_eq l a)) lower
+        (λ (q : (a ≡ l) × (b < k)). let qa = q.0 in let qb = q.1 in (λ i. lt_false l a (omega (arith, qa)) i || (nat_eq l a && lt_false k b (omega (arith, qb))
+        i)) ∙ last (nat_eq l a)) lower
       where
         last : (z : Bool) → (false || (z && false)) ≡ false
         last true = refl
@@ -116,5 +119,6 @@ module _ (m t : State) (l k : ℕ) (was : IsIndexed m.records m.shape) (made : W
     -- the new index has its place among those that were there
     pub index_placed : indexes_of t.records ≡ with_index (names_of m.records) one (indexes_of m.records)
     index_placed =
-        (λ i. flat_map (λ a. collect (λ b. if defined_now a b i then Some (record { label = text_of (name_file i a); key = text_of (name_file i b) }) else None) (name_mark i)) (ids (λ a. true) (name_mark i)))
+        (λ i. flat_map (λ a. collect (λ b. if defined_now a b i then Some (record { label = text_of (name_file i a); key = text_of (name_file i b) }) else None)
+        (name_mark i)) (ids (λ a. true) (name_mark i)))
         ∙ table_placed (names_of m.records) one old now l k mark off (ap (λ z. if z then Some one else None) fresh) come is_below is_above l_low k_low

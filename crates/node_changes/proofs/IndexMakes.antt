@@ -74,7 +74,29 @@ pub index_refused_pair : (s : State) (label key : List ℕ) (fault : ChangeFault
     → IsRefusal s.shape.limit (graph_in s) (commands.Index label key) fault
 index_refused_pair s label key = refused_more pair_reasons change_reasons s.shape.limit (graph_in s) (commands.Index label key) (commands.Index label key)
     (λ why h.
-    inr (none_of, inr (none_of, inr (none_of, inr (none_of, inr (none_of, inr (none_of, inr (none_of, first_front pair_reasons (no_index ∷ rest_reasons) s.shape.limit (graph_in s) (commands.Index label key) why h))))))))
+    inr (
+      none_of,
+      inr (
+        none_of,
+        inr (
+          none_of,
+          inr (
+            none_of,
+            inr (
+              none_of,
+              inr (
+                none_of,
+                inr (
+                  none_of,
+                  first_front pair_reasons (no_index ∷ rest_reasons)
+                      s.shape.limit (graph_in s) (commands.Index label key) why h,
+                ),
+              ),
+            ),
+          ),
+        ),
+      ),
+    ))
 
 module _ (s : State) (label key : List ℕ) (may : MayIndex s label key) where
   abbrev command : Command
@@ -89,7 +111,11 @@ module _ (s : State) (label key : List ℕ) (may : MayIndex s label key) where
 
   rest_first : (why : Refusal) → FirstReason rest_reasons s.shape.limit (graph_in s) command why
       → FirstReason change_reasons s.shape.limit (graph_in s) command why
-  rest_first why h = inr (none_of, inr (none_of, inr (none_of, inr (none_of, inr (none_of, inr (none_of, inr (none_of, inr (may.0, inr (may.1.0, inr (none_of, h))))))))))
+  rest_first why h = inr (
+    none_of,
+    inr
+        (none_of, inr (none_of, inr (none_of, inr (none_of, inr (none_of, inr (none_of, inr (may.0, inr (may.1.0, inr (none_of, h))))))))),
+  )
 
   rest_free : NoReason rest_reasons s.shape.limit (graph_in s) command → NoReason change_reasons s.shape.limit (graph_in s) command
   rest_free h = (none_of, (none_of, (none_of, (none_of, (none_of, (none_of, (none_of, (may.0, (may.1.0, (none_of, h))))))))))
@@ -190,7 +216,8 @@ module _ (old s a b : State) (names first last : List (List ℕ)) (label key : L
 
     -- the indexes take the records that the graph counts
     records : (meta_of b format.index_file).live ≡ index_records (graph_in s)
-    records = live_indexes b was ∙ (λ i. sum_by (λ (index : Index). 13 + length (filter (λ (node : Node). is_text index.label node.label && has_key node.properties index.key) (kept.nodes i))) (kept.indexes i))
+    records = live_indexes b was ∙ (λ i. sum_by (λ (index : Index). 13 + length (filter (λ (node : Node). is_text index.label node.label && has_key
+        node.properties index.key) (kept.nodes i))) (kept.indexes i))
 
     limit_same : b.shape.limit ≡ s.shape.limit
     limit_same = ap (λ (h : Shape). h.limit) kept.shape
@@ -206,7 +233,8 @@ module _ (old s a b : State) (names first last : List (List ℕ)) (label key : L
 
       none_there : (d : ℕ) → In d was.indexes.definitions → (indexed_label b.records d ≡ l) × (indexed_key b.records d ≡ k) → ⊥
       none_there d i pair =
-          false≢true (sym none_among ∙ in_any (has_pair b.records l k) d was.indexes.definitions i (λ i. eq_true (indexed_label b.records d) l pair.0 i && eq_true (indexed_key b.records d) k pair.1 i))
+          false≢true (sym none_among ∙ in_any (has_pair b.records l k) d was.indexes.definitions i (λ i. eq_true (indexed_label b.records d) l pair.0 i &&
+          eq_true (indexed_key b.records d) k pair.1 i))
 
       few_defined : ¬ (length was.indexes.definitions ≡ 16)
       few_defined many =
@@ -221,7 +249,8 @@ module _ (old s a b : State) (names first last : List (List ℕ)) (label key : L
           let n = counted in
           let is = why.1 in
           let many = why.2 in
-          rest_first s label key may (refusals.IndexTooLarge count) (inr (names_free, inr (none_of, inr (none_of, inr (none_of, inl (omega (arith, n, is, many), ap refusals.IndexTooLarge (is ∙ n)))))))
+          rest_first s label key may (refusals.IndexTooLarge count)
+          (inr (names_free, inr (none_of, inr (none_of, inr (none_of, inl (omega (arith, n, is, many), ap refusals.IndexTooLarge (is ∙ n)))))))
       refused_here (makes.Full live) why =
           let n = counted in
           let few = why.1 in
@@ -230,7 +259,24 @@ module _ (old s a b : State) (names first last : List (List ℕ)) (label key : L
           let past = ⊎_elim (λ (lt : room_of b.shape format.index_file < (meta_of b format.index_file).live + (13 + count_of b.records l k)). lt)
           (λ (fits : (meta_of b format.index_file).live + (13 + count_of b.records l k) ≤ room_of b.shape format.index_file). absurd (why.3 fits))
           (cases_lt (room_of b.shape format.index_file) ((meta_of b format.index_file).live + (13 + count_of b.records l k))) in
-          rest_first s label key may refusals.FullIndex (inr (names_free, inr (none_of, inr (none_of, inr (none_of, inr ((λ other large. let lt = large.0 in absurd (omega (arith, n, few, lt))), inl (omega (arith, n, taken, room, past), refl)))))))
+          rest_first s label key may refusals.FullIndex
+          (inr (
+            names_free,
+            inr (
+              none_of,
+              inr (
+                none_of,
+                inr (
+                  none_of,
+                  inr (
+                    (λ other large. let lt = large.0 in absurd (omega (arith, n, few, lt))),
+                    inl
+                        (omega (arith, n, taken, room, past), refl),
+                  ),
+                ),
+              ),
+            ),
+          ))
       refused_here makes.Memory why = tt
       refused_here makes.Disk why = tt
       refused_here (makes.Damaged damage) why = why
@@ -279,7 +325,22 @@ module _ (old s a b : State) (names first last : List (List ℕ)) (label key : L
             let taken = records in
             let room = made.room in
             let limit = limit_same in
-            rest_free s label key may (names_free, (none_of, (none_of, (none_of, ((λ other large. let lt = large.0 in absurd (omega (arith, n, few, lt))), ((λ other full. let lt = full.0 in absurd (omega (arith, n, taken, room, limit, lt))), tt))))))
+            rest_free s label key may (
+              names_free,
+              (
+                none_of,
+                (
+                  none_of,
+                  (
+                    none_of,
+                    (
+                      (λ other large. let lt = large.0 in absurd (omega (arith, n, few, lt))),
+                      ((λ other full. let lt = full.0 in absurd (omega (arith, n, taken, room, limit, lt))), tt),
+                    ),
+                  ),
+                ),
+              ),
+            )
 
         weighs : (weight : ℕ) → weight ≡ 13 + (length last - length names) + count → Weighs s.shape.threshold (graph_in s) (commands.Index label key) weight
         weighs weight is = (

@@ -39,7 +39,8 @@ pub number_stays : (names : List (List ℕ)) (text : List ℕ) (named : List (Li
     → UsesName names text named → slice_get named n ≡ Some other
 number_stays names text named n other at uses = ⊎_elim
     (λ (k : Contains names text × (named ≡ names)). ap (λ ns. slice_get ns n) k.1 ∙ at)
-    (λ (k : (¬ Contains names text) × (named ≡ names ++ text ∷ [])). ap (λ ns. slice_get ns n) k.1 ∙ slice_get-push_old names text n (slice_get_within names n other at) ∙ at) uses
+    (λ (k : (¬ Contains names text) × (named ≡ names ++ text ∷ [])). ap (λ ns. slice_get ns n) k.1 ∙ slice_get-push_old names text n
+    (slice_get_within names n other at) ∙ at) uses
 
 -- a text has its number as soon as it is a name
 pub number_named : (names : List (List ℕ)) (text : List ℕ) (n : ℕ) (named : List (List ℕ)) → IsNumberOf names text n → UsesName names text named
@@ -48,7 +49,8 @@ number_named names text n named number uses = ⊎_elim
     (λ (at : slice_get names n ≡ Some text). number_stays names text named n text at uses)
     (λ (new : (¬ Contains names text) × (n ≡ length names)). ⊎_elim
     (λ (k : Contains names text × (named ≡ names)). absurd (new.0 k.0))
-    (λ (k : (¬ Contains names text) × (named ≡ names ++ text ∷ [])). ap (slice_get named) new.1 ∙ ap (λ ns. slice_get ns (length names)) k.1 ∙ slice_get-push_last names text) uses) number
+    (λ (k : (¬ Contains names text) × (named ≡ names ++ text ∷ [])). ap (slice_get named) new.1 ∙ ap (λ ns. slice_get ns (length names)) k.1
+    ∙ slice_get-push_last names text) uses) number
 
 -- a text that is no name gets the next number
 next_number : (names : List (List ℕ)) (text : List ℕ) (n : ℕ) → ¬ Contains names text → IsNumberOf names text n → n ≡ length names
@@ -92,7 +94,8 @@ module _ (names : List (List ℕ)) (label key : List ℕ) where
             (λ (k : Contains names label × (named ≡ names)). absurd (new.0 k.0))
             (λ (k : (¬ Contains names label) × (named ≡ names ++ label ∷ [])). inr (
               (λ has. ⊎_elim new.1
-                  (λ (last : Contains (label ∷ []) key). ⊎_elim (λ (e : key ≡ label). other (sym e)) (λ (none : Contains [] key). absurd (omega (arith, none.1))) (contains_cases label [] key last))
+                  (λ (last : Contains (label ∷ []) key). ⊎_elim (λ (e : key ≡ label). other (sym e)) (λ (none : Contains [] key). absurd
+                  (omega (arith, none.1))) (contains_cases label [] key last))
                   (Contains-append_cases names (label ∷ []) key (subst (λ ns. Contains ns key) k.1 has))),
               let e = ap length k.1 in let at = new.2 in omega (arith, e, at, length-append names (label ∷ [])),
             )) uses;

@@ -71,7 +71,8 @@ module _ (names : List (List ℕ)) (one : Index) where
         let gone : old l (suc m) ≡ None = ap (old l) (sym e) ∙ lacked in
         let come : now l (suc m) ≡ Some one = ap (now l) (sym e) ∙ made in
         (λ i. low_row (suc m) (omega (arith, e)) i ++ option_list (come i))
-        ∙ sym (after (collect (old l) (suc m)) [] (each_collect (old l) false (suc m) (λ y x low is. lower l y x in_l (omega arith) is (inr (refl, omega (arith, low, e))))))
+        ∙ sym (after (collect (old l) (suc m)) [] (each_collect (old l) false (suc m) (λ y x low is. lower l y x in_l (omega arith) is
+        (inr (refl, omega (arith, low, e))))))
         ∙ ap (λ o. with_index names one (collect (old l) (suc m) ++ option_list o)) (sym gone))
         (λ (ne : k ≢ suc m).
         (λ i. placed_row in_l m (omega (arith, le, ne)) (omega arith) i ++ option_list (same l (suc m) (inr (λ e. ne (sym e))) i))
@@ -125,7 +126,8 @@ module _ (names : List (List ℕ)) (one : Index) where
     next_rows m gt lt before =
         flat_map-append (λ a. collect (now a) n) (every m) (m ∷ [])
         ∙ (λ i. before i ++ (other_row m (λ e. omega (arith, e, gt)) n i ++ []))
-        ∙ sym (front (old_rows m) (collect (old m) n ++ []) (each_both true (collect (old m) n) [] (each_collect (old m) true n (λ y e low is. higher m y e lt low is (inl gt))) tt))
+        ∙ sym (front (old_rows m) (collect (old m) n ++ []) (each_both true (collect (old m) n) [] (each_collect (old m) true n
+        (λ y e low is. higher m y e lt low is (inl gt))) tt))
         ∙ ap (with_index names one) (sym (flat_map-append (λ a. collect (old a) n) (every m) (m ∷ [])))
 
     placed_rows : l < n → k < n → (m : ℕ) → l < m → m ≤ n → now_rows m ≡ with_index names one (old_rows m)

@@ -77,7 +77,14 @@ module _ (m : State) (old now : List (List ℕ)) (label key : List ℕ) (l k : �
       let room_is = ap (λ (h : Shape). room_of h format.index_file) named.shape in
       inl (
         13 + count_of s.records l k,
-        (refl, (count_of s.records l k, record { label_number = l; key_number = k; label_named = named.label_at; key_named = named.key_at; count_is = refl }, refl)),
+        (
+          refl,
+          (
+            count_of s.records l k,
+            record { label_number = l; key_number = k; label_named = named.label_at; key_named = named.key_at; count_is = refl },
+            refl,
+          ),
+        ),
         record { is = ap (λ n. Full format.index_file n) (why.0 ∙ live_is); lacks = omega (arith, past, count_is, live_is, room_is) },
       )
   make_caused s t named makes.Memory why = tt

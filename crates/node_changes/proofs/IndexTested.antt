@@ -131,14 +131,17 @@ module _ (s : State) (names : List (List ℕ)) (whole : IsStore s names) where
 
     known : (x : ℕ) (name : List ℕ) → x < high s.records format.names_file → is_text (text s.records x) name ≡ true → Contains names name
     known x name lt same =
-        contains_at names x name (ap (λ ns. slice_get ns x) whole.names ∙ first-names_of s.records x lt ∙ ap (λ n. Some n) (same_key (text s.records x) name same))
+        contains_at names x name (ap (λ ns. slice_get ns x) whole.names ∙ first-names_of s.records x lt ∙ ap (λ n. Some n) (same_key (text s.records x)
+        name same))
 
     -- a text that is no name has no index
     pub label_unknown : ¬ Contains names label → has_index (graph_in s) label key ≡ false
-    label_unknown lacks = has_among ∙ any_none is_index_of ds (λ d i is. lacks (known (indexed_label s.records d) label (low d i).0 (and_parts (is_text (text s.records (indexed_label s.records d)) label) _ is).0))
+    label_unknown lacks = has_among ∙ any_none is_index_of ds (λ d i is. lacks (known (indexed_label s.records d) label (low d i).0
+        (and_parts (is_text (text s.records (indexed_label s.records d)) label) _ is).0))
 
     pub key_unknown : ¬ Contains names key → has_index (graph_in s) label key ≡ false
-    key_unknown lacks = has_among ∙ any_none is_index_of ds (λ d i is. lacks (known (indexed_key s.records d) key (low d i).1 (and_parts (is_text (text s.records (indexed_label s.records d)) label) _ is).1))
+    key_unknown lacks = has_among ∙ any_none is_index_of ds (λ d i is. lacks (known (indexed_key s.records d) key (low d i).1
+        (and_parts (is_text (text s.records (indexed_label s.records d)) label) _ is).1))
 
     -- ---- by the pairs that are listed
 

@@ -103,7 +103,8 @@ module _ (s : Records) (label id : ℕ) (e : Entry) where
 
       by : (a : Bool) → is_pair label e.key pair ≡ a → (b : Bool) → is_held s label id pair ≡ b
           → (list_any (is_pair label e.key) pairs ≡ true → without_held w (held_of s label id pairs) e ≡ false)
-          → (list_any (is_pair label e.key) pairs ≡ true → without_held (without_old w (Some (held_entry s label id pair))) (held_of s label id pairs) e ≡ false) → (a || list_any (is_pair label e.key) pairs) ≡ true
+          → (list_any (is_pair label e.key) pairs ≡ true → without_held (without_old w (Some (held_entry s label id pair))) (held_of s label id pairs)
+          e ≡ false) → (a || list_any (is_pair label e.key) pairs) ≡ true
           → without_held w (if b then held_entry s label id pair ∷ held_of s label id pairs else held_of s label id pairs) e ≡ false
       by true p true q plain less any = none_held (without_old w (Some (held_entry s label id pair))) (held_of s label id pairs) e
           (taken (same_number pair.key e.key (and_parts (nat_eq pair.label label) (nat_eq pair.key e.key) p).1))

@@ -88,8 +88,10 @@ module _ (s : State) (store : IsIndexed s.records s.shape) (l k : ℕ) (l_low : 
   pass_used : row_passes (λ (node : Node). is_text (text s.records l) node.label && has_key node.properties (text s.records k)) (node_of s.records n) ≡ is_some
       (node_value s.records l k n)
   pass_used =
-      ap (λ o. row_passes (λ (node : Node). is_text (text s.records l) node.label && has_key node.properties (text s.records k)) (node_from (rec_at s.records format.names_file) (property_records s.records) o)) row
-      ∙ (λ i. text_test (rec_at s.records format.names_file) (high s.records format.names_file) store.store.names l (label_at s.records n) l_low label_low i && is_some (maps.get (ap node_properties (sym (node_is s.records n used)) i) (text s.records k)))
+      ap (λ o. row_passes (λ (node : Node). is_text (text s.records l) node.label && has_key node.properties (text s.records k))
+      (node_from (rec_at s.records format.names_file) (property_records s.records) o)) row
+      ∙ (λ i. text_test (rec_at s.records format.names_file) (high s.records format.names_file) store.store.names l (label_at s.records n) l_low label_low i &&
+      is_some (maps.get (ap node_properties (sym (node_is s.records n used)) i) (text s.records k)))
       ∙ ap (λ b. nat_eq l (label_at s.records n) && b) (value_known s (owner_of (targets.Node n)) owned has k k_low)
       ∙ by (nat_cases l (label_at s.records n))
     where
@@ -99,11 +101,14 @@ module _ (s : State) (store : IsIndexed s.records s.shape) (l k : ℕ) (l_low : 
       label_low : label_at s.records n < high s.records format.names_file
       label_low = store.store.named.nodes_named n (node_in (rec_at s.records format.nodes_file n) n) row
 
-      by : (l ≡ label_at s.records n) ⊎ (l ≢ label_at s.records n) → (nat_eq l (label_at s.records n) && is_some (value_in (listed_at s (owner_of (targets.Node n)) owned has) k)) ≡ is_some (node_value s.records l k n)
+      by : (l ≡ label_at s.records n) ⊎ (l ≢ label_at s.records n) → (nat_eq l (label_at s.records n) && is_some
+          (value_in (listed_at s (owner_of (targets.Node n)) owned has) k)) ≡ is_some (node_value s.records l k n)
       by (inl e) = ap (λ b. b && is_some (value_in (listed_at s (owner_of (targets.Node n)) owned has) k)) (eq_true l (label_at s.records n) e)
-          ∙ sym (ap is_some (value_listed s n store owned has l k) ∙ ap (λ b. is_some (cond b (value_in (listed_at s (owner_of (targets.Node n)) owned has) k) None)) (eq_true (label_at s.records n) l (sym e)))
+          ∙ sym (ap is_some (value_listed s n store owned has l k) ∙ ap (λ b. is_some (cond b (value_in (listed_at s (owner_of (targets.Node n)) owned has) k)
+          None)) (eq_true (label_at s.records n) l (sym e)))
       by (inr ne) = ap (λ b. b && is_some (value_in (listed_at s (owner_of (targets.Node n)) owned has) k)) (eq_false l (label_at s.records n) ne)
-          ∙ sym (ap is_some (value_listed s n store owned has l k) ∙ ap (λ b. is_some (cond b (value_in (listed_at s (owner_of (targets.Node n)) owned has) k) None)) (eq_false (label_at s.records n) l (λ e. ne (sym e))))
+          ∙ sym (ap is_some (value_listed s n store owned has l k) ∙ ap (λ b. is_some (cond b (value_in (listed_at s (owner_of (targets.Node n)) owned has) k)
+          None)) (eq_false (label_at s.records n) l (λ e. ne (sym e))))
 
 -- and so is each node, or none
 module _ (s : State) (store : IsIndexed s.records s.shape) (l k : ℕ) (l_low : l < high s.records format.names_file)
@@ -167,8 +172,12 @@ module _ (s : State) (store : IsIndexed s.records s.shape) where
             let e : Entry = record { label = indexed_label s.records d; key = indexed_key s.records d; node = n; hash = hash_of v } in
             let w : wanted_in s.records e ≡ true = ap (has_hash (hash_of v)) is ∙ eq_true (hash_of v) (hash_of v) refl in
             let has = ix.all d e i refl refl w in
-            let low : bucket_of (hash_of v) < 180 = omega arith in
-            (has.id, in_flat_map (ix.lists d) has.id (bucket_of (hash_of v)) (down 180) (in_down 180 (bucket_of (hash_of v)) low) has.member, ap (λ (e : Entry). e.node) has.is)
+            let low : bucket_of (hash_of v) < 180 = omega arith in (
+              has.id,
+              in_flat_map (ix.lists d) has.id (bucket_of (hash_of v)) (down 180) (in_down 180 (bucket_of (hash_of v)) low) has.member,
+              ap
+                  (λ (e : Entry). e.node) has.is,
+            )
 
     nodes_once : (x y : ℕ) → In x (entries d) → In y (entries d) → entry_node s.records x ≡ entry_node s.records y → x ≡ y
     nodes_once x y m k same =
@@ -214,7 +223,8 @@ module _ (s : State) (store : IsIndexed s.records s.shape) where
       index_count s.records (wanted_in s.records) ix split.0 split.1
       ∙ ap (λ n. 13 * length ix.definitions + n) (length-flat_map entries ix.definitions)
       ∙ both ix.definitions
-      ∙ sym (sum_same (of_definition s.records (λ (index : Index). 13 + length (indexed_nodes (graph_of s.records) index))) (λ d. 13 + length (entries d)) ix.definitions (λ d i. ap (λ n. 13 + n) (nodes_count d i)))
+      ∙ sym (sum_same (of_definition s.records (λ (index : Index). 13 + length (indexed_nodes (graph_of s.records) index))) (λ d. 13 + length (entries d))
+      ix.definitions (λ d i. ap (λ n. 13 + n) (nodes_count d i)))
       ∙ sym (sum_indexes s.records store.store.defined (wanted_in s.records) ix (λ (index : Index). 13 + length (indexed_nodes (graph_of s.records) index)))
     where
       both : (ds : List ℕ) → 13 * length ds + sum_by (λ d. length (entries d)) ds ≡ sum_by (λ d. 13 + length (entries d)) ds

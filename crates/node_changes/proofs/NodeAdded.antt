@@ -64,7 +64,38 @@ module _ (s : State) (label : List ℕ) (pairs : List Pair) (room : ¬ IsFullOfN
 
   line_first : (why : Refusal) → FirstReason line_reasons s.shape.limit (graph_in s) (commands.Node label pairs) why
       → FirstReason change_reasons s.shape.limit (graph_in s) (commands.Node label pairs) why
-  line_first why h = inr (no_full, inr (none_of, inr (none_of, inr (none_of, inr (none_of, inr (none_of, inr (none_of, inr (none_of, inr (none_of, inr (none_of, first_front line_reasons index_reasons s.shape.limit (graph_in s) (commands.Node label pairs) why h))))))))))
+  line_first why h = inr (
+    no_full,
+    inr (
+      none_of,
+      inr (
+        none_of,
+        inr (
+          none_of,
+          inr (
+            none_of,
+            inr (
+              none_of,
+              inr (
+                none_of,
+                inr (
+                  none_of,
+                  inr (
+                    none_of,
+                    inr (
+                      none_of,
+                      first_front line_reasons index_reasons s.shape.limit (graph_in s)
+                          (commands.Node label pairs) why h,
+                    ),
+                  ),
+                ),
+              ),
+            ),
+          ),
+        ),
+      ),
+    ),
+  )
 
   pub line_refused : (fault : ChangeFault) → IsRefusedBy line_reasons s.shape.limit (graph_in s) (commands.Node label pairs) fault
       → IsRefusedBy change_reasons s.shape.limit (graph_in s) (commands.Node label pairs) fault

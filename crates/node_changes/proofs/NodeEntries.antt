@@ -87,7 +87,8 @@ module _ (s u : State) (names c : List (List ℕ)) (label : List ℕ) (pairs : L
 
   weighs : entries_weight (graph_in s) label (λ key. true) no_properties (with_pairs no_properties pairs) ≡ 3 * entries
   weighs =
-      (λ i. entries_weight (record (graph_in s) { indexes = sym at_hand.kept.indexes i }) (sym label_text i) (λ key. true) no_properties (with_pairs no_properties pairs))
+      (λ i. entries_weight (record (graph_in s) { indexes = sym at_hand.kept.indexes i }) (sym label_text i) (λ key. true) no_properties
+      (with_pairs no_properties pairs))
       ∙ added_weighs u c whole_before prepared.label label_low pairs items at_hand.assigned
 
   count : entry_count (graph_in s) label (with_pairs no_properties pairs) ≡ entries
@@ -96,7 +97,12 @@ module _ (s u : State) (names c : List (List ℕ)) (label : List ℕ) (pairs : L
       ∙ added_count u c whole_before prepared.label label_low pairs items at_hand.assigned
 
   live : (meta_of u format.index_file).live ≡ index_records (graph_in s)
-  live = live_indexes u whole_before.store ∙ (λ i. index_records (record { nodes = at_hand.kept.nodes i; edges = (graph_in s).edges; names = (graph_in s).names; indexes = at_hand.kept.indexes i }))
+  live = live_indexes u whole_before.store ∙ (λ i. index_records (record {
+    nodes = at_hand.kept.nodes i;
+    edges = (graph_in s).edges;
+    names = (graph_in s).names;
+    indexes = at_hand.kept.indexes i;
+  }))
 
   -- where there is room for the entries, they are no reason against the node
   pub entries_fit : HasRoom u format.index_file entries → Never (index_full s.shape.limit (graph_in s) (commands.Node label pairs))
@@ -163,7 +169,8 @@ module _ (s u : State) (names c : List (List ℕ)) (label : List ℕ) (pairs : L
 
     same_definitions : indexed_then.definitions ≡ whole_before.store.indexes.definitions
     same_definitions = walk_is (next_definition u.records) (first_definition u.records) indexed_then.definitions whole_before.store.indexes.definitions
-        (subst (λ (p : (ℕ → Rec) × Rec). IsWalk (λ d. field 4 (p.0 d) format.definition_next) (field 4 p.1 format.meta_definition) indexed_then.definitions) (λ i. (puts.file.records i, puts.file.meta i)) indexed_then.walk) whole_before.store.indexes.walk
+        (subst (λ (p : (ℕ → Rec) × Rec). IsWalk (λ d. field 4 (p.0 d) format.definition_next) (field 4 p.1 format.meta_definition) indexed_then.definitions)
+        (λ i. (puts.file.records i, puts.file.meta i)) indexed_then.walk) whole_before.store.indexes.walk
 
     module _ (w : State) (put : PutsPairs v w c (targets.Node id) (pairs_of c pairs items)) (given : GivesValues v w id pairs items) where
       indexed_last : AreIndexed w.records (wanted_in v.records)
@@ -171,7 +178,8 @@ module _ (s u : State) (names c : List (List ℕ)) (label : List ℕ) (pairs : L
 
       last_definitions : indexed_last.definitions ≡ whole_before.store.indexes.definitions
       last_definitions = walk_is (next_definition v.records) (first_definition v.records) indexed_last.definitions indexed_then.definitions
-          (subst (λ (p : (ℕ → Rec) × Rec). IsWalk (λ d. field 4 (p.0 d) format.definition_next) (field 4 p.1 format.meta_definition) indexed_last.definitions) (λ i. (given.file.records i, given.file.meta i)) indexed_last.walk) indexed_then.walk
+          (subst (λ (p : (ℕ → Rec) × Rec). IsWalk (λ d. field 4 (p.0 d) format.definition_next) (field 4 p.1 format.meta_definition) indexed_last.definitions)
+          (λ i. (given.file.records i, given.file.meta i)) indexed_last.walk) indexed_then.walk
           ∙ same_definitions
 
       -- what the entries are added to
@@ -179,7 +187,11 @@ module _ (s u : State) (names c : List (List ℕ)) (label : List ℕ) (pairs : L
       pairs_then = record {
         kept = put.store.store;
         indexed = indexed_last;
-        are = λ i. map (λ d. record { label = field 4 (sym (given.file.records ∙ puts.file.records) i d) format.definition_label; key = field 4 (sym (given.file.records ∙ puts.file.records) i d) format.definition_key }) (sym last_definitions i);
+        are = λ i. map (λ d. record {
+          label = field 4 (sym (given.file.records ∙ puts.file.records) i d) format.definition_label;
+          key = field 4
+              (sym (given.file.records ∙ puts.file.records) i d) format.definition_key;
+        }) (sym last_definitions i);
       }
 
       there : has_element (graph_in w) (targets.Node id) ≡ true

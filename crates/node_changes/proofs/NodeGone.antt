@@ -81,7 +81,8 @@ unused_given u id =
     let m = meta_of u format.nodes_file in
     let put = after_put u (key_in format.nodes_file id) (free_record m.free) in
     let here : rec_at (given u format.nodes_file id).records format.nodes_file id ≡ free_record m.free =
-    put_other put.records (meta_key_of format.nodes_file) (with_meta (put.records (meta_key_of format.nodes_file)) (record { high = m.high; free = id; live = m.live - 1 })) (key_in format.nodes_file id) (not_meta_key format.nodes_file id format.nodes_file refl)
+    put_other put.records (meta_key_of format.nodes_file) (with_meta (put.records (meta_key_of format.nodes_file))
+    (record { high = m.high; free = id; live = m.live - 1 })) (key_in format.nodes_file id) (not_meta_key format.nodes_file id format.nodes_file refl)
     ∙ put_same u.records (key_in format.nodes_file id) (free_record m.free) in
     free_in (high (given u format.nodes_file id).records format.nodes_file) (rec_at (given u format.nodes_file id).records format.nodes_file id) id
     (ap (λ r. field 1 r format.kind) here ∙ free_is_free m.free)
@@ -123,7 +124,8 @@ module _ (n u t : State) (names : List (List ℕ)) (id : ℕ) (store : IsStore n
   index : IsSameFile n.records t.records format.index_file
   index =
       let one = properties_index n.records u.records n.shape format.nodes_file id drops.changes.before drops.changes.after drops.changes.changes in
-      let two = changed_index u.records t.records format.nodes_file id (node_gone n u names dropped (midway n names store) id drops t used lone before after given).change (λ e. omega arith) in
+      let two = changed_index u.records t.records format.nodes_file id (node_gone n u names dropped (midway n names store) id drops t used lone before after
+      given).change (λ e. omega arith) in
       record { records = two.records ∙ one.records; meta = two.meta ∙ one.meta }
 
   -- the indexes are of what the nodes had
@@ -155,8 +157,10 @@ module _ (n u t : State) (names : List (List ℕ)) (id : ℕ) (store : IsStore n
     value_gone l k x =
         let gone = node_gone n u names dropped (midway n names store) id drops t used lone before after given in
         ⊎_elim
-        (λ (e : x ≡ id). ap (λ o. row_value (property_records t.records) l k o) (ap (node_at t.records) e ∙ row_none (kind_at t.records format.nodes_file id) (node_in (rec_at t.records format.nodes_file id) id) gone.gone) ∙ sym (ap (λ b. cond b None (node_value n.records l k x)) (eq_true x id e)))
-        (λ (ne : x ≢ id). (λ i. row_value (nc.files_stay u.records t.records id gone.change i) l k (nc.node_other u.records t.records id gone.change x ne i)) ∙ drops_values n u (owner_of (targets.Node id)) (listed_at n (owner_of (targets.Node id)) owned element) dropped refl store.store.store alone l k x)
+        (λ (e : x ≡ id). ap (λ o. row_value (property_records t.records) l k o) (ap (node_at t.records) e ∙ row_none (kind_at t.records format.nodes_file id)
+        (node_in (rec_at t.records format.nodes_file id) id) gone.gone) ∙ sym (ap (λ b. cond b None (node_value n.records l k x)) (eq_true x id e)))
+        (λ (ne : x ≢ id). (λ i. row_value (nc.files_stay u.records t.records id gone.change i) l k (nc.node_other u.records t.records id gone.change x ne i))
+        ∙ drops_values n u (owner_of (targets.Node id)) (listed_at n (owner_of (targets.Node id)) owned element) dropped refl store.store.store alone l k x)
         (nat_cases x id)
 
     wanted_gone : wanted_in t.records ≡ without_node (wanted_in n.records) id
@@ -186,7 +190,8 @@ module _ (n u t : State) (names : List (List ℕ)) (id : ℕ) (store : IsStore n
           let low = (apart v.records keeps.defined (without_held (wanted_in n.records) held) left).named d i in
           let mark = mark_same t.records v.records beside format.names_file (λ e. omega arith) ∙ gone_mark in
           listed_among n.records store.store.indexes.definitions (indexed_label v.records d) (indexed_key v.records d)
-          ∙ sym (pairs_same n.records v.records n.shape v.shape store.store.store keeps (wanted_in n.records) (without_held (wanted_in n.records) held) store.store.indexes left (graph ∙ gone_indexes) (file_same t.records v.records beside format.names_file refl (λ e. omega arith) ∙ gone_names) mark
+          ∙ sym (pairs_same n.records v.records n.shape v.shape store.store.store keeps (wanted_in n.records) (without_held (wanted_in n.records) held)
+          store.store.indexes left (graph ∙ gone_indexes) (file_same t.records v.records beside format.names_file refl (λ e. omega arith) ∙ gone_names) mark
           (indexed_label v.records d) (indexed_key v.records d) (subst (λ m. indexed_label v.records d < m) mark low.0)
           (subst (λ m. indexed_key v.records d < m) mark low.1))
           ∙ in_any (has_pair v.records (indexed_label v.records d) (indexed_key v.records d)) d left.definitions i

@@ -78,7 +78,8 @@ module _ (s m t : State) (names : List (List ℕ)) (id number : ℕ) (label : Li
 
   lacks : LacksEntries (wanted_in after) id
   lacks l k hash = ap (has_hash hash) (row_nil (property_records after) l k (node_at after id)
-      (λ row is. ap (λ (r : NodeRow). r.property) (sym (some_row (kind_at after format.nodes_file id) (node_in (rec_at after format.nodes_file id) id) row is).1) ∙ ap (λ r. field 4 r format.node_first_property) made.here ∙ fresh.property))
+      (λ row is. ap (λ (r : NodeRow). r.property) (sym (some_row (kind_at after format.nodes_file id) (node_in (rec_at after format.nodes_file id) id)
+      row is).1) ∙ ap (λ r. field 4 r format.node_first_property) made.here ∙ fresh.property))
 
   puts : PutsNode s (after_put m (node_key id) rec) names number label id
   puts = record {

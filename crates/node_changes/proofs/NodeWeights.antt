@@ -59,14 +59,17 @@ module _ (s : State) (id : ℕ) (store : IsIndexed s.records s.shape) (owned : I
   -- a value of the node by the records is one of its properties
   pub value_listed : (l k : ℕ) → node_value s.records l k id ≡ cond (nat_eq label l) (value_in (listed_at s (owner_of (targets.Node id)) owned has) k) None
   value_listed l k =
-      ap (λ o. row_value (property_records s.records) l k o) (row_some (kind_at s.records format.nodes_file id) (node_in (rec_at s.records format.nodes_file id) id) has.used)
-      ∙ ap (λ ps. cond (nat_eq label l) (value_in ps k) None) (properties_read (property_records s.records) row_first (listed_at s (owner_of (targets.Node id)) owned has) (owns_listed s (owner_of (targets.Node id)) owned has).held.are)
+      ap (λ o. row_value (property_records s.records) l k o) (row_some (kind_at s.records format.nodes_file id) (node_in (rec_at s.records format.nodes_file id)
+      id) has.used)
+      ∙ ap (λ ps. cond (nat_eq label l) (value_in ps k) None) (properties_read (property_records s.records) row_first (listed_at s (owner_of (targets.Node id))
+      owned has) (owns_listed s (owner_of (targets.Node id)) owned has).held.are)
 
   -- it has the key in the graph where it has it in the records
   pub key_held : (k : ℕ) → k < high s.records format.names_file → is_some
       (maps.get (properties_at (graph_of s.records) (targets.Node id)) (text s.records k)) ≡ is_some (node_value s.records label k id)
   key_held k low = value_known s (owner_of (targets.Node id)) owned has k low
-      ∙ sym (ap is_some (value_listed label k ∙ ap (λ b. cond b (value_in (listed_at s (owner_of (targets.Node id)) owned has) k) None) (eq_true label label refl)))
+      ∙ sym (ap is_some (value_listed label k ∙ ap (λ b. cond b (value_in (listed_at s (owner_of (targets.Node id)) owned has) k) None)
+      (eq_true label label refl)))
 
   -- the node is in the index of a definition
   abbrev pub is_in : ℕ → Bool
@@ -79,7 +82,11 @@ module _ (s : State) (id : ℕ) (store : IsIndexed s.records s.shape) (owned : I
   one_in : (d : ℕ) → In d store.indexes.definitions → of_definition s.records weigh d ≡ (if is_in d then 3 else 0)
   one_in d i =
       let low = (apart s.records store.store.defined (wanted_in s.records) store.indexes).named d i in
-      rw (text_test (rec_at s.records format.names_file) (high s.records format.names_file) store.store.names (indexed_label s.records d) label low.0 label_low, key_held (indexed_key s.records d) low.1, no_key (text s.records (indexed_key s.records d)))
+      rw (
+        text_test (rec_at s.records format.names_file) (high s.records format.names_file) store.store.names (indexed_label s.records d) label low.0 label_low,
+        key_held (indexed_key s.records d) low.1,
+        no_key (text s.records (indexed_key s.records d)),
+      )
       (by (nat_eq (indexed_label s.records d) label) (is_some (node_value s.records label (indexed_key s.records d) id)))
     where
       label_low : label < high s.records format.names_file
@@ -108,6 +115,7 @@ held_same s l id (d ∷ ds) = by (is_held s l id (pair_of s d)) (held_same s l i
     by : (b : Bool) → length (filter (is_held s l id) (map (pair_of s) ds)) ≡ length
         (filter (λ d. nat_eq (indexed_label s d) l && is_some (node_value s l (indexed_key s d) id)) ds)
         → length (cond b (pair_of s d ∷ filter (is_held s l id) (map (pair_of s) ds)) (filter (is_held s l id) (map (pair_of s) ds)))
-        ≡ length (cond b (d ∷ filter (λ d. nat_eq (indexed_label s d) l && is_some (node_value s l (indexed_key s d) id)) ds) (filter (λ d. nat_eq (indexed_label s d) l && is_some (node_value s l (indexed_key s d) id)) ds))
+        ≡ length (cond b (d ∷ filter (λ d. nat_eq (indexed_label s d) l && is_some (node_value s l (indexed_key s d) id)) ds)
+        (filter (λ d. nat_eq (indexed_label s d) l && is_some (node_value s l (indexed_key s d) id)) ds))
     by true rest = ap suc rest
     by false rest = rest

@@ -24,7 +24,8 @@ pub text_test : (name_file : ℕ → Rec) (names : ℕ) → AreNames name_file n
     → is_text (text_of (name_file a)) (text_of (name_file b)) ≡ nat_eq a b
 text_test name_file names named a b low below = same_truth (is_text (text_of (name_file a)) (text_of (name_file b))) (nat_eq a b)
     (λ h. eq_true a b (named.distinct a b low below (same_key (text_of (name_file a)) (text_of (name_file b)) h)))
-    (λ h. subst (λ k. is_text (text_of (name_file a)) (text_of (name_file k)) ≡ true) (same_number a b h) ((eq_by_cmp_equiv nat_list_cmp_total).refl (text_of (name_file a))))
+    (λ h. subst (λ k. is_text (text_of (name_file a)) (text_of (name_file k)) ≡ true) (same_number a b h) ((eq_by_cmp_equiv nat_list_cmp_total).refl
+    (text_of (name_file a))))
 
 pub sum_same : (f g : ℕ → ℕ) (xs : List ℕ) → ((x : ℕ) → In x xs → f x ≡ g x) → sum_by f xs ≡ sum_by g xs
 sum_same f g [] same = refl
@@ -83,8 +84,10 @@ module _ (s : Records) (shape : Shape) (store : IsWellFormed s shape) (wanted : 
     where
       key_by : cond (nat_eq key (indexed_key s d)) (weight (text s (indexed_key s d))) 0 ≡ cond (nat_eq (indexed_key s d) key) (weight (text s key)) 0
       key_by = ⊎_elim
-          (λ (e : key ≡ indexed_key s d). ap (λ b. cond b (weight (text s (indexed_key s d))) 0) (eq_true key (indexed_key s d) e) ∙ ap (λ k. weight (text s k)) (sym e) ∙ sym (ap (λ b. cond b (weight (text s key)) 0) (eq_true (indexed_key s d) key (sym e))))
-          (λ (ne : key ≢ indexed_key s d). ap (λ b. cond b (weight (text s (indexed_key s d))) 0) (eq_false key (indexed_key s d) ne) ∙ sym (ap (λ b. cond b (weight (text s key)) 0) (eq_false (indexed_key s d) key (λ e. ne (sym e)))))
+          (λ (e : key ≡ indexed_key s d). ap (λ b. cond b (weight (text s (indexed_key s d))) 0) (eq_true key (indexed_key s d) e) ∙ ap (λ k. weight (text s k))
+          (sym e) ∙ sym (ap (λ b. cond b (weight (text s key)) 0) (eq_true (indexed_key s d) key (sym e))))
+          (λ (ne : key ≢ indexed_key s d). ap (λ b. cond b (weight (text s (indexed_key s d))) 0) (eq_false key (indexed_key s d) ne) ∙ sym
+          (ap (λ b. cond b (weight (text s key)) 0) (eq_false (indexed_key s d) key (λ e. ne (sym e)))))
           (nat_cases key (indexed_key s d))
 
       by : (b : Bool) → (if b && nat_eq key (indexed_key s d) then weight (text s (indexed_key s d)) else 0) ≡ cond (b && nat_eq (indexed_key s d) key)

@@ -50,7 +50,8 @@ set_entry_refused s old (targets.Node id) key value store there n u new number u
 set_entry_refused s old (targets.Node id) key value store there n u new number uses kept few at whole owned has released sets shape (Some held) is fault lacks
     why =
     subst (IsRefusal s.shape.limit (graph_in s) (commands.Set (targets.Node id) key value)) (sym why.is)
-    (entry_refused s old (targets.Node id) key value store there n new number (owner_of (targets.Node id)) refl uses kept few at u released sets shape (no_room, refl) (meta_of u format.index_file).live)
+    (entry_refused s old (targets.Node id) key value store there n new number (owner_of (targets.Node id)) refl uses kept few at u released sets shape
+    (no_room, refl) (meta_of u format.index_file).live)
   where
     low : number < high n.records format.names_file
     low = number_low n new number key kept.store at
@@ -74,7 +75,12 @@ set_entry_refused s old (targets.Node id) key value store there n u new number u
     same_records = λ i. index_records (record { nodes = kept.nodes i; edges = (graph_in s).edges; names = (graph_in s).names; indexes = kept.indexes i })
 
     same_then : index_records (with_value (graph_in n) (targets.Node id) key value) ≡ index_records (with_value (graph_in s) (targets.Node id) key value)
-    same_then = λ i. index_records (with_value (record { nodes = kept.nodes i; edges = (graph_in s).edges; names = (graph_in s).names; indexes = kept.indexes i }) (targets.Node id) key value)
+    same_then = λ i. index_records (with_value (record {
+      nodes = kept.nodes i;
+      edges = (graph_in s).edges;
+      names = (graph_in s).names;
+      indexes = kept.indexes i;
+    }) (targets.Node id) key value)
 
     file : IsSameFile n.records u.records format.index_file
     file = properties_index n.records u.records n.shape format.nodes_file id sets.changes.before sets.changes.after sets.changes.changes

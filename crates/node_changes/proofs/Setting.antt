@@ -95,13 +95,44 @@ module _ (s : State) (names : List (List ℕ)) (number : ℕ) (key : List ℕ) (
 -- ---- no reason, and the first one
 pub unset_free : (limit : ℕ) (graph : Graph) (target : Target) (key : List ℕ) → has_element graph target ≡ true
     → NoReason change_reasons limit graph (commands.Unset target key)
-unset_free limit graph (targets.Node id) key there =
-    (λ o z. z, (λ o z. z, (λ o z. z, (λ o z. z, (λ o z. clash (sym there ∙ z.0), (λ o z. z, (λ o z. z, (λ o z. z, (λ o z. z, (λ o z. z, (λ o z. z, (λ o z. z, (λ o z. z, (λ o z. z, (λ o z. z, (λ o z. z, tt))))))))))))))))
+unset_free limit graph (targets.Node id) key there = (
+  λ o z. z,
+  (
+    λ o z. z,
+    (
+      λ o z. z,
+      (
+        λ o z. z,
+        (
+          λ o z. clash (sym there ∙ z.0),
+          (λ o z. z, (λ o z. z, (λ o z. z, (λ o z. z, (λ o z. z, (λ o z. z, (λ o z. z, (λ o z. z, (λ o z. z, (λ o z. z, (λ o z. z, tt))))))))))),
+        ),
+      ),
+    ),
+  ),
+)
   where
     clash : true ≡ false → ⊥
     clash e = cc
-unset_free limit graph (targets.Edge id) key there =
-    (λ o z. z, (λ o z. z, (λ o z. z, (λ o z. z, (λ o z. z, (λ o z. clash (sym there ∙ z.0), (λ o z. z, (λ o z. z, (λ o z. z, (λ o z. z, (λ o z. z, (λ o z. z, (λ o z. z, (λ o z. z, (λ o z. z, (λ o z. z, tt))))))))))))))))
+unset_free limit graph (targets.Edge id) key there = (
+  λ o z. z,
+  (
+    λ o z. z,
+    (
+      λ o z. z,
+      (
+        λ o z. z,
+        (
+          λ o z. z,
+          (
+            λ o z. clash (sym there ∙ z.0),
+            (λ o z. z, (λ o z. z, (λ o z. z, (λ o z. z, (λ o z. z, (λ o z. z, (λ o z. z, (λ o z. z, (λ o z. z, (λ o z. z, tt)))))))))),
+          ),
+        ),
+      ),
+    ),
+  ),
+)
   where
     clash : true ≡ false → ⊥
     clash e = cc
@@ -241,11 +272,16 @@ module _ (s : State) (names : List (List ℕ)) (target : Target) (key : List ℕ
   unset_absent u owner number whole is at h =
       let text = number_text s names number key store at in
       let whose : target_of owner ≡ target = ap target_of is ∙ target_is target in
-      unset_nothing u whole h.1 (sym (ap (λ t. maps.get (properties_at (graph_in s) t) (text_at s number)) whose ∙ ap (maps.get (properties_at (graph_in s) target)) text) ∙ h.0)
+      unset_nothing u whole h.1 (sym (ap (λ t. maps.get (properties_at (graph_in s) t) (text_at s number)) whose ∙ ap
+      (maps.get (properties_at (graph_in s) target)) text) ∙ h.0)
 
   -- the key is known of the element
   pub has_key : (owner : Owner) (number : ℕ) → owner ≡ owner_of target → slice_get names number ≡ Some key → HasKey s owner number
-  has_key owner number is at = record { element = subst (HasElement s) (sym is) (has_owner s names target store there); known = number_low s names number key store at }
+  has_key owner number is at = record {
+    element = subst (HasElement s) (sym is) (has_owner s names target store there);
+    known = number_low s names number key
+        store at;
+  }
 
 -- ---- reasons against a value
 
@@ -265,7 +301,38 @@ set_first : (limit : ℕ) (graph : Graph) (target : Target) (key : List ℕ) (va
     → FirstReason line_reasons limit graph (commands.Set target key value) why
     → FirstReason change_reasons limit graph (commands.Set target key value) why
 set_first limit graph target key value why there first =
-    let k = set_there limit graph target key value there in inr (λ o z. z, inr (λ o z. z, inr (λ o z. z, inr (λ o z. z, inr (k.0, inr (k.1, inr (λ o z. z, inr (λ o z. z, inr (λ o z. z, inr (λ o z. z, first_front line_reasons index_reasons limit graph (commands.Set target key value) why first))))))))))
+    let k = set_there limit graph target key value there in inr (
+      λ o z. z,
+      inr (
+        λ o z. z,
+        inr (
+          λ o z. z,
+          inr (
+            λ o z. z,
+            inr (
+              k.0,
+              inr (
+                k.1,
+                inr (
+                  λ o z. z,
+                  inr (
+                    λ o z. z,
+                    inr (
+                      λ o z. z,
+                      inr (
+                        λ o z. z,
+                        first_front line_reasons index_reasons limit graph
+                            (commands.Set target key value) why first,
+                      ),
+                    ),
+                  ),
+                ),
+              ),
+            ),
+          ),
+        ),
+      ),
+    )
 
 -- the indexes have no room
 set_full : (limit : ℕ) (graph : Graph) (target : Target) (key : List ℕ) (value : Value) → has_element graph target ≡ true
@@ -274,14 +341,75 @@ set_full : (limit : ℕ) (graph : Graph) (target : Target) (key : List ℕ) (val
     → FirstReason change_reasons limit graph (commands.Set target key value) refusals.FullIndex
 set_full limit graph target key value there free full =
     let k = set_there limit graph target key value there in
-    inr (λ o z. z, inr (λ o z. z, inr (λ o z. z, inr (λ o z. z, inr (k.0, inr (k.1, inr (λ o z. z, inr (λ o z. z, inr (λ o z. z, inr (λ o z. z, first_after line_reasons index_reasons limit graph (commands.Set target key value) refusals.FullIndex free (inr (λ o z. z, inl full))))))))))))
+    inr (
+      λ o z. z,
+      inr (
+        λ o z. z,
+        inr (
+          λ o z. z,
+          inr (
+            λ o z. z,
+            inr (
+              k.0,
+              inr (
+                k.1,
+                inr (
+                  λ o z. z,
+                  inr (
+                    λ o z. z,
+                    inr (
+                      λ o z. z,
+                      inr (
+                        λ o z. z,
+                        first_after line_reasons index_reasons limit graph (commands.Set target key value)
+                            refusals.FullIndex free (inr (λ o z. z, inl full)),
+                      ),
+                    ),
+                  ),
+                ),
+              ),
+            ),
+          ),
+        ),
+      ),
+    )
 
 set_free : (limit : ℕ) (graph : Graph) (target : Target) (key : List ℕ) (value : Value) → has_element graph target ≡ true
     → Never (index_full limit graph (commands.Set target key value)) → NoReason line_reasons limit graph (commands.Set target key value)
     → NoReason change_reasons limit graph (commands.Set target key value)
 set_free limit graph target key value there fits free =
-    let k = set_there limit graph target key value there in
-    (λ o z. z, (λ o z. z, (λ o z. z, (λ o z. z, (k.0, (k.1, (λ o z. z, (λ o z. z, (λ o z. z, (λ o z. z, none_both line_reasons index_reasons limit graph (commands.Set target key value) free (λ o z. z, (fits, tt))))))))))))
+    let k = set_there limit graph target key value there in (
+      λ o z. z,
+      (
+        λ o z. z,
+        (
+          λ o z. z,
+          (
+            λ o z. z,
+            (
+              k.0,
+              (
+                k.1,
+                (
+                  λ o z. z,
+                  (
+                    λ o z. z,
+                    (
+                      λ o z. z,
+                      (
+                        λ o z. z,
+                        none_both line_reasons index_reasons limit graph (commands.Set target key value) free
+                            (λ o z. z, (fits, tt)),
+                      ),
+                    ),
+                  ),
+                ),
+              ),
+            ),
+          ),
+        ),
+      ),
+    )
 
 pub set_missing : (limit : ℕ) (graph : Graph) (target : Target) (key : List ℕ) (value : Value) (fault : ChangeFault) → IsMissing graph target fault
     → IsRefusal limit graph (commands.Set target key value) fault
@@ -348,7 +476,11 @@ module _ (s : State) (old : List (List ℕ)) (target : Target) (key : List ℕ) 
     there_still = ap (λ g. has_element g target) graph_same ∙ has_renamed (graph_in s) (graph_in t).names target ∙ there
 
     pub set_known : HasKey t owner number
-    set_known = record { element = subst (HasElement t) (sym is) (has_owner t new target kept.store there_still); known = number_low t new number key kept.store at }
+    set_known = record {
+      element = subst (HasElement t) (sym is) (has_owner t new target kept.store there_still);
+      known = number_low t new number key kept.store
+          at;
+    }
 
     properties_are : properties_of t owner ≡ properties_at (graph_in s) target
     properties_are = ap (properties_at (graph_in t)) whose ∙ properties_same
@@ -380,13 +512,37 @@ module _ (s : State) (old : List (List ℕ)) (target : Target) (key : List ℕ) 
         set_first s.shape.limit (graph_in s) target key value refusals.TooManyProperties there
         (inr (names_free, inl (let e = ap maps.len element_with in let more = h.1 in omega arith, refl)))
     set_refused (sets.Full file live) h = ⊎_elim
-        (λ (k : (file ≡ format.properties_file) × (t.shape.limit < properties_with t owner number value)). subst (λ f. IsRefusal s.shape.limit (graph_in s) (commands.Set target key value) (Full f live)) (sym k.0)
+        (λ (k : (file ≡ format.properties_file) × (t.shape.limit < properties_with t owner number value)). subst (λ f. IsRefusal s.shape.limit (graph_in s)
+        (commands.Set target key value) (Full f live)) (sym k.0)
         (set_first s.shape.limit (graph_in s) target key value refusals.FullProperties there
-        (inr (names_free, inr (few_free h.0, inl (subst (λ n. n < property_count (with_value (graph_in s) target key value)) limit_same (subst (λ n. t.shape.limit < n) (ap property_count graph_with) k.1), refl))))))
+        (inr (
+          names_free,
+          inr (
+            few_free h.0,
+            inl (
+              subst (λ n. n < property_count (with_value (graph_in s) target key value)) limit_same
+                  (subst (λ n. t.shape.limit < n) (ap property_count graph_with) k.1),
+              refl,
+            ),
+          ),
+        ))))
         (λ (k : (file ≡ format.strings_file) × (properties_with t owner number value ≤ t.shape.limit) × (t.shape.limit < blocks_with t owner number value)).
         subst (λ f. IsRefusal s.shape.limit (graph_in s) (commands.Set target key value) (Full f live)) (sym k.0)
         (set_first s.shape.limit (graph_in s) target key value refusals.FullStrings there
-        (inr (names_free, inr (few_free h.0, inr (room_free k.1, inl (subst (λ n. n < block_count (with_value (graph_in s) target key value)) limit_same (subst (λ n. t.shape.limit < n) (ap block_count graph_with) k.2), refl)))))))
+        (inr (
+          names_free,
+          inr (
+            few_free h.0,
+            inr (
+              room_free k.1,
+              inl (
+                subst (λ n. n < block_count (with_value (graph_in s) target key value)) limit_same
+                    (subst (λ n. t.shape.limit < n) (ap block_count graph_with) k.2),
+                refl,
+              ),
+            ),
+          ),
+        ))))
         h.1
       where
         limit_same : t.shape.limit ≡ s.shape.limit
@@ -428,7 +584,8 @@ module _ (s : State) (old : List (List ℕ)) (target : Target) (key : List ℕ) 
         → weight ≡ 2 + blocks_of value + released + (length new - length old) + entries
         → IsStore v new → graph_in v ≡ graph_in u → element_weight (graph_in s) target (is_text key)
         (maps.insert (properties_at (graph_in s) target) key value) ≡ entries
-        → (graph_in v ≡ record (with_value (graph_in s) target key value) { names = (graph_in t).names } → Never (index_full s.shape.limit (graph_in s) (commands.Set target key value))) → MakesChange (commands.Set target key value) Done weight s v new
+        → (graph_in v ≡ record (with_value (graph_in s) target key value) { names = (graph_in t).names } → Never (index_full s.shape.limit (graph_in s)
+        (commands.Set target key value))) → MakesChange (commands.Set target key value) Done weight s v new
     set_value u v released entries weight h shape weighs whole last w fits =
         let put : graph_in u ≡ record (with_value (graph_in s) target key value) { names = (graph_in t).names } = h.graph ∙ graph_with in
         let graph : graph_in v ≡ record (with_value (graph_in s) target key value) { names = (graph_in t).names } = last ∙ put in

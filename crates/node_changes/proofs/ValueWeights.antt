@@ -82,7 +82,8 @@ module _ (s : Records) (id : ℕ) (used : kind_at s format.nodes_file id ≢ for
 
       -- A change of the key weighs what it does where the pair has an index, and else nothing.
       pub key_weighs : (after : Properties) → element_weight (graph_of s) (targets.Node id) (is_text (text s key)) after
-          ≡ cond (is_among s ix.definitions label_number key) (entry_weight (properties_at (graph_of s) (targets.Node id)) (text s key) + entry_weight after (text s key)) 0
+          ≡ cond (is_among s ix.definitions label_number key) (entry_weight (properties_at (graph_of s) (targets.Node id)) (text s key) + entry_weight after
+          (text s key)) 0
       key_weighs after =
           node_weighs (is_text (text s key)) after
           ∙ pair_weight s shape store wanted ix label_number key label_low key_low

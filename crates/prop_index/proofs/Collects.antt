@@ -25,9 +25,11 @@ module _ (records : Records) (label key n : ℕ) (low : n < high records format.
   kind_is = kind_low (high records format.nodes_file) (rec_at records format.nodes_file n) n low
 
   -- a free record, or another label
-  pub hash_at-none : (field 1 (rec_at records format.nodes_file n) format.kind ≢ format.free_kind → field 4 (rec_at records format.nodes_file n) format.node_label ≢ label) → hash_at records label key n ≡ None
+  pub hash_at-none : (field 1 (rec_at records format.nodes_file n) format.kind ≢ format.free_kind → field 4 (rec_at records format.nodes_file n)
+      format.node_label ≢ label) → hash_at records label key n ≡ None
   hash_at-none other = ap (option_map hash_of) (⊎_elim
-      (λ (e : kind_at records format.nodes_file n ≡ 0). ap (row_value (property_records records) label key) (row_none (kind_at records format.nodes_file n) row e))
+      (λ (e : kind_at records format.nodes_file n ≡ 0). ap (row_value (property_records records) label key) (row_none (kind_at records format.nodes_file n)
+      row e))
       (λ (ne : kind_at records format.nodes_file n ≢ 0).
       ap (row_value (property_records records) label key) (row_some (kind_at records format.nodes_file n) row ne)
       ∙ ap (λ b. cond b (value_in (properties_met records (node_owner n)) key) None) (eq_false row.label label (other (λ e. ne (kind_is ∙ e)))))

@@ -82,7 +82,8 @@ module _ (records : Records) (label key : ℕ) (e : Entry) where
       where
         one : (o : Option Value) → e.node ≡ n → is_among (option_list (option_map (content_of n) (option_map hash_of o))) ≡ has_hash e.hash o
         one None at = refl
-        one (Some v) at = ap (λ b. b || false) (entry_at e label key n (hash_of v) l k ∙ ap (λ b. b && nat_eq e.hash (hash_of v)) (eq_true e.node n at) ∙ flip e.hash (hash_of v)) ∙ by (nat_eq (hash_of v) e.hash)
+        one (Some v) at = ap (λ b. b || false) (entry_at e label key n (hash_of v) l k ∙ ap (λ b. b && nat_eq e.hash (hash_of v)) (eq_true e.node n at)
+            ∙ flip e.hash (hash_of v)) ∙ by (nat_eq (hash_of v) e.hash)
           where
             by : (b : Bool) → (b || false) ≡ b
             by true = refl
@@ -92,11 +93,13 @@ module _ (records : Records) (label key : ℕ) (e : Entry) where
         none None ne = refl
         none (Some v) ne = rw (entry_at e label key n (hash_of v) l k, eq_false e.node n ne) refl
 
-        here : e.node ≡ n → ((nat_lt e.node n && has_hash e.hash (node_value records label key e.node)) || is_among (option_list (content_at records label key n))) ≡ (nat_lt e.node (suc n) && has_hash e.hash (node_value records label key e.node))
+        here : e.node ≡ n → ((nat_lt e.node n && has_hash e.hash (node_value records label key e.node)) || is_among
+            (option_list (content_at records label key n))) ≡ (nat_lt e.node (suc n) && has_hash e.hash (node_value records label key e.node))
         here at = rw (lt_false e.node n (omega arith), lt_true e.node (suc n) (omega arith))
             (one (node_value records label key n) at ∙ ap (λ m. has_hash e.hash (node_value records label key m)) (sym at))
 
-        there : e.node ≢ n → ((nat_lt e.node n && has_hash e.hash (node_value records label key e.node)) || is_among (option_list (content_at records label key n))) ≡ (nat_lt e.node (suc n) && has_hash e.hash (node_value records label key e.node))
+        there : e.node ≢ n → ((nat_lt e.node n && has_hash e.hash (node_value records label key e.node)) || is_among
+            (option_list (content_at records label key n))) ≡ (nat_lt e.node (suc n) && has_hash e.hash (node_value records label key e.node))
         there ne = rw (none (node_value records label key n) ne, lt_next n ne) (by (nat_lt e.node n && has_hash e.hash (node_value records label key e.node)))
           where
             by : (b : Bool) → (b || false) ≡ b
@@ -105,12 +108,15 @@ module _ (records : Records) (label key : ℕ) (e : Entry) where
 
     above : high records format.nodes_file ≤ e.node → has_hash e.hash (node_value records label key e.node) ≡ false
     above le = ap (λ o. has_hash e.hash (row_value (property_records records) label key o))
-        (row_none (kind_at records format.nodes_file e.node) (node_in (rec_at records format.nodes_file e.node) e.node) (kind_high (high records format.nodes_file) (rec_at records format.nodes_file e.node) e.node le))
+        (row_none (kind_at records format.nodes_file e.node) (node_in (rec_at records format.nodes_file e.node) e.node)
+        (kind_high (high records format.nodes_file) (rec_at records format.nodes_file e.node) e.node le))
 
     pub among-all : is_among (contents_in records label key (high records format.nodes_file)) ≡ wanted_in records e
     among-all = among-below (high records format.nodes_file) ∙ ⊎_elim
-        (λ (lt : e.node < high records format.nodes_file). ap (λ b. b && has_hash e.hash (node_value records label key e.node)) (lt_true e.node (high records format.nodes_file) lt))
-        (λ (le : high records format.nodes_file ≤ e.node). ap (λ b. b && has_hash e.hash (node_value records label key e.node)) (lt_false e.node (high records format.nodes_file) le) ∙ sym (above le))
+        (λ (lt : e.node < high records format.nodes_file). ap (λ b. b && has_hash e.hash (node_value records label key e.node))
+        (lt_true e.node (high records format.nodes_file) lt))
+        (λ (le : high records format.nodes_file ≤ e.node). ap (λ b. b && has_hash e.hash (node_value records label key e.node))
+        (lt_false e.node (high records format.nodes_file) le) ∙ sym (above le))
         (cases_lt e.node (high records format.nodes_file))
         ∙ (λ i. has_hash e.hash (node_value records (sym l i) (sym k i) e.node))
 
@@ -119,7 +125,9 @@ pub wanted_again : (records : Records) (label key : ℕ) (e : Entry) → with_co
     (contents_in records label key (high records format.nodes_file)) e ≡ wanted_in records e
 wanted_again records label key e = ⊎_elim
     (λ (l : e.label ≡ label). ⊎_elim
-    (λ (k : e.key ≡ key). ap (λ b. is_among records label key e (contents_in records label key (high records format.nodes_file)) || b) (lacking-here label key (wanted_in records) e l k) ∙ by (is_among records label key e (contents_in records label key (high records format.nodes_file))) ∙ among-all records label key e l k)
+    (λ (k : e.key ≡ key). ap (λ b. is_among records label key e (contents_in records label key (high records format.nodes_file)) || b) (lacking-here label key
+    (wanted_in records) e l k) ∙ by (is_among records label key e (contents_in records label key (high records format.nodes_file))) ∙ among-all records
+    label key e l k)
     (λ (k : e.key ≢ key). other (λ _. k)) (nat_cases e.key key))
     (λ (l : e.label ≢ label). other (λ m. absurd (l m))) (nat_cases e.label label)
   where
@@ -129,7 +137,11 @@ wanted_again records label key e = ⊎_elim
 
     other : (e.label ≡ label → e.key ≡ key → ⊥) → with_contents (lacking label key (wanted_in records)) label key
         (contents_in records label key (high records format.nodes_file)) e ≡ wanted_in records e
-    other apart = rw (among-other records label key e apart (contents_in records label key (high records format.nodes_file)), lacking-other label key (wanted_in records) e apart) refl
+    other apart = rw (
+      among-other records label key e apart (contents_in records label key (high records format.nodes_file)),
+      lacking-other label key
+          (wanted_in records) e apart,
+    ) refl
 
 -- ---- where only the file of the indexes changed
 
@@ -138,7 +150,8 @@ module _ (s t : Records) (same : SameElsewhere s t) where
   at_file file x ne no_meta = same (key_in file x) ne (λ e. no_meta (ap (λ (q : Key). q.file) e))
 
   pub node_mark : high t format.nodes_file ≡ high s format.nodes_file
-  node_mark = ap (λ r. (metas.meta_of r).high) (same (meta_key_of format.nodes_file) (λ e. omega arith) (λ e. let f = ap (λ (q : Key). q.id) e in omega (arith, f)))
+  node_mark = ap (λ r. (metas.meta_of r).high) (same (meta_key_of format.nodes_file) (λ e. omega arith) (λ e. let f = ap (λ (q : Key). q.id) e in omega
+      (arith, f)))
 
   properties_same : property_records t ≡ property_records s
   properties_same = λ i. record {

@@ -72,7 +72,8 @@ put_live s x rec = ap (λ (r : Rec). (metas.meta_of r).live) (put_other s.record
 pub first_live : (s : State) (id : ℕ) → (meta_of (after_set s (meta_key_of format.index_file) 4 format.meta_definition id) format.index_file).live
     ≡ (meta_of s format.index_file).live
 first_live s id =
-    ap (λ (r : Rec). (metas.meta_of r).live) (put_same s.records (meta_key_of format.index_file) (with_field 4 (s.records (meta_key_of format.index_file)) format.meta_definition id))
+    ap (λ (r : Rec). (metas.meta_of r).live) (put_same s.records (meta_key_of format.index_file) (with_field 4 (s.records (meta_key_of format.index_file))
+    format.meta_definition id))
     ∙ ap (λ m. m.live) (meta_of-definition (s.records (meta_key_of format.index_file)) id)
 
 -- ---- causes

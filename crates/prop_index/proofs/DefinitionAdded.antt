@@ -124,10 +124,12 @@ module _ (s m t : State) (label key first id : ℕ) (rec : Rec) (store : KeepsSt
 
   kept : KeepsStore w
   kept = first_kept t.records id small t.shape (inr added.low)
-      (added.kept (fits-definition (high t.records) rec rec_kind rec_blank first_low (λ c lt. let a = heads.low c lt in let b = added.grows.more in omega (arith, a, b))) (λ _. of_names))
+      (added.kept (fits-definition (high t.records) rec rec_kind rec_blank first_low (λ c lt. let a = heads.low c lt in let b = added.grows.more in omega
+      (arith, a, b))) (λ _. of_names))
 
   meta_is : metas.meta_of (w.records (meta_key_of format.index_file)) ≡ metas.meta_of (t.records (meta_key_of format.index_file))
-  meta_is = ap metas.meta_of (put_same t.records (meta_key_of format.index_file) (with_field 4 (t.records (meta_key_of format.index_file)) format.meta_definition id)) ∙ meta_of-definition (t.records (meta_key_of format.index_file)) id
+  meta_is = ap metas.meta_of (put_same t.records (meta_key_of format.index_file) (with_field 4 (t.records (meta_key_of format.index_file))
+      format.meta_definition id)) ∙ meta_of-definition (t.records (meta_key_of format.index_file)) id
 
   all : IsDefinitionAdded s w label key (record { id = id; rec = rec })
   all = record {
@@ -153,4 +155,11 @@ start-kind label key first a b c = field-with_fields 1 zeros (definition_fields 
 -- reads before it
 pub definition_reread : (s t : State) (reads label key : ℕ) (definition : Definition) → IsDefinitionAdded (record s { reads = reads }) t label key definition
     → IsDefinitionAdded s t label key definition
-definition_reread s t reads label key definition h = record { made = h.made; rec_is = h.rec_is; live = h.live; shape = h.shape; others = h.others; kept = h.kept }
+definition_reread s t reads label key definition h = record {
+  made = h.made;
+  rec_is = h.rec_is;
+  live = h.live;
+  shape = h.shape;
+  others = h.others;
+  kept = h.kept;
+}

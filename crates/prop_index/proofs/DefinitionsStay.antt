@@ -37,7 +37,8 @@ test_in records label key y = is_definition_of (kind_at records format.index_fil
 -- a record of another kind is no definition
 not_defined : (records : Records) (label key y : ℕ) → kind_at records format.index_file y ≢ format.definition → test_in records label key y ≡ false
 not_defined records label key y other =
-    ap (λ b. b && (nat_eq (field 4 (rec_at records format.index_file y) format.definition_label) label && nat_eq (field 4 (rec_at records format.index_file y) format.definition_key) key))
+    ap (λ b. b && (nat_eq (field 4 (rec_at records format.index_file y) format.definition_label) label && nat_eq (field 4 (rec_at records format.index_file y)
+    format.definition_key) key))
     (eq_false (kind_at records format.index_file y) format.definition other)
 
 module _ (s t : Records) (elsewhere : SameElsewhere s t) (grows : high s format.index_file ≤ high t format.index_file)
@@ -46,10 +47,12 @@ module _ (s t : Records) (elsewhere : SameElsewhere s t) (grows : high s format.
   names_rec = λ i x. elsewhere (key_in format.names_file x) (λ e. omega (arith, e)) (λ e. let f = ap (λ (k : Key). k.file) e in omega (arith, f)) i
 
   names_mark : high t format.names_file ≡ high s format.names_file
-  names_mark = ap (λ (r : Rec). (metas.meta_of r).high) (elsewhere (meta_key_of format.names_file) (λ e. omega (arith, e)) (λ e. let i = ap (λ (k : Key). k.id) e in omega (arith, i)))
+  names_mark = ap (λ (r : Rec). (metas.meta_of r).high) (elsewhere (meta_key_of format.names_file) (λ e. omega (arith, e)) (λ e. let i = ap (λ (k : Key). k.id)
+      e in omega (arith, i)))
 
   past_none : (label key x : ℕ) → high s format.index_file ≤ x → test_in s label key x ≡ false
-  past_none label key x le = not_defined s label key x (λ e. let k = kind_high (high s format.index_file) (rec_at s format.index_file x) x le in omega (arith, e, k))
+  past_none label key x le = not_defined s label key x (λ e. let k = kind_high (high s format.index_file) (rec_at s format.index_file x) x le in omega
+      (arith, e, k))
 
   found_same : (label key : ℕ) → ids (test_in t label key) (high t format.index_file) ≡ ids (test_in s label key) (high s format.index_file)
   found_same label key = ap (λ (f : ℕ → Bool). ids f (high t format.index_file)) (λ i y. same label key y i)
@@ -60,12 +63,14 @@ module _ (s t : Records) (elsewhere : SameElsewhere s t) (grows : high s format.
 
   from_same : (label key : ℕ) → index_from (kind_at t format.index_file) (rec_at t format.index_file) (high t format.index_file) names label key ≡ index_from
       (kind_at s format.index_file) (rec_at s format.index_file) (high s format.index_file) names label key
-  from_same label key = ap (λ (found : List ℕ). if nat_lt 0 (length found) then Some (record { label = text_of (names label); key = text_of (names key) }) else None) (found_same label key)
+  from_same label key = ap (λ (found : List ℕ). if nat_lt 0 (length found) then Some (record { label = text_of (names label); key = text_of (names key) }) else
+      None) (found_same label key)
 
   pub graph_indexes : indexes_of t ≡ indexes_of s
   graph_indexes =
       (λ i. indexes_from (kind_at t format.index_file) (rec_at t format.index_file) (high t format.index_file) (names_rec i) (names_mark i))
-      ∙ ap (λ (from : ℕ → ℕ → Option Index). flat_map (λ label. collect (from label) (high s format.names_file)) (ids (λ label. true) (high s format.names_file))) (λ i label key. from_same label key i)
+      ∙ ap (λ (from : ℕ → ℕ → Option Index). flat_map (λ label. collect (from label) (high s format.names_file))
+      (ids (λ label. true) (high s format.names_file))) (λ i label key. from_same label key i)
 
 -- tests of a record whose kind stays, and which stays if it is a definition
 test_kept : (s t : Records) (label key y : ℕ) → kind_at t format.index_file y ≡ kind_at s format.index_file y
@@ -73,7 +78,8 @@ test_kept : (s t : Records) (label key y : ℕ) → kind_at t format.index_file 
 test_kept s t label key y kinds stays = ⊎_elim
     (λ (is : kind_at s format.index_file y ≡ format.definition). let rec = stays is in
     λ i. nat_eq (kinds i) format.definition && (nat_eq (field 4 (rec i) format.definition_label) label && nat_eq (field 4 (rec i) format.definition_key) key))
-    (λ (other : kind_at s format.index_file y ≢ format.definition). not_defined t label key y (λ e. other (sym kinds ∙ e)) ∙ sym (not_defined s label key y other))
+    (λ (other : kind_at s format.index_file y ≢ format.definition). not_defined t label key y (λ e. other (sym kinds ∙ e)) ∙ sym
+    (not_defined s label key y other))
     (nat_cases (kind_at s format.index_file y) format.definition)
 
 test_none : (s t : Records) (label key y : ℕ) → kind_at s format.index_file y ≢ format.definition → kind_at t format.index_file y ≢ format.definition
@@ -119,7 +125,8 @@ module _ (s t : Records) (x hid place node hash : ℕ) (made : IsEntryMade s t x
 
   made_stays : (y : ℕ) → y ≢ x → kind_at s format.index_file y ≡ format.definition → index_rec t y ≡ index_rec s y
   made_stays y ne is = made.others y ne
-      (λ e. let some : first ≢ format.nil = λ none. live_some s y (defined_low s y is) (e ∙ none) in let k = begins some in let q = ap (kind_at s format.index_file) e in omega (arith, is, k, q))
+      (λ e. let some : first ≢ format.nil = λ none. live_some s y (defined_low s y is) (e ∙ none) in let k = begins some in let q = ap
+      (kind_at s format.index_file) e in omega (arith, is, k, q))
       (λ e. let q = ap (kind_at s format.index_file) e in omega (arith, is, heads, q))
 
   made_tests : (label key y : ℕ) → test_in t label key y ≡ test_in s label key y

@@ -21,7 +21,8 @@ use Rattle.prop_index.proofs.IndexBlames.{nodes_mark}
 -- the record of a node in use has a kind
 pub in_use : (s : Records) (n : ℕ) (rec : Rec) → rec ≡ rec_at s format.nodes_file n → n < high s format.nodes_file
     → kind_at s format.nodes_file n ≢ format.free_kind → field 1 rec format.kind ≡ format.free_kind → ⊥
-in_use s n rec is low used free = used (kind_low (high s format.nodes_file) (rec_at s format.nodes_file n) n low ∙ ap (λ (r : Rec). field 1 r format.kind) (sym is) ∙ free)
+in_use s n rec is low used free = used (kind_low (high s format.nodes_file) (rec_at s format.nodes_file n) n low ∙ ap (λ (r : Rec). field 1 r format.kind)
+    (sym is) ∙ free)
 
 module _ (s : State) (d b count x : ℕ) (rec : Rec) (met : IsEntryMet s.records d b count x rec) (node : ℕ) (node_is : node ≡ entry_node s.records x) where
   below : x < high s.records format.index_file
@@ -31,7 +32,8 @@ module _ (s : State) (d b count x : ℕ) (rec : Rec) (met : IsEntryMet s.records
       → BreaksAny s.records s.shape bad
   entry_owner_blames named is _ (NamesNone le) = inl (subst (Breaks s.records s.shape) (sym is)
       (RecordRange format.index_file x refl below
-      (λ fits. let low = entry_node_low (high s.records) (index_rec s.records x) fits (sym (kind_low (high s.records format.index_file) (index_rec s.records x) x below) ∙ met.used) in omega (arith, low, le, node_is))))
+      (λ fits. let low = entry_node_low (high s.records) (index_rec s.records x) fits (sym (kind_low (high s.records format.index_file) (index_rec s.records x)
+      x below) ∙ met.used) in omega (arith, low, le, node_is))))
   entry_owner_blames named is _ (HighNodes over) = inl (nodes_mark s over)
 
   -- its node is not in use

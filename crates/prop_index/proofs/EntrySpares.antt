@@ -46,7 +46,8 @@ entry_spares s u t slot first id content node_fits first_fits hash_fits took is 
     (still_other s one put first (first_used some) (first_other some)) (backed-some one first id some)) (nat_cases first format.nil) in
     let back_kept : KeepsInUse one two file = ⊎_elim
     (λ (e : first ≡ format.nil). subst (λ (z : State). KeepsInUse one z file) (sym (backed-none one first id e)) (keeps_none one file))
-    (λ (some : first ≢ format.nil). set_keeps one two file first format.indexed_previous id refl (omega arith) (kept.used first (first_used some)) (backed-some one first id some))
+    (λ (some : first ≢ format.nil). set_keeps one two file first format.indexed_previous id refl (omega arith) (kept.used first (first_used some))
+    (backed-some one first id some))
     (nat_cases first format.nil) in
     let both : SparesDefinitions s two = spares_then s one two put back in
     let led : SparesDefinitions two t = set_spares two t slot.id slot.place id place (back_kept.used slot.id (kept.used slot.id head_used))
@@ -92,13 +93,16 @@ module _ (s t : State) (slot : Slot) (x before after : ℕ) (now : t ≡ unlinke
   back : SparesDefinitions one two
   back = ⊎_elim
       (λ (e : after ≡ format.nil). subst (λ (z : State). SparesDefinitions one z) (sym (backed-none one after before e)) (spares_none one one refl))
-      (λ (some : after ≢ format.nil). set_spares one two after format.indexed_previous before (omega arith) (still_used after after_other (entry_used after (follows some)))
-      (still_other s one gave after (entry_used after (follows some)) (entry_other after (follows some))) (backed-some one after before some)) (nat_cases after format.nil)
+      (λ (some : after ≢ format.nil). set_spares one two after format.indexed_previous before (omega arith) (still_used after after_other
+      (entry_used after (follows some)))
+      (still_other s one gave after (entry_used after (follows some)) (entry_other after (follows some))) (backed-some one after before some))
+      (nat_cases after format.nil)
 
   back_kept : KeepsInUse one two file
   back_kept = ⊎_elim
       (λ (e : after ≡ format.nil). subst (λ (z : State). KeepsInUse one z file) (sym (backed-none one after before e)) (keeps_none one file))
-      (λ (some : after ≢ format.nil). set_keeps one two file after format.indexed_previous before refl (omega arith) (still_used after after_other (entry_used after (follows some))) (backed-some one after before some))
+      (λ (some : after ≢ format.nil). set_keeps one two file after format.indexed_previous before refl (omega arith) (still_used after after_other
+      (entry_used after (follows some))) (backed-some one after before some))
       (nat_cases after format.nil)
 
   both : SparesDefinitions s two

@@ -64,8 +64,10 @@ unlike label key node hash (c ∷ cs) other =
     let rest = unlike label key node hash cs (λ k i. other k (contains_later c cs k i)) in
     by (nat_eq label label) (nat_eq key key) here rest
   where
-    by : (a b : Bool) → nat_eq node c.node ≡ false → list_any (λ k. is_entry (record { label = label; key = key; node = node; hash = hash }) (entry_for label key k)) cs ≡ false
-        → ((a && (b && (nat_eq node c.node && nat_eq hash c.hash))) || list_any (λ k. is_entry (record { label = label; key = key; node = node; hash = hash }) (entry_for label key k)) cs) ≡ false
+    by : (a b : Bool) → nat_eq node c.node ≡ false → list_any (λ k. is_entry (record { label = label; key = key; node = node; hash = hash })
+        (entry_for label key k)) cs ≡ false
+        → ((a && (b && (nat_eq node c.node && nat_eq hash c.hash))) || list_any (λ k. is_entry (record { label = label; key = key; node = node; hash = hash })
+        (entry_for label key k)) cs) ≡ false
     by true true q r = rw (q, r) refl
     by true false q r = r
     by false b q r = r
@@ -84,7 +86,8 @@ module _ (s m : State) (wanted : Entries) (ix : AreIndexed s.records wanted) (la
 
   walked : IsWalk (next_definition m.records) (first_definition m.records) ix.definitions
   walked = subst (λ f. IsWalk (next_definition m.records) f ix.definitions) (sym old.first)
-      (walk_stays (next_definition s.records) (next_definition m.records) (first_definition s.records) ix.definitions (λ e i. ap (λ (r : Rec). field 4 r format.definition_next) (old.definitions e i)) ix.walk)
+      (walk_stays (next_definition s.records) (next_definition m.records) (first_definition s.records) ix.definitions
+      (λ e i. ap (λ (r : Rec). field 4 r format.definition_next) (old.definitions e i)) ix.walk)
 
   -- the definitions are those that there were
   pub definitions_same : ix.definitions ≡ old.indexes.definitions
@@ -111,7 +114,11 @@ module _ (s m : State) (wanted : Entries) (ix : AreIndexed s.records wanted) (la
     }
 
     pair_now : IsPair m.records label key d
-    pair_now = (ap (λ (r : Rec). field 4 r format.definition_label) (old.definitions d empty.listed) ∙ empty.pair.0, ap (λ (r : Rec). field 4 r format.definition_key) (old.definitions d empty.listed) ∙ empty.pair.1)
+    pair_now = (
+      ap (λ (r : Rec). field 4 r format.definition_label) (old.definitions d empty.listed) ∙ empty.pair.0,
+      ap
+          (λ (r : Rec). field 4 r format.definition_key) (old.definitions d empty.listed) ∙ empty.pair.1,
+    )
 
     found : IsFoundBucket m.records old.indexes.definitions label key c.hash bucket
     found = record {
@@ -153,7 +160,12 @@ module _ (s m : State) (wanted : Entries) (ix : AreIndexed s.records wanted) (la
         unwanted : entries one ≡ false
         unwanted = rw (unlike label key c.node c.hash p apart, empty.unwanted one refl refl) refl
 
-        changed : IsBucketChanged m.records t.records entries (with_entry entries (record { label = indexed_label m.records d; key = indexed_key m.records d; node = c.node; hash = c.hash })) old.indexes d b (id ∷ old.indexes.lists d b)
+        changed : IsBucketChanged m.records t.records entries (with_entry entries (record {
+          label = indexed_label m.records d;
+          key = indexed_key m.records d;
+          node = c.node;
+          hash = c.hash;
+        })) old.indexes d b (id ∷ old.indexes.lists d b)
         changed = em.entry_made m.records t.records entries old.indexes d id c.node c.hash listed made_at
             (ap entries (λ i. record { label = pair_now.0 i; key = pair_now.1 i; node = c.node; hash = c.hash }) ∙ unwanted)
 

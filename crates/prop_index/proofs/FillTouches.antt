@@ -17,7 +17,8 @@ append_in (y ∷ xs) ys x (inr i) P left right = append_in xs ys x i P (λ j. le
 some_in : (first x : ℕ) → In x (some_id first) → (x ≡ first) × (first ≢ format.nil)
 some_in first x i = ⊎_elim
     (λ (e : first ≡ format.nil). let none : In x [] = subst (λ b. In x (cond b [] (first ∷ []))) (eq_true first format.nil e) i in absurd none)
-    (λ (ne : first ≢ format.nil). let one : In x (first ∷ []) = subst (λ b. In x (cond b [] (first ∷ []))) (eq_false first format.nil ne) i in (⊎_elim (λ e. e) (λ (k : ⊥). absurd k) one, ne))
+    (λ (ne : first ≢ format.nil). let one : In x (first ∷ []) = subst (λ b. In x (cond b [] (first ∷ []))) (eq_false first format.nil ne) i in
+    (⊎_elim (λ e. e) (λ (k : ⊥). absurd k) one, ne))
     (nat_cases first format.nil)
 
 -- the records of an entry in front of a bucket: its own, a head, and an entry that came before

@@ -51,7 +51,8 @@ value_one (values.Int a) (values.Int b) h = ap (λ t. values.Int t) (int_cmp-IsA
 value_one (values.Int a) (values.Text b) h = absurd (true≢false (sym h))
 value_one (values.Text a) (values.Bool b) h = absurd (true≢false (sym h))
 value_one (values.Text a) (values.Int b) h = absurd (true≢false (sym h))
-value_one (values.Text a) (values.Text b) h = ap (λ t. values.Text t) (slice_cmp-IsAntisymmetric nat_cmp-IsAntisymmetric a b ((Equal-is (slice_cmp nat_cmp a b)).0 h))
+value_one (values.Text a) (values.Text b) h = ap (λ t. values.Text t) (slice_cmp-IsAntisymmetric nat_cmp-IsAntisymmetric a b
+    ((Equal-is (slice_cmp nat_cmp a b)).0 h))
 
 pub has_value-is : (value : Value) (o : Option Value) → has_value value o ≡ true → o ≡ Some value
 has_value-is value None h = absurd (true≢false (sym h))
@@ -200,7 +201,8 @@ module _ (s : State) (store : IsIndexed s.records s.shape) (d : ℕ) (listed : I
       = ap (has_value value) (read_is found.id found.member) ∙ ap holds at ∙ h in
       let is_one : picked found.id ≡ true = both (is_hashed records (hash_of value) found.id) _ (eq_true (entry_hash records found.id) (hash_of value) hashed)
       reads in
-      subst (λ z. Contains nodes z) at (map_contains (entry_node records) (filter picked entries) found.id (filter_in picked entries found.id found.member is_one))
+      subst (λ z. Contains nodes z) at (map_contains (entry_node records) (filter picked entries) found.id (filter_in picked entries found.id found.member
+      is_one))
     where
       both : (a b : Bool) → a ≡ true → b ≡ true → (a && b) ≡ true
       both true true p q = refl

@@ -78,7 +78,8 @@ module _ (s : State) (slot : Slot) (first x : ℕ) (xs : List ℕ) (is : IsBucke
   after_kind some = kind_u after (after_other (next_entry s.records) first xs x walk member) ∙ is.kind after (after-member s.records first x xs is member some)
 
   before_kind : before ≢ format.nil → kind_at u.records format.index_file before ≡ format.indexed
-  before_kind some = kind_u before (before_other (next_entry s.records) (previous_entry s.records) format.nil first xs x (nil_out (next_entry s.records) first xs walk) is.chain member)
+  before_kind some = kind_u before (before_other (next_entry s.records) (previous_entry s.records) format.nil first xs x (nil_out (next_entry s.records)
+      first xs walk) is.chain member)
       ∙ is.kind before (before-member s.records first x xs is member some)
 
   before_fits : before < 2 ^ 32
@@ -88,14 +89,16 @@ module _ (s : State) (slot : Slot) (first x : ℕ) (xs : List ℕ) (is : IsBucke
   after_fits = field-lt 4 (index_rec s.records x) format.indexed_next
 
   before_low : IsLow (high u.records format.index_file) before
-  before_low = ⊎_elim (λ (e : before ≡ format.nil). inl e) (λ (some : before ≢ format.nil). let lt = before-low s.records first x xs is member some in let m = was_given.mark in inr (omega (arith, lt, m))) (nat_cases before format.nil)
+  before_low = ⊎_elim (λ (e : before ≡ format.nil). inl e) (λ (some : before ≢ format.nil). let lt = before-low s.records first x xs is member some in let m =
+      was_given.mark in inr (omega (arith, lt, m))) (nat_cases before format.nil)
 
   abbrev two : State
   two = backed_entry u after before
 
   after_low : IsLow (high two.records format.index_file) after
   after_low = ⊎_elim (λ (e : after ≡ format.nil). inl e)
-      (λ (some : after ≢ format.nil). let lt = after-low s.records first x xs is member some in let m = was_given.mark in let n = back_mark u after before after_kind in inr (omega (arith, lt, m, n))) (nat_cases after format.nil)
+      (λ (some : after ≢ format.nil). let lt = after-low s.records first x xs is member some in let m = was_given.mark in let n = back_mark u after before
+      after_kind in inr (omega (arith, lt, m, n))) (nat_cases after format.nil)
 
   rules_two : IsWellFormed two.records s.shape
   rules_two = back_kept s.shape u after before after_kind before_fits before_low rules_u
@@ -108,7 +111,8 @@ module _ (s : State) (slot : Slot) (first x : ℕ) (xs : List ℕ) (is : IsBucke
 
   led_kept : IsWellFormed (led_entry two slot before after).records s.shape
   led_kept = ⊎_elim
-      (λ (e : before ≡ format.nil). subst (λ (z : State). IsWellFormed z.records s.shape) (sym (led-none two slot before after e)) (head_kept s.shape two slot after heads_two place after_fits after_low rules_two))
+      (λ (e : before ≡ format.nil). subst (λ (z : State). IsWellFormed z.records s.shape) (sym (led-none two slot before after e))
+      (head_kept s.shape two slot after heads_two place after_fits after_low rules_two))
       (λ (some : before ≢ format.nil).
       let k : kind_at two.records format.index_file before ≡ format.indexed = back_kind u after before after_kind before ∙ before_kind some in
       let used_two : kind_at two.records format.index_file before ≢ format.free_kind = λ q. omega (arith, k, q) in
@@ -116,7 +120,8 @@ module _ (s : State) (slot : Slot) (first x : ℕ) (xs : List ℕ) (is : IsBucke
       let byte : field 1 (rec_at two.records format.index_file before) format.kind ≡ format.indexed =
       sym (kind_low (high two.records format.index_file) (rec_at two.records format.index_file before) before under) ∙ k in
       subst (λ (z : State). IsWellFormed z.records s.shape) (sym (led-some two slot before after some))
-      (set_kept two.records before format.indexed_next after used_two (omega arith) s.shape (λ q. omega (arith, k, q)) (fits_entry_next (high two.records) (rec_at two.records format.index_file before) after after_fits after_low byte) rules_two))
+      (set_kept two.records before format.indexed_next after used_two (omega arith) s.shape (λ q. omega (arith, k, q)) (fits_entry_next (high two.records)
+      (rec_at two.records format.index_file before) after after_fits after_low byte) rules_two))
       (nat_cases before format.nil)
 
   -- The entry is out of its bucket, and the rules hold.

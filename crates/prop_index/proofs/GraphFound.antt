@@ -43,7 +43,8 @@ module _ (name_file : ℕ → Rec) (names : ℕ) (named : AreNames name_file nam
   text_test : (a b : ℕ) → a < names → b < names → is_text (text_of (name_file a)) (text_of (name_file b)) ≡ nat_eq a b
   text_test a b low below = same_tests (is_text (text_of (name_file a)) (text_of (name_file b))) (nat_eq a b)
       (λ h. subst (λ k. nat_eq a k ≡ true) (named.distinct a b low below (same_key (text_of (name_file a)) (text_of (name_file b)) h)) (nat_eq_equiv.refl a))
-      (λ h. subst (λ k. is_text (text_of (name_file a)) (text_of (name_file k)) ≡ true) (eqb-true a b h) ((eq_by_cmp_equiv nat_list_cmp_total).refl (text_of (name_file a))))
+      (λ h. subst (λ k. is_text (text_of (name_file a)) (text_of (name_file k)) ≡ true) (eqb-true a b h) ((eq_by_cmp_equiv nat_list_cmp_total).refl
+      (text_of (name_file a))))
 
   -- of a name's text is found what has the name's number
   find_named : (es : List Property) (key : ℕ) → key < names → ((k : ℕ) → In k (keys_of es) → k < names)
@@ -52,8 +53,10 @@ module _ (name_file : ℕ → Rec) (names : ℕ) (named : AreNames name_file nam
   find_named (e ∷ es) key low known =
       let test : eq_by_cmp order (text_of (name_file key)) (text_of (name_file e.key)) ≡ nat_eq e.key key =
       same_tests (eq_by_cmp order (text_of (name_file key)) (text_of (name_file e.key))) (nat_eq e.key key)
-      (λ h. subst (λ k. nat_eq k key ≡ true) (named.distinct key e.key low (known e.key (inl refl)) (same_key (text_of (name_file key)) (text_of (name_file e.key)) h)) (nat_eq_equiv.refl key))
-      (λ h. subst (λ k. eq_by_cmp order (text_of (name_file key)) (text_of (name_file k)) ≡ true) (sym (eqb-true e.key key h)) ((eq_by_cmp_equiv nat_list_cmp_total).refl (text_of (name_file key)))) in
+      (λ h. subst (λ k. nat_eq k key ≡ true) (named.distinct key e.key low (known e.key (inl refl)) (same_key (text_of (name_file key))
+      (text_of (name_file e.key)) h)) (nat_eq_equiv.refl key))
+      (λ h. subst (λ k. eq_by_cmp order (text_of (name_file key)) (text_of (name_file k)) ≡ true) (sym (eqb-true e.key key h))
+      ((eq_by_cmp_equiv nat_list_cmp_total).refl (text_of (name_file key)))) in
       ap (λ b. cond b (Some e.value) (maps.find order (text_of (name_file key)) (map (named_property name_file) es))) test
       ∙ by (nat_eq e.key key) (find_named es key low (λ k i. known k (inr i)))
     where
@@ -112,16 +115,27 @@ module _ (s : Records) (shape : Shape) (store : IsWellFormed s shape) (label key
           text_test names mark named row.label label (labelled.nodes_named n row is) label_low in
           let values : maps.get (properties_from names (property_records s) row.property) (text_of (names key)) ≡ value_in
           (listed_from (property_records s) row.property) key
-          = subst (λ (r : NodeRow). maps.get (properties_from names (property_records s) r.property) (text_of (names key)) ≡ value_in (listed_from (property_records s) r.property) key) at.1 (value_same n at.0) in
+          = subst (λ (r : NodeRow). maps.get (properties_from names (property_records s) r.property) (text_of (names key)) ≡ value_in
+          (listed_from (property_records s) r.property) key) at.1 (value_same n at.0) in
           rw (labels, values) (pick (nat_eq row.label label) (value_in (listed_from (property_records s) row.property) key) row numbered)
         where
           pick : (b : Bool) (o : Option Value) (row : NodeRow) → row.id ≡ n
-              → map node_number (cond (b && has_value value o) (record { id = row.id; label = text_of (names row.label); properties = properties_from names (property_records s) row.property } ∷ []) [])
+              → map node_number (cond (b && has_value value o) (record {
+                id = row.id;
+                label = text_of (names row.label);
+                properties = properties_from names
+                    (property_records s) row.property;
+              } ∷ []) [])
               ≡ option_list (cond (has_value value (cond b o None)) (Some n) None)
           pick false o row same = refl
           pick true o row same = on (has_value value o)
             where
-              on : (t : Bool) → map node_number (cond t (record { id = row.id; label = text_of (names row.label); properties = properties_from names (property_records s) row.property } ∷ []) []) ≡ option_list (cond t (Some n) None)
+              on : (t : Bool) → map node_number (cond t (record {
+                id = row.id;
+                label = text_of (names row.label);
+                properties = properties_from names
+                    (property_records s) row.property;
+              } ∷ []) []) ≡ option_list (cond t (Some n) None)
               on true = λ i. same i ∷ []
               on false = refl
 

@@ -1,5 +1,6 @@
 -- What a search of the indexes blames, as a breach of a rule.
-use Rattle.std.proofs.Common.{◌≡◌, ◌≢◌, ◌⊎◌, ℕ, ◌+◌, ◌%◌, ◌<◌, ◌≤◌, List, [], ◌∷◌, ◌++◌, length, length-append, map, refl, sym, ap, ◌∙◌, subst, ⊎_elim, inl, inr, arith}
+use Rattle.std.proofs.Common.{◌≡◌, ◌≢◌, ◌⊎◌, ℕ, ◌+◌, ◌%◌, ◌<◌, ◌≤◌, List, [], ◌∷◌, ◌++◌, length, length-append, map, refl, sym, ap, ◌∙◌, subst}
+use Rattle.std.proofs.Common.{⊎_elim, inl, inr, arith}
 use Rattle.std.specs.Prelude.{IfErr, Result, Ok, Err}
 use Rattle.std.specs.Result.{IsErrAnd}
 use Rattle.std.proofs.lemmas.List.{map-append}
@@ -79,7 +80,8 @@ pub definition_begins : (s : State) (at : ℕ) → at ≡ first_definition s.rec
 definition_begins s at is = record {
   leads = λ some. FirstDefinition at (sym is) some;
   past = λ some le. WrongMeta format.index_file (omega arith)
-      (λ k. none_past (high s.records format.index_file) at le some (subst (IsLow (high s.records format.index_file)) (sym is) ((k.since (omega arith)).first refl)));
+      (λ k. none_past (high s.records format.index_file) at le some (subst (IsLow (high s.records format.index_file)) (sym is)
+      ((k.since (omega arith)).first refl)));
 }
 
 module _ (s : State) (at : ℕ) (named : Damage) (h : IsDefinitionAt s at named) (some : at ≢ format.nil) where
@@ -111,10 +113,12 @@ heads_blames s d c id leads used low is Memory why = tt
 heads_blames s d c id leads used low is Disk why = tt
 heads_blames s d c id leads used low is (Damaged _) (LeadsNowhere le) =
     inl (RecordRange format.index_file d refl (below s d format.definition used definition_some)
-    (λ fits. let k = links.definition_heads_low (high s.records) (index_rec s.records d) fits (byte s d format.definition used definition_some) c low in omega (arith, k, le, is)))
+    (λ fits. let k = links.definition_heads_low (high s.records) (index_rec s.records d) fits (byte s d format.definition used definition_some) c low in omega
+    (arith, k, le, is)))
 heads_blames s d c id leads used low is (Damaged _) (HighMark over) = inl (index_mark s over)
 heads_blames s d c id leads used low is (Damaged _) (OtherKind given other) =
-    inr (subst (λ z. IndexBreaks s.records (damage_of format.index_file z 8)) (sym is) (OtherHead d c leads used low (subst (λ z. z < high s.records format.index_file) is given) (λ e. other (ap (kind_at s.records format.index_file) is ∙ e))))
+    inr (subst (λ z. IndexBreaks s.records (damage_of format.index_file z 8)) (sym is) (OtherHead d c leads used low
+    (subst (λ z. z < high s.records format.index_file) is given) (λ e. other (ap (kind_at s.records format.index_file) is ∙ e))))
 
 -- ---- the entries of a bucket
 
@@ -128,7 +132,8 @@ entry_begins s label key number bucket met =
       past = λ some le. RecordRange format.index_file bucket.slot.id refl (below s bucket.slot.id format.heads used heads_some)
           (λ fits. none_past (high s.records format.index_file) bucket.first le some
           (subst (IsLow (high s.records format.index_file)) (sym (met.is.head.first_is ∙ ap (field 4 (index_rec s.records bucket.slot.id)) met.is.place_is))
-          (links.heads_first_low (high s.records) (index_rec s.records bucket.slot.id) fits (byte s bucket.slot.id format.heads used heads_some) (number % 15) (omega arith))));
+          (links.heads_first_low (high s.records) (index_rec s.records bucket.slot.id) fits (byte s bucket.slot.id format.heads used heads_some) (number % 15)
+          (omega arith))));
     }
 
 module _ (s : State) (d b count at : ℕ) (named : Damage) (h : IsEntryAt s d b count at named) (some : at ≢ format.nil) where

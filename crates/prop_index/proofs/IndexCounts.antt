@@ -102,12 +102,14 @@ module _ (s : Records) (wanted : Entries) (ix : AreIndexed s wanted) where
       (λ b. absurd (let k = own_kind d x i a in let f = entry_kind e x j b in omega (arith, k, f))))
       (λ a. part e x n
       (λ b. absurd (let k = own_kind e x j b in let f = head_kind d x i a in omega (arith, k, f)))
-      (λ b. let p = map_in (heads_of s d) x (down 12) a in let q = map_in (heads_of s e) x (down 12) b in (ix.heads_once d p.0 e q.0 i j (down_in 12 p.0 p.1) (down_in 12 q.0 q.1) (sym p.2 ∙ q.2)).0)
+      (λ b. let p = map_in (heads_of s d) x (down 12) a in let q = map_in (heads_of s e) x (down 12) b in (ix.heads_once d p.0 e q.0 i j (down_in 12 p.0 p.1)
+      (down_in 12 q.0 q.1) (sym p.2 ∙ q.2)).0)
       (λ b. absurd (let k = head_kind d x i a in let f = entry_kind e x j b in omega (arith, k, f))))
       (λ a. part e x n
       (λ b. absurd (let k = own_kind e x j b in let f = entry_kind d x i a in omega (arith, k, f)))
       (λ b. absurd (let k = head_kind e x j b in let f = entry_kind d x i a in omega (arith, k, f)))
-      (λ b. let p = flat_map_in (ix.lists d) x (down 180) a in let q = flat_map_in (ix.lists e) x (down 180) b in ix.one d p.0 e q.0 x i j (down_in 180 p.0 p.1) (down_in 180 q.0 q.1) p.2 q.2))
+      (λ b. let p = flat_map_in (ix.lists d) x (down 180) a in let q = flat_map_in (ix.lists e) x (down 180) b in ix.one d p.0 e q.0 x i j (down_in 180 p.0 p.1)
+      (down_in 180 q.0 q.1) p.2 q.2))
 
   all_once : AreOnce (flat_map block ds)
   all_once = once_flat_map block ds (once_walk (next_definition s) (first_definition s) ds ix.walk) block_once same
@@ -119,8 +121,10 @@ module _ (s : Records) (wanted : Entries) (ix : AreIndexed s wanted) where
     where
       by : IsOfIndex s ix.definitions ix.lists x → In x (flat_map block ds)
       by (IsDefinition i) = in_flat_map block x x ds i (inl refl)
-      by (IsHeads d c i lt is) = in_flat_map block x d ds i (inr (in_left x (heads_in d) (entries_of d) (subst (λ z. In z (heads_in d)) is (image_in (heads_of s d) c (down 12) (in_down 12 c lt)))))
-      by (IsEntry d b i lt m) = in_flat_map block x d ds i (inr (in_right x (heads_in d) (entries_of d) (in_flat_map (ix.lists d) x b (down 180) (in_down 180 b lt) m)))
+      by (IsHeads d c i lt is) = in_flat_map block x d ds i (inr (in_left x (heads_in d) (entries_of d) (subst (λ z. In z (heads_in d)) is
+          (image_in (heads_of s d) c (down 12) (in_down 12 c lt)))))
+      by (IsEntry d b i lt m) = in_flat_map block x d ds i (inr (in_right x (heads_in d) (entries_of d) (in_flat_map (ix.lists d) x b (down 180)
+          (in_down 180 b lt) m)))
 
   in_used : (x : ℕ) → In x (flat_map block ds) → kind_at s format.index_file x ≢ 0
   in_used x m q =
@@ -134,7 +138,8 @@ module _ (s : Records) (wanted : Entries) (ix : AreIndexed s wanted) where
   blocks_are = length_same (ids (is_live s format.index_file) (high s format.index_file)) (flat_map block ds)
       (once_ids (is_live s format.index_file) (high s format.index_file)) all_once
       (λ x i. used_in x (ids_in (is_live s format.index_file) (high s format.index_file) x i).1)
-      (λ x m. in_ids (is_live s format.index_file) (high s format.index_file) x (kind_below (high s format.index_file) (rec_at s format.index_file x) x (in_used x m)) (live_true (kind_at s format.index_file x) (in_used x m)))
+      (λ x m. in_ids (is_live s format.index_file) (high s format.index_file) x (kind_below (high s format.index_file) (rec_at s format.index_file x) x
+      (in_used x m)) (live_true (kind_at s format.index_file x) (in_used x m)))
 
   length-blocks : (xs : List ℕ) → length (flat_map block xs) ≡ 13 * length xs + length (flat_map entries_of xs)
   length-blocks [] = refl

@@ -109,7 +109,8 @@ module _ (s m : State) (label key : ℕ) (definition : Definition) (was : IsInde
 
     walk_now : IsWalk (next_definition t.records) (first_definition t.records) (d ∷ olds)
     walk_now = subst (λ f. IsWalk (next_definition t.records) f (d ∷ olds)) (sym filled.first)
-        (walk_stays (next_definition m.records) (next_definition t.records) (first_definition m.records) (d ∷ olds) (λ e i. ap (λ (r : Rec). field 4 r format.definition_next) (rec_same e i)) walk_defined)
+        (walk_stays (next_definition m.records) (next_definition t.records) (first_definition m.records) (d ∷ olds)
+        (λ e i. ap (λ (r : Rec). field 4 r format.definition_next) (rec_same e i)) walk_defined)
 
     new_pair : pair_of t.records d ≡ pair_is label key
     new_pair =
@@ -124,7 +125,8 @@ module _ (s m : State) (label key : ℕ) (definition : Definition) (was : IsInde
         λ i. record { label = field 4 (rec i) format.definition_label; key = field 4 (rec i) format.definition_key }
 
     pairs : map (pair_of t.records) ix_now.definitions ≡ pair_is label key ∷ map (pair_of s.records) ds
-    pairs = ap (map (pair_of t.records)) (sym (walk_is (next_definition t.records) (first_definition t.records) (d ∷ olds) ix_now.definitions walk_now ix_now.walk))
+    pairs = ap (map (pair_of t.records)) (sym (walk_is (next_definition t.records) (first_definition t.records) (d ∷ olds) ix_now.definitions walk_now
+        ix_now.walk))
         ∙ (λ i. new_pair i ∷ (map_same (pair_of t.records) (pair_of s.records) olds old_pair ∙ ap (map (pair_of s.records)) (sym olds_are)) i)
 
     -- The pair has an index of what its nodes have.
@@ -153,7 +155,8 @@ written_touches s m t definition n h g = record {
 -- ---- reads before it
 
 pub written_reread : (s b t : State) (label key : ℕ) (contents : List Content) → SameButReads s b
-    → ((w : IsIndexed b.records b.shape) → MayDefine b.records w.indexes.definitions label key → contents ≡ contents_in b.records label key (high b.records format.nodes_file) → WritesIndex b t label key w)
+    → ((w : IsIndexed b.records b.shape) → MayDefine b.records w.indexes.definitions label key → contents ≡ contents_in b.records label key
+    (high b.records format.nodes_file) → WritesIndex b t label key w)
     → (was : IsIndexed s.records s.shape) → MayDefine s.records was.indexes.definitions label key
     → contents ≡ contents_in s.records label key (high s.records format.nodes_file) → WritesIndex s t label key was
 written_reread s b t label key contents same writes was may are =
@@ -163,7 +166,8 @@ written_reread s b t label key contents same writes was may are =
     record { store = now.store; pairs = now.pairs; others = now.others }
 
 pub mishap_reread : (s b : State) (label key : ℕ) (contents : List Content) (f : TakeFault) → SameButReads s b
-    → ((w : IsIndexed b.records b.shape) → MayDefine b.records w.indexes.definitions label key → contents ≡ contents_in b.records label key (high b.records format.nodes_file) → HasLeft b (13 + length contents) → IsMishap f)
+    → ((w : IsIndexed b.records b.shape) → MayDefine b.records w.indexes.definitions label key → contents ≡ contents_in b.records label key
+    (high b.records format.nodes_file) → HasLeft b (13 + length contents) → IsMishap f)
     → (was : IsIndexed s.records s.shape) → MayDefine s.records was.indexes.definitions label key
     → contents ≡ contents_in s.records label key (high s.records format.nodes_file) → HasLeft s (13 + length contents) → IsMishap f
 mishap_reread s b label key contents f same fails was may are left =

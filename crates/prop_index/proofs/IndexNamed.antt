@@ -20,7 +20,8 @@ use Rattle.id_freelist.specs.declared.take_fault.TakeFault.TheVariants as take
 use Rattle.store_rules.specs.Breaking.{BreaksAny}
 use Rattle.store_rules.specs.Breaking.Breaks.{WrongMeta, WrongDefinition as WrongNames}
 use Rattle.store_rules.specs.Chains.{In, IsChain, IsWalk}
-use Rattle.store_rules.specs.IndexBreaking.{AreDefinitions, DefinitionKeeps, HasDefinitions, HasHead, IsAmongDefinitions, IsBucketList, LeadsToDefinition, LeadsToEntry}
+use Rattle.store_rules.specs.IndexBreaking.{AreDefinitions, DefinitionKeeps, HasDefinitions, HasHead, IsAmongDefinitions, IsBucketList}
+use Rattle.store_rules.specs.IndexBreaking.{LeadsToDefinition, LeadsToEntry}
 use Rattle.store_rules.specs.IndexBreaking.IndexBreaks.{WrongDefinition}
 use Rattle.store_rules.specs.IndexBreaking.LeadsToDefinition.{FirstDefinition, NextDefinition}
 use Rattle.store_rules.specs.IndexBreaking.LeadsToEntry.{FirstEntry, NextEntry}
@@ -39,7 +40,8 @@ use Rattle.prop_index.specs.Entering.{of_read}
 use Rattle.prop_index.specs.Finding.{IsOfPair, IsPair, LeadsToNone}
 use Rattle.prop_index.specs.Heads.{IsBucketMet}
 use Rattle.prop_index.specs.Leaving.{IsEntryBefore, IsLedTo}
-use Rattle.prop_index.specs.Naming.{BlamesBucket, BlamesDefinition, BlamesHead, BlamesIndex, BlamesMark, BlamesOther, HasWrongIndex, IsDefinition, IsMarkDamage, LacksBucket}
+use Rattle.prop_index.specs.Naming.{BlamesBucket, BlamesDefinition, BlamesHead, BlamesIndex, BlamesMark, BlamesOther, HasWrongIndex, IsDefinition}
+use Rattle.prop_index.specs.Naming.{IsMarkDamage, LacksBucket}
 use Rattle.prop_index.specs.Naming.{TakeBlamesDefinition}
 use Rattle.prop_index.specs.Reading.{HighMark, IsReadFault, LeadsNowhere, OtherKind, damage_of}
 use Rattle.prop_index.specs.declared.heads.Bucket.{Bucket}
@@ -66,7 +68,8 @@ definition_marks s ds are at i named Memory why = tt
 definition_marks s ds are at i named Disk why = tt
 definition_marks s ds are at i named (Damaged _) (LeadsNowhere le) =
     let k = are.defined at i in
-    let lt = kind_below (high s.records format.index_file) (rec_at s.records format.index_file at) at (λ e. omega (arith, e, k)) in absurd (omega (arith, lt, le))
+    let lt = kind_below (high s.records format.index_file) (rec_at s.records format.index_file at) at (λ e. omega (arith, e, k)) in absurd
+    (omega (arith, lt, le))
 definition_marks s ds are at i named (Damaged _) (HighMark over) = mark_over s over
 definition_marks s ds are at i named (Damaged _) (OtherKind low other) = absurd (other (are.defined at i))
 
@@ -74,7 +77,11 @@ pub marks_before : (s t : State) (fault : Fault) → SameButReads s t → Blames
 marks_before s t Memory same is = tt
 marks_before s t Disk same is = tt
 marks_before s t (Damaged damage) same is =
-    let here : IsMarkDamage (record s { reads = t.reads }) damage = subst (λ (z : State). IsMarkDamage z damage) same is in record { is = here.is; bad = here.bad }
+    let here : IsMarkDamage (record s { reads = t.reads }) damage = subst (λ (z : State). IsMarkDamage z damage) same is in record {
+      is = here.is;
+      bad =
+          here.bad;
+    }
 
 -- that is damage of the free list too
 pub mark_list : (s : State) (damage : Damage) → IsMarkDamage s damage → IsListDamage s.records s.shape format.index_file damage
@@ -85,14 +92,16 @@ mark_blames s Memory is = tt
 mark_blames s Disk is = tt
 mark_blames s (Damaged damage) is = inr (mark_list s damage is)
 
-pub mark_index : (s : State) (label key : ℕ) (fault : Fault) → ((ds : List ℕ) → AreDefinitions s.records ds → BlamesMark s fault) → BlamesIndex s label key fault
+pub mark_index : (s : State) (label key : ℕ) (fault : Fault) → ((ds : List ℕ) → AreDefinitions s.records ds → BlamesMark s fault) → BlamesIndex s label key
+    fault
 mark_index s label key Memory told = tt
 mark_index s label key Disk told = tt
 mark_index s label key (Damaged damage) told = λ ds are. inl (told ds are)
 
 -- ---- heads
 
-pub heads_fault : (s : State) (d c id : ℕ) → id ≡ heads_of s.records d c → (fault : Fault) → IsReadFault s id format.heads (damage_of format.index_file d 1) fault
+pub heads_fault : (s : State) (d c id : ℕ) → id ≡ heads_of s.records d c → (fault : Fault) → IsReadFault s id format.heads (damage_of format.index_file d 1)
+    fault
     → BlamesHead s d c fault
 heads_fault s d c id is Memory why = tt
 heads_fault s d c id is Disk why = tt
@@ -194,7 +203,8 @@ chain_back next prev b f (x ∷ xs) r h (inr i) some = chain_back next prev x (n
 pub leads_again : (r q : Records) (d b n x : ℕ) → q ≡ r → LeadsToEntry r d b n x → LeadsToEntry q d b n x
 leads_again r q d b n x same leads = subst (λ (z : Records). LeadsToEntry z d b n x) (sym same) leads
 
-pub stray_lacks : (records : Records) (d b n x : ℕ) → LeadsToEntry records d b n x → kind_at records format.index_file x ≢ format.indexed → LacksBucket records d b
+pub stray_lacks : (records : Records) (d b n x : ℕ) → LeadsToEntry records d b n x → kind_at records format.index_file x ≢ format.indexed → LacksBucket records
+    d b
 stray_lacks records d b n x leads other members list = other (list.kind x (list_member records d b members list n x leads).0)
 
 pub late_lacks : (records : Records) (d b n x : ℕ) → LeadsToEntry records d b n x → high records format.index_file ≤ n → LacksBucket records d b
@@ -228,7 +238,8 @@ after_fault s d b n x after leads used next some Disk why = tt
 after_fault s d b n x after leads used next some (Damaged _) (LeadsNowhere le) = inr (
   refl,
   stray_lacks s.records d b (suc n) after (NextEntry n x after leads used next some) (λ k.
-      let lt = kind_below (high s.records format.index_file) (rec_at s.records format.index_file after) after (λ e. omega (arith, e, k)) in omega (arith, lt, le)),
+      let lt = kind_below (high s.records format.index_file) (rec_at s.records format.index_file after) after (λ e. omega (arith, e, k)) in omega
+      (arith, lt, le)),
 )
 after_fault s d b n x after leads used next some (Damaged _) (HighMark over) = inl (mark_over s over)
 after_fault s d b n x after leads used next some (Damaged _) (OtherKind low other) =
@@ -301,7 +312,8 @@ pair_breaks s label key id rec damage of has file told = ⊎_elim
     (told has.members has.list)
 
 -- no definition is right that has no label
-pub unnamed_breaks : (s : State) (id key : ℕ) (rec : Rec) → IsOfPair s.records format.nil key id rec → BreaksAny s.records s.shape (damage_of format.index_file id 5)
+pub unnamed_breaks : (s : State) (id key : ℕ) (rec : Rec) → IsOfPair s.records format.nil key id rec → BreaksAny s.records s.shape
+    (damage_of format.index_file id 5)
 unnamed_breaks s id key rec of =
     let used = of.used in
     inl (WrongNames id (kind_below (high s.records format.index_file) (rec_at s.records format.index_file id) id (λ e. omega (arith, e, used)))
@@ -315,13 +327,15 @@ all_defined records label key none =
 
 keeps_of : (records : Records) (wanted : Entries) (ix : AreIndexed records wanted) (d : ℕ) → In d ix.definitions → DefinitionKeeps records d
 keeps_of records wanted ix d i = record {
-  alone = λ e a l k. ix.distinct e d (subst (In e) (definitions_same records a.members ix.definitions a.list (definitions_of records wanted ix)) a.member) i l k;
+  alone = λ e a l k. ix.distinct e d (subst (In e) (definitions_same records a.members ix.definitions a.list (definitions_of records wanted ix)) a.member)
+      i l k;
   heads = λ c lt. ix.heads d c i lt;
   buckets = λ b lt. let l = ix.buckets d b i lt in
       (ix.lists d b, record { head = ix.heads d (b / 15) i (omega arith); chain = l.chain; kind = l.kind; hash = l.hash });
 }
 
-pub index_sound : (s : State) (wanted : Entries) → AreIndexed s.records wanted → IsRanged (meta_of s format.index_file) (room_of s.shape format.index_file) → (label key : ℕ) (fault : Fault)
+pub index_sound : (s : State) (wanted : Entries) → AreIndexed s.records wanted → IsRanged (meta_of s format.index_file) (room_of s.shape format.index_file) →
+    (label key : ℕ) (fault : Fault)
     → BlamesIndex s label key fault → NotDamaged {T = ℕ} (Err fault)
 index_sound s wanted ix ranged label key Memory told = tt
 index_sound s wanted ix ranged label key Disk told = tt

@@ -25,11 +25,13 @@ at x = key_in format.index_file x
 -- more records of the index
 left_keys : (q : Key) (xs ys : List ℕ) → IsAmong q (index_keys xs) → IsAmong q (index_keys (xs ++ ys))
 left_keys q xs ys i = subst (λ (l : List Key). IsAmong q (l ++ metas)) (sym (map-append at xs ys))
-    (⊎_elim (λ j. among_left q (map at xs ++ map at ys) metas (among_left q (map at xs) (map at ys) j)) (λ j. among_right q (map at xs ++ map at ys) metas j) (among_either q (map at xs) metas i))
+    (⊎_elim (λ j. among_left q (map at xs ++ map at ys) metas (among_left q (map at xs) (map at ys) j)) (λ j. among_right q (map at xs ++ map at ys) metas j)
+    (among_either q (map at xs) metas i))
 
 right_keys : (q : Key) (xs ys : List ℕ) → IsAmong q (index_keys ys) → IsAmong q (index_keys (xs ++ ys))
 right_keys q xs ys i = subst (λ (l : List Key). IsAmong q (l ++ metas)) (sym (map-append at xs ys))
-    (⊎_elim (λ j. among_left q (map at xs ++ map at ys) metas (among_right q (map at xs) (map at ys) j)) (λ j. among_right q (map at xs ++ map at ys) metas j) (among_either q (map at ys) metas i))
+    (⊎_elim (λ j. among_left q (map at xs ++ map at ys) metas (among_right q (map at xs) (map at ys) j)) (λ j. among_right q (map at xs ++ map at ys) metas j)
+    (among_either q (map at ys) metas i))
 
 -- one call, and then another
 pub index_then : {tells : Type 0} (n m k : ℕ) (a b c : State) → n + m ≤ k → TouchesIndex tells n a b → TouchesIndex tells m b c → TouchesIndex tells k a c
@@ -56,7 +58,12 @@ index_read n most s t reads = index_same n s t (reads_same most s t reads)
 
 -- one record
 index_one : {tells : Type 0} (n : ℕ) (s t : State) (id : ℕ) → 1 ≤ n → TouchesOnly tells s t (at id ∷ []) → TouchesIndex tells n s t
-index_one n s t id le h = record { ids = id ∷ []; few = le; only = only_more s t (at id ∷ []) (index_keys (id ∷ [])) (λ q i. ⊎_elim (λ e. inl e) (λ (k : ⊥). absurd k) i) h }
+index_one n s t id le h = record {
+  ids = id ∷ [];
+  few = le;
+  only = only_more s t (at id ∷ []) (index_keys (id ∷ [])) (λ q i. ⊎_elim (λ e. inl e)
+      (λ (k : ⊥). absurd k) i) h;
+}
 
 pub index_put : {tells : Type 0} (n : ℕ) (s t : State) (id : ℕ) (rec : Rec) → 1 ≤ n → t ≡ after_put s (at id) rec → TouchesIndex tells n s t
 index_put n s t id rec le is = index_one n s t id le (only_put s t (at id) rec is)

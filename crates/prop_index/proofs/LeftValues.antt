@@ -13,7 +13,8 @@ pub left-unwanted : (wanted : Entries) (label key n : ℕ) (old : Option Value) 
 left-unwanted wanted label key n None v wants = wants (hash_of v)
 left-unwanted wanted label key n (Some u) v wants = ⊎_elim
     (λ (e : hash_of v ≡ hash_of u). rw (eq_true label label refl, eq_true key key refl, eq_true n n refl, eq_true (hash_of v) (hash_of u) e) refl)
-    (λ (ne : hash_of v ≢ hash_of u). ap (λ b. not (is_entry (entry_of label key n v) (entry_of label key n u)) && b) (wants (hash_of v) ∙ eq_false (hash_of u) (hash_of v) (λ e. ne (sym e))) ∙ by (not (is_entry (entry_of label key n v) (entry_of label key n u))))
+    (λ (ne : hash_of v ≢ hash_of u). ap (λ b. not (is_entry (entry_of label key n v) (entry_of label key n u)) && b) (wants (hash_of v) ∙ eq_false (hash_of u)
+    (hash_of v) (λ e. ne (sym e))) ∙ by (not (is_entry (entry_of label key n v) (entry_of label key n u))))
     (nat_cases (hash_of v) (hash_of u))
   where
     by : (b : Bool) → (b && false) ≡ false

@@ -45,7 +45,8 @@ back_kept shape s id to entry small low rules = ⊎_elim
     let byte : field 1 (rec_at s.records format.index_file id) format.kind ≡ format.indexed =
     sym (kind_low (high s.records format.index_file) (rec_at s.records format.index_file id) id under) ∙ k in
     subst (λ (z : State). IsWellFormed z.records shape) (sym (backed-some s id to some))
-    (set_kept s.records id format.indexed_previous to used (omega arith) shape (λ q. omega (arith, k, q)) (fits_entry_previous (high s.records) (rec_at s.records format.index_file id) to small low byte) rules))
+    (set_kept s.records id format.indexed_previous to used (omega arith) shape (λ q. omega (arith, k, q)) (fits_entry_previous (high s.records)
+    (rec_at s.records format.index_file id) to small low byte) rules))
     (nat_cases id format.nil)
 
 pub back_kind : (s : State) (id to : ℕ) → (id ≢ format.nil → kind_at s.records format.index_file id ≡ format.indexed) → (y : ℕ)
@@ -69,7 +70,8 @@ back_mark s id to entry = ⊎_elim
 -- a record of heads with another first entry
 pub head_kept : (shape : Shape) (s : State) (slot : Slot) (to : ℕ) → kind_at s.records format.index_file slot.id ≡ format.heads → IsHeadPlace slot.place
     → to < 2 ^ 32 → IsLow (high s.records format.index_file) to
-    → IsWellFormed s.records shape → IsWellFormed (put s.records (key_in format.index_file slot.id) (with_field 4 (rec_at s.records format.index_file slot.id) slot.place to)) shape
+    → IsWellFormed s.records shape → IsWellFormed (put s.records (key_in format.index_file slot.id) (with_field 4 (rec_at s.records format.index_file slot.id)
+    slot.place to)) shape
 head_kept shape s slot to k place small low rules =
     let used : kind_at s.records format.index_file slot.id ≢ format.free_kind = λ q. omega (arith, k, q) in
     let under = kind_below (high s.records format.index_file) (rec_at s.records format.index_file slot.id) slot.id used in
@@ -77,4 +79,5 @@ head_kept shape s slot to k place small low rules =
     sym (kind_low (high s.records format.index_file) (rec_at s.records format.index_file slot.id) slot.id under) ∙ k in
     subst (λ at. IsWellFormed (put s.records (key_in format.index_file slot.id) (with_field 4 (rec_at s.records format.index_file slot.id) at to)) shape)
     (sym place.is)
-    (set_kept s.records slot.id (format.heads_first + 4 * place.number) to used (omega arith) shape (λ q. omega (arith, k, q)) (fits_head (high s.records) (rec_at s.records format.index_file slot.id) place.number to place.low small low byte) rules)
+    (set_kept s.records slot.id (format.heads_first + 4 * place.number) to used (omega arith) shape (λ q. omega (arith, k, q)) (fits_head (high s.records)
+    (rec_at s.records format.index_file slot.id) place.number to place.low small low byte) rules)

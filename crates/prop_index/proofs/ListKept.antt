@@ -54,7 +54,8 @@ entry_kept s u t slot first id content node_fits first_fits hash_fits took is ri
     let put : PutsInUse s one id = record_kept s u one rec id took is right fresh few small refl used in
     let back : KeepsInUse one two file = ⊎_elim
     (λ (e : first ≡ format.nil). subst (λ (z : State). KeepsInUse one z file) (sym (backed-none one first id e)) (keeps_none one file))
-    (λ (some : first ≢ format.nil). set_keeps one two file first format.indexed_previous id refl (omega arith) (put.keeps.used first (begins some)) (backed-some one first id some)) (nat_cases first format.nil) in
+    (λ (some : first ≢ format.nil). set_keeps one two file first format.indexed_previous id refl (omega arith) (put.keeps.used first (begins some))
+    (backed-some one first id some)) (nat_cases first format.nil) in
     let both : KeepsInUse s two file = keeps_then s one two file put.keeps back in
     let led : KeepsInUse two t file = set_keeps two t file slot.id slot.place id refl place (both.used slot.id head)
     (linked ∙ linked-is u slot first id content) in
@@ -67,4 +68,5 @@ definition_kept s t id is =
     let r = with_field 4 (s.records key) format.meta_definition id in
     meta_keeps s t format.index_file (ap (λ (z : State). z.shape) is)
     (ap (λ (z : State). metas.meta_of (z.records key)) is ∙ ap metas.meta_of (put_same s.records key r) ∙ meta_of-definition (s.records key) id)
-    (λ x. ap (λ (z : State). rec_at z.records format.index_file x) is ∙ put_other s.records key r (key_in format.index_file x) (not_meta_key format.index_file x format.index_file refl))
+    (λ x. ap (λ (z : State). rec_at z.records format.index_file x) is ∙ put_other s.records key r (key_in format.index_file x)
+    (not_meta_key format.index_file x format.index_file refl))

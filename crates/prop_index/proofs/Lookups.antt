@@ -77,7 +77,11 @@ module _ (s : State) (store : IsIndexed s.records s.shape) where
   has_room file is = let ranges : AreInRange s.records s.shape = store.store.ranges in (ranges.metas file is).high
 
   pub has_range : IsRanged (meta_of s format.index_file) (room_of s.shape format.index_file)
-  has_range = let ranges : AreInRange s.records s.shape = store.store.ranges in let is = ranges.metas format.index_file refl in record { mark = is.high; first = is.free }
+  has_range = let ranges : AreInRange s.records s.shape = store.store.ranges in let is = ranges.metas format.index_file refl in record {
+    mark = is.high;
+    first =
+        is.free;
+  }
 
   -- a node in use can be read
   node_listed : (n : ℕ) → kind_at s.records format.nodes_file n ≢ format.free_kind → IsListedNode s n
@@ -105,13 +109,15 @@ module _ (s : State) (store : IsIndexed s.records s.shape) where
     entries = store.indexes.lists d (bucket_of hash)
 
     pub are_entries : AreEntries z bucket.first entries
-    are_entries = chain-entries z bucket.first entries (chain-reread s z bucket.first entries same (bucket-chain s.records (wanted_in s.records) store.indexes label key hash bucket found))
+    are_entries = chain-entries z bucket.first entries (chain-reread s z bucket.first entries same (bucket-chain s.records (wanted_in s.records) store.indexes
+        label key hash bucket found))
 
     pub are_readable : AreReadable z hash entries
     are_readable = record {
       room = room_after s z format.index_file same (has_room format.index_file refl);
       nodes = λ x i e. subst (λ (r : Records). IsListedNode z (entry_node r x)) (sym (same_records s z same))
-          (node_after s z (entry_node s.records x) same (node_listed (entry_node s.records x) (node_of_entry s store d found.listed value x (subst (λ h. In x (store.indexes.lists d (bucket_of h))) hashed i))));
+          (node_after s z (entry_node s.records x) same (node_listed (entry_node s.records x) (node_of_entry s store d found.listed value x
+          (subst (λ h. In x (store.indexes.lists d (bucket_of h))) hashed i))));
     }
 
     pub found_is : (nodes sorted : List ℕ) → nodes ≡ nodes_with z.records key hash value entries → IsPermutation nodes sorted → IsNonDecreasing sorted
@@ -129,7 +135,8 @@ module _ (s : State) (store : IsIndexed s.records s.shape) where
         let xs = store.indexes.lists d (bucket_of (hash_of value)) in
         let gathered : ReadsAtMost (length xs + 55 * count_hashed s.records (hash_of value) xs) z after
         = subst (λ (n : ℕ). ReadsAtMost n z after)
-        (λ i. length (store.indexes.lists d (bucket_of (hashed i))) + 55 * count_hashed (same_records s z same i) (hashed i) (store.indexes.lists d (bucket_of (hashed i)))) later in
+        (λ i. length (store.indexes.lists d (bucket_of (hashed i))) + 55 * count_hashed (same_records s z same i) (hashed i) (store.indexes.lists d
+        (bucket_of (hashed i)))) later in
         record {
           definitions = store.indexes.definitions;
           walk = store.indexes.walk;

@@ -73,7 +73,8 @@ module _ (s : Records) (u : State) (slot : Slot) (first id : ℕ) (content : Con
     two_other : (key : Key) → key ≢ at first → two.records key ≡ one.records key
     two_other key ne = ⊎_elim
         (λ (e : first ≡ format.nil). ap (λ (z : State). z.records key) (two_none e))
-        (λ (some : first ≢ format.nil). ap (λ (z : State). z.records key) (two_some some) ∙ put_other one.records (at first) (with_field 4 (one.records (at first)) format.indexed_previous id) key ne)
+        (λ (some : first ≢ format.nil). ap (λ (z : State). z.records key) (two_some some) ∙ put_other one.records (at first)
+        (with_field 4 (one.records (at first)) format.indexed_previous id) key ne)
         (nat_cases first format.nil)
 
     three_other : (key : Key) → key ≢ at slot.id → three.records key ≡ two.records key
@@ -102,7 +103,8 @@ module _ (s : Records) (u : State) (slot : Slot) (first id : ℕ) (content : Con
         (nat_cases first format.nil)
 
     here : index_rec three.records id ≡ rec
-    here = three_other (at id) (apart id slot.id (λ e. slot_not_new (sym e))) ∙ two_other (at id) (apart id first new_not_first) ∙ put_same u.records (at id) rec
+    here = three_other (at id) (apart id slot.id (λ e. slot_not_new (sym e))) ∙ two_other (at id) (apart id first new_not_first) ∙ put_same u.records (at id)
+        rec
 
     meta_rec : three.records (meta_key_of format.index_file) ≡ u.records (meta_key_of format.index_file)
     meta_rec = three_other (meta_key_of format.index_file) (λ e. not_meta slot.id (sym e))
@@ -122,7 +124,8 @@ module _ (s : Records) (u : State) (slot : Slot) (first id : ℕ) (content : Con
       first = ap (λ (r : Rec). field 4 r format.meta_definition) (meta_rec ∙ taken.meta)
           ∙ definition-with_meta (s (meta_key_of format.index_file)) (meta_in u.records format.index_file);
       kind = let m = ap (λ (r : Rec). (metas.meta_of r).high) meta_rec in
-          kind_low (high three.records format.index_file) (index_rec three.records id) id (omega (arith, below, m)) ∙ ap (λ (r : Rec). field 1 r format.kind) here
+          kind_low (high three.records format.index_file) (index_rec three.records id) id (omega (arith, below, m)) ∙ ap (λ (r : Rec). field 1 r format.kind)
+          here
           ∙ field-with_fields 1 zeros (entry_fields content.node first content.hash) format.kind format.indexed refl fit refl;
       node_is = ap (λ (r : Rec). field 4 r format.indexed_node) here ∙ field-with_fields 4 zeros (entry_fields content.node first content.hash)
           format.indexed_node content.node refl fit refl;
@@ -137,7 +140,8 @@ module _ (s : Records) (u : State) (slot : Slot) (first id : ℕ) (content : Con
           ∙ put_same one.records (at first) (with_field 4 (one.records (at first)) format.indexed_previous id)
           ∙ ap (λ (r : Rec). with_field 4 r format.indexed_previous id) (one_other (at first) (apart first id (λ e. new_not_first (sym e))) (not_meta first)));
       head = ap (λ (z : State). z.records (at slot.id)) three_is ∙ put_same two.records (at slot.id) (with_field 4 (two.records (at slot.id)) slot.place id)
-          ∙ ap (λ (r : Rec). with_field 4 r slot.place id) (two_other (at slot.id) (apart slot.id first slot_not_first) ∙ one_other (at slot.id) (apart slot.id id slot_not_new) (not_meta slot.id));
+          ∙ ap (λ (r : Rec). with_field 4 r slot.place id) (two_other (at slot.id) (apart slot.id first slot_not_first) ∙ one_other (at slot.id)
+          (apart slot.id id slot_not_new) (not_meta slot.id));
       others = λ y a b c. three_other (at y) (apart y slot.id c) ∙ two_other (at y) (apart y first (λ e. b (e ∙ is_first)))
           ∙ one_other (at y) (apart y id a) (not_meta y);
     }

@@ -84,7 +84,8 @@ module _ (s u : State) (slot : Slot) (first id : ℕ) (content : Content) (rules
   node_known = let same = ch.mark_same s.records one.records format.index_file id made.change format.nodes_file (λ e. omega arith) in omega (arith, same, known)
 
   rules_one : IsWellFormed one.records s.shape
-  rules_one = made_kept s.records one.records s.shape id rec made (fits-entry_record (high one.records) content.node first content.hash node_known node_fits first_low first_fits hash_fits) (λ q. let k = kind_is in absurd (omega (arith, k, q))) rules
+  rules_one = made_kept s.records one.records s.shape id rec made (fits-entry_record (high one.records) content.node first content.hash node_known node_fits
+      first_low first_fits hash_fits) (λ q. let k = kind_is in absurd (omega (arith, k, q))) rules
 
   entry_one : first ≢ format.nil → kind_at one.records format.index_file first ≡ format.indexed
   entry_one some = let k = entry some in kind_one first (λ q. omega (arith, k, q)) ∙ k
@@ -103,4 +104,5 @@ module _ (s u : State) (slot : Slot) (first id : ℕ) (content : Content) (rules
   entry_made_kept t is shape =
       let low : id < high two.records format.index_file = let b = made.below in let m = back_mark one first id entry_one in omega (arith, b, m) in
       subst (IsWellFormed t.records) (sym shape)
-      (subst (λ (z : State). IsWellFormed z.records s.shape) (sym (is ∙ linked-is u slot first id content)) (head_kept s.shape two slot id heads_two place id_fits (inr low) rules_two))
+      (subst (λ (z : State). IsWellFormed z.records s.shape) (sym (is ∙ linked-is u slot first id content)) (head_kept s.shape two slot id heads_two place
+      id_fits (inr low) rules_two))

@@ -47,7 +47,8 @@ pub lacks_listed : (records : Records) (definitions : List ℕ) (pairs : List In
     → (Contains pairs (pair_is label key) → ⊥) → LacksPair records definitions label key
 lacks_listed records definitions pairs label key are out d i p =
     let same : pair_of records d ≡ pair_is label key = λ j. record { label = p.0 j; key = p.1 j } in
-    out (subst (λ (xs : List IndexPair). Contains xs (pair_is label key)) (sym are) (subst (Contains (map (pair_of records) definitions)) same (map_contains (pair_of records) definitions d i)))
+    out (subst (λ (xs : List IndexPair). Contains xs (pair_is label key)) (sym are) (subst (Contains (map (pair_of records) definitions)) same
+    (map_contains (pair_of records) definitions d i)))
 
 pair-fault : (records : Records) (definitions : List ℕ) (label key : ℕ) (f : Fault) → faults.NotDamaged {T = ℕ} (Err f)
     → IsPairFault records definitions label key (of_fault f)

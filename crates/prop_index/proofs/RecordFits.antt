@@ -23,7 +23,8 @@ use Rattle.prop_index.specs.Linking.{entry_fields, entry_record}
 pub apart_bytes : (i size : ℕ) → list_any (is_in i) (bytes_of format.kind 1 ∷ bytes_of 4 size ∷ []) ≡ false → ((1 ≤ i) × (i < 4)) ⊎ (4 + size ≤ i)
 apart_bytes i size out = ⊎_elim
     (λ (l : i < 4). inl ((let a : 1 ≤ i = grind (arith, nat_tests) in a), l))
-    (λ (ge : 4 ≤ i). ⊎_elim (λ (l : i < 4 + size). absurd (let a : 4 + size ≤ i = grind (arith, nat_tests) in omega arith)) (λ (k : 4 + size ≤ i). inr k) (cases_lt i (4 + size)))
+    (λ (ge : 4 ≤ i). ⊎_elim (λ (l : i < 4 + size). absurd (let a : 4 + size ≤ i = grind (arith, nat_tests) in omega arith)) (λ (k : 4 + size ≤ i). inr k)
+    (cases_lt i (4 + size)))
     (cases_lt i 4)
 
 pub entry-kind : (node next hash : ℕ) → node < 2 ^ 32 → next < 2 ^ 32 → hash < 2 ^ 64 → field 1 (entry_record node next hash) format.kind ≡ format.indexed
@@ -60,7 +61,15 @@ module _ (marks : ℕ → ℕ) (node next hash : ℕ) (known : node < marks form
   next_is = field-with_fields 4 zeros table format.indexed_next next refl fit refl
 
   points : all_point marks rec layout.pointers ≡ true
-  points = rw (node_is, previous_is, next_is, lt_true node (marks format.nodes_file) known, low_points format.nil (marks format.index_file) (inl refl), low_points next (marks format.index_file) low) refl
+  points = rw (
+    node_is,
+    previous_is,
+    next_is,
+    lt_true node (marks format.nodes_file) known,
+    low_points format.nil (marks format.index_file)
+        (inl refl),
+    low_points next (marks format.index_file) low,
+  ) refl
 
   clear : (i : ℕ) → ((1 ≤ i) × (i < 4)) ⊎ (24 ≤ i) → is_clear i 1 table ≡ true
   clear i (inl k) = let a = k.0 in let b = k.1 in grind (arith, nat_tests)
@@ -120,7 +129,8 @@ three = refl
 
 empty_heads-blank : (i : ℕ) → 1 ≤ i → i < 4 → field 1 empty_heads i ≡ 0
 empty_heads-blank i low high = ⊎_elim (λ (e : i ≡ 1). ap (field 1 empty_heads) e ∙ one)
-    (λ (ne : i ≢ 1). ⊎_elim (λ (e : i ≡ 2). ap (field 1 empty_heads) e ∙ two) (λ (nt : i ≢ 2). let e : i ≡ 3 = omega arith in ap (field 1 empty_heads) e ∙ three) (nat_cases i 2)) (nat_cases i 1)
+    (λ (ne : i ≢ 1). ⊎_elim (λ (e : i ≡ 2). ap (field 1 empty_heads) e ∙ two) (λ (nt : i ≢ 2). let e : i ≡ 3 = omega arith in ap (field 1 empty_heads) e
+    ∙ three) (nat_cases i 2)) (nat_cases i 1)
 
 nil_points : (marks : ℕ → ℕ) (n b : ℕ) → 1 ≤ b → b + n ≤ 16 → all_point marks empty_heads
     (pointers_from n (λ place. may place format.index_file) (4 * b)) ≡ true
@@ -142,7 +152,11 @@ fits-empty_heads marks = record {
 }
   where
     heads_table : Layout
-    heads_table = record { pointers = pointers_from format.heads_count (λ place. may place format.index_file) format.heads_first; used = bytes_of format.kind 1 ∷ bytes_of format.heads_first 60 ∷ [] }
+    heads_table = record {
+      pointers = pointers_from format.heads_count (λ place. may place format.index_file) format.heads_first;
+      used = bytes_of format.kind 1
+          ∷ bytes_of format.heads_first 60 ∷ [];
+    }
 
 -- ---- a definition
 
@@ -178,4 +192,5 @@ fits-definition marks rec kind blank next low = record {
     }
 
     heads : all_point marks rec (pointers_from format.definition_head_count (λ place. must place format.index_file) format.definition_heads) ≡ true
-    heads = must_points marks rec 12 4 (λ c le lt. let e : 4 * c ≡ format.definition_heads + 4 * (c - 4) = omega arith in subst (λ at. field 4 rec at < marks format.index_file) (sym e) (low (c - 4) (omega arith)))
+    heads = must_points marks rec 12 4 (λ c le lt. let e : 4 * c ≡ format.definition_heads + 4 * (c - 4) = omega arith in subst
+        (λ at. field 4 rec at < marks format.index_file) (sym e) (low (c - 4) (omega arith)))

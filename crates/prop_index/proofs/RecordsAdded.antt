@@ -67,7 +67,8 @@ module _ (s u : State) (rec : Rec) (id : ℕ) (store : KeepsStore s) (taken : Ha
       shape = shape;
       others = λ q file meta. made.change.others q meta (λ e. file (ap (λ (k : Key). k.file) e));
     };
-    kept = λ fits names. subst (IsWellFormed one.records) (sym shape) (made_kept s.records one.records s.shape id rec made fits (λ is. let n = names is in (n.label_low, n.key_low)) store);
+    kept = λ fits names. subst (IsWellFormed one.records) (sym shape) (made_kept s.records one.records s.shape id rec made fits (λ is. let n = names is in
+        (n.label_low, n.key_low)) store);
   }
 
   pub record_added : (t : State) → t ≡ one → IsRecordAdded s t rec id

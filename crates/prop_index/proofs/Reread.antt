@@ -22,7 +22,13 @@ room_after s z file same room = subst (λ (y : State). HasRoom y file) (sym same
 
 pub node_after : (s z : State) (n : ℕ) → SameButReads s z → IsListedNode s n → IsListedNode z n
 node_after s z n same listed =
-    let at : IsListedNode (record s { reads = z.reads }) n = record { room = listed.room; low = listed.low; used = listed.used; properties = listed.properties; has = listed.has } in
+    let at : IsListedNode (record s { reads = z.reads }) n = record {
+      room = listed.room;
+      low = listed.low;
+      used = listed.used;
+      properties = listed.properties;
+      has = listed.has;
+    } in
     subst (λ (y : State). IsListedNode y n) (sym same) at
 
 pub can_after : (s z : State) (free : List ℕ) → SameButReads s z → CanTake s format.index_file free → CanTake z format.index_file free
@@ -33,7 +39,17 @@ can_after s z free same can =
 
 pub readable_after : (s z : State) → SameButReads s z → AreNodesReadable s → AreNodesReadable z
 readable_after s z same h =
-    let at : AreNodesReadable (record s { reads = z.reads }) = record { room = h.room; each = λ n used. let k = h.each n used in record { room = k.room; low = k.low; used = k.used; properties = k.properties; has = k.has } } in
+    let at : AreNodesReadable (record s { reads = z.reads }) = record {
+      room = h.room;
+      each = λ n used. let k = h.each n used in record {
+        room = k.room;
+        low =
+            k.low;
+        used = k.used;
+        properties = k.properties;
+        has = k.has;
+      };
+    } in
     subst AreNodesReadable (sym same) at
 
 pub kept_after : (s z : State) → SameButReads s z → KeepsStore s → KeepsStore z

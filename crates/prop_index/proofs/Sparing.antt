@@ -37,13 +37,15 @@ byte records x = field 1 (index_rec records x) format.kind
 -- the kind of a record in use is its byte
 pub used_byte : (records : Records) (x kind : ℕ) → kind_at records format.index_file x ≡ kind → kind ≢ 0 → field 1 (index_rec records x) format.kind ≡ kind
 used_byte records x kind is some =
-    sym (kind_low (high records format.index_file) (index_rec records x) x (kind_below (high records format.index_file) (index_rec records x) x (λ e. some (sym is ∙ e)))) ∙ is
+    sym (kind_low (high records format.index_file) (index_rec records x) x (kind_below (high records format.index_file) (index_rec records x) x
+    (λ e. some (sym is ∙ e)))) ∙ is
 
 definition_some : format.definition ≢ 0
 definition_some e = omega (arith, e)
 
 -- what is in use and the byte of a definition is one
-is_definition : (records : Records) (x : ℕ) → kind_at records format.index_file x ≢ format.free_kind → field 1 (index_rec records x) format.kind ≡ format.definition
+is_definition : (records : Records) (x : ℕ) → kind_at records format.index_file x ≢ format.free_kind → field 1 (index_rec records x) format.kind ≡
+    format.definition
     → kind_at records format.index_file x ≡ format.definition
 is_definition records x used is =
     kind_low (high records format.index_file) (index_rec records x) x (kind_below (high records format.index_file) (index_rec records x) x used) ∙ is
@@ -74,7 +76,8 @@ module _ (s t : State) (h : SparesDefinitions s t) where
   -- the definitions are still a list
   pub still_definitions : (ds : List ℕ) → AreDefinitions s.records ds → AreDefinitions t.records ds
   still_definitions ds are = record {
-    walk = subst (λ f. IsWalk (next_definition t.records) f ds) (sym h.first) (walk_stays _ _ (first_definition s.records) ds (λ x i. ap (λ (r : Rec). field 4 r format.definition_next) (h.kept x (are.defined x i))) are.walk);
+    walk = subst (λ f. IsWalk (next_definition t.records) f ds) (sym h.first) (walk_stays _ _ (first_definition s.records) ds
+        (λ x i. ap (λ (r : Rec). field 4 r format.definition_next) (h.kept x (are.defined x i))) are.walk);
     few = are.few;
     defined = λ x i. h.defined x (are.defined x i);
   }
@@ -118,7 +121,8 @@ module _ (s t : State) (id place value : ℕ) (behind : 0 < place) (used : kind_
   pub set_spares : SparesDefinitions s t
   set_spares = record {
     harmless = set_kept.harmless;
-    first = ap (λ (r : Rec). field 4 r format.meta_definition) (set_other (meta_key_of format.index_file) (λ e. not_meta_key format.index_file id format.index_file refl (sym e)));
+    first = ap (λ (r : Rec). field 4 r format.meta_definition) (set_other (meta_key_of format.index_file) (λ e. not_meta_key format.index_file id
+        format.index_file refl (sym e)));
     defined = λ x is. is_definition t.records x (set_kept.used x (λ e. definition_some (sym is ∙ e)))
         (ap (λ (r : Rec). field 1 r format.kind) (set_rec x is) ∙ used_byte s.records x format.definition is definition_some);
     kept = set_rec;
@@ -138,7 +142,8 @@ first-taken s = by (nat_eq (meta_of s format.index_file).free format.nil)
 
     by : (b : Bool) → first_definition (cond b (mark_taken s format.index_file) (free_taken s format.index_file)).records ≡ first_definition s.records
     by true = ap (λ (r : Rec). field 4 r format.meta_definition) (put_same s.records key (with_meta (s.records key) _)) ∙ definition-with_meta (s.records key) _
-    by false = ap (λ (r : Rec). field 4 r format.meta_definition) (put_same s.records key (with_meta (s.records key) _)) ∙ definition-with_meta (s.records key) _
+    by false = ap (λ (r : Rec). field 4 r format.meta_definition) (put_same s.records key (with_meta (s.records key) _)) ∙ definition-with_meta (s.records key)
+        _
 
 module _ (s u t : State) (rec : Rec) (id : ℕ) (took : u ≡ taken s format.index_file) (is_id : id ≡ taken_id (meta_of s format.index_file))
     (right : IsUndamaged s format.index_file) (fresh : kind_at s.records format.index_file id ≡ format.free_kind) (few : id < format.most_ids)
@@ -199,14 +204,18 @@ module _ (s t : State) (id : ℕ) (now : t ≡ given s format.index_file id) (fe
   pub give_spares : SparesDefinitions s t
   give_spares = record {
     harmless = give_harms_none s t format.index_file id refl now few used link;
-    first = ap (λ (r : Rec). field 4 r format.meta_definition) (ap (λ (z : State). z.records key) now ∙ put_same one.records key (with_meta (one.records key) _))
+    first = ap (λ (r : Rec). field 4 r format.meta_definition) (ap (λ (z : State). z.records key) now ∙ put_same one.records key (with_meta (one.records key)
+        _))
         ∙ definition-with_meta (one.records key) _
-        ∙ ap (λ (r : Rec). field 4 r format.meta_definition) (put_other s.records (at id) (free_record (meta_of s format.index_file).free) key (λ e. not_meta_key format.index_file id format.index_file refl (sym e)));
+        ∙ ap (λ (r : Rec). field 4 r format.meta_definition) (put_other s.records (at id) (free_record (meta_of s format.index_file).free) key
+        (λ e. not_meta_key format.index_file id format.index_file refl (sym e)));
     defined = λ x is. is_definition t.records x
-        (give_used s t format.index_file id refl now few used link x (λ e. other (ap (kind_at s.records format.index_file) (sym e) ∙ is)) (λ e. definition_some (sym is ∙ e)))
+        (give_used s t format.index_file id refl now few used link x (λ e. other (ap (kind_at s.records format.index_file) (sym e) ∙ is))
+        (λ e. definition_some (sym is ∙ e)))
         (ap (λ (r : Rec). field 1 r format.kind) (give_rec x is) ∙ used_byte s.records x format.definition is definition_some);
     kept = give_rec;
     back = λ x is. ⊎_elim
-        (λ (e : x ≡ id). absurd (definition_some (sym is ∙ ap (byte t.records) e ∙ ap (λ (r : Rec). field 1 r format.kind) give_here ∙ free_is_free (meta_of s format.index_file).free)))
+        (λ (e : x ≡ id). absurd (definition_some (sym is ∙ ap (byte t.records) e ∙ ap (λ (r : Rec). field 1 r format.kind) give_here ∙ free_is_free
+        (meta_of s format.index_file).free)))
         (λ (ne : x ≢ id). give_apart x ne) (nat_cases x id);
   }

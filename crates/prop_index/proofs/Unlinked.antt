@@ -67,7 +67,11 @@ module _ (whole : State) (slot : Slot) (first x : ℕ) (xs free : List ℕ) (is 
   kind_is = is.kind x member
 
   was_given : HasGiven s u.records format.index_file x free
-  was_given = has_given whole format.index_file x free refl small (record { list = can.list; fresh = λ i. let k = can.unused x i in let e = kind_is in omega (arith, k, e) })
+  was_given = has_given whole format.index_file x free refl small (record {
+    list = can.list;
+    fresh = λ i. let k = can.unused x i in let e = kind_is in omega
+        (arith, k, e);
+  })
 
   walk : IsWalk (next_entry s) first xs
   walk = walk_of_chain _ _ _ _ xs is.chain
@@ -119,13 +123,16 @@ module _ (whole : State) (slot : Slot) (first x : ℕ) (xs free : List ℕ) (is 
   two_other : (key : Key) → (after ≢ format.nil → key ≢ at after) → two.records key ≡ u.records key
   two_other key ne = ⊎_elim
       (λ (e : after ≡ format.nil). ap (λ (z : State). z.records key) (two_none e))
-      (λ (some : after ≢ format.nil). ap (λ (z : State). z.records key) (two_some some) ∙ put_other u.records (at after) (with_field 4 (u.records (at after)) format.indexed_previous before) key (ne some))
+      (λ (some : after ≢ format.nil). ap (λ (z : State). z.records key) (two_some some) ∙ put_other u.records (at after) (with_field 4 (u.records (at after))
+      format.indexed_previous before) key (ne some))
       (nat_cases after format.nil)
 
   three_other : (key : Key) → (before ≡ format.nil → key ≢ at slot.id) → (before ≢ format.nil → key ≢ at before) → three.records key ≡ two.records key
   three_other key a b = ⊎_elim
-      (λ (e : before ≡ format.nil). ap (λ (z : State). z.records key) (three_none e) ∙ put_other two.records (at slot.id) (with_field 4 (two.records (at slot.id)) slot.place after) key (a e))
-      (λ (some : before ≢ format.nil). ap (λ (z : State). z.records key) (three_some some) ∙ put_other two.records (at before) (with_field 4 (two.records (at before)) format.indexed_next after) key (b some))
+      (λ (e : before ≡ format.nil). ap (λ (z : State). z.records key) (three_none e) ∙ put_other two.records (at slot.id)
+      (with_field 4 (two.records (at slot.id)) slot.place after) key (a e))
+      (λ (some : before ≢ format.nil). ap (λ (z : State). z.records key) (three_some some) ∙ put_other two.records (at before)
+      (with_field 4 (two.records (at before)) format.indexed_next after) key (b some))
       (nat_cases before format.nil)
 
   not_meta : (y : ℕ) → at y ≢ meta_key_of format.index_file
@@ -147,7 +154,8 @@ module _ (whole : State) (slot : Slot) (first x : ℕ) (xs free : List ℕ) (is 
 
   kind_gone : kind_at three.records format.index_file x ≡ format.free_kind
   kind_gone = ⊎_elim
-      (λ (lt : x < high three.records format.index_file). kind_low (high three.records format.index_file) (index_rec three.records x) x lt ∙ ap (λ (r : Rec). field 1 r format.kind) here ∙ free_kind_is (meta_in s format.index_file).free)
+      (λ (lt : x < high three.records format.index_file). kind_low (high three.records format.index_file) (index_rec three.records x) x lt ∙ ap
+      (λ (r : Rec). field 1 r format.kind) here ∙ free_kind_is (meta_in s format.index_file).free)
       (λ (ge : high three.records format.index_file ≤ x). kind_high (high three.records format.index_file) (index_rec three.records x) x ge)
       (cases_lt x (high three.records format.index_file))
 
@@ -167,10 +175,12 @@ module _ (whole : State) (slot : Slot) (first x : ℕ) (xs free : List ℕ) (is 
         ∙ ap (λ (r : Rec). with_field 4 r format.indexed_previous before) (one_other (at after) (apart after x (next_not_gone some)) (not_meta after));
     before = λ some. ap (λ (z : State). z.records (at before)) (three_some some)
         ∙ put_same two.records (at before) (with_field 4 (two.records (at before)) format.indexed_next after)
-        ∙ ap (λ (r : Rec). with_field 4 r format.indexed_next after) (two_other (at before) (λ a. apart before after (before_not_next some a)) ∙ one_other (at before) (apart before x (before_not_gone some)) (not_meta before));
+        ∙ ap (λ (r : Rec). with_field 4 r format.indexed_next after) (two_other (at before) (λ a. apart before after (before_not_next some a)) ∙ one_other
+        (at before) (apart before x (before_not_gone some)) (not_meta before));
     head = λ e. ap (λ (z : State). z.records (at slot.id)) (three_none e)
         ∙ put_same two.records (at slot.id) (with_field 4 (two.records (at slot.id)) slot.place after)
-        ∙ ap (λ (r : Rec). with_field 4 r slot.place after) (two_other (at slot.id) (λ a. apart slot.id after (slot_not_next a)) ∙ one_other (at slot.id) (apart slot.id x slot_not_gone) (not_meta slot.id));
+        ∙ ap (λ (r : Rec). with_field 4 r slot.place after) (two_other (at slot.id) (λ a. apart slot.id after (slot_not_next a)) ∙ one_other (at slot.id)
+        (apart slot.id x slot_not_gone) (not_meta slot.id));
     others = λ y a b d e. three_other (at y) (λ q. apart y slot.id (e q)) (λ q. apart y before d) ∙ two_other (at y) (λ q. apart y after b)
         ∙ one_other (at y) (apart y x a) (not_meta y);
   }

@@ -17,5 +17,6 @@ returns-then-not-is_full c =
 
 pub returns-else-not-is_full : goal.returns-else-not-is_full
 returns-else-not-is_full c =
-    place_left c.args.key c.args.pair c.args.assigned.now.items (no_room (length c.args.assigned.now.items) (sym c.is_full.ensures.value ∙ c.if-not-is_full.false))
+    place_left c.args.key c.args.pair c.args.assigned.now.items (no_room (length c.args.assigned.now.items) (sym c.is_full.ensures.value
+    ∙ c.if-not-is_full.false))
     (ap (position (λ (a : Assignment). nat_eq a.key c.args.key)) (sym c.deref.ensures.0) ∙ sym c.place_of.ensures ∙ c.in-None.is)

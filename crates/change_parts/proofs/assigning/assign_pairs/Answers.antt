@@ -41,10 +41,12 @@ loop-place-init g c =
 
 -- the text that gets a number is the key of the pair at the place
 key_is : (g : Over) (c : After-as_bytes g) → c.as_bytes.result.now ≡ (pair_at c.args.pairs.now c.loop-place.place).key
-key_is g c = c.as_bytes.ensures ∙ ap (λ (p : Pair). p.key) (get_or_read c.args.pairs.now c.loop-place.place c.index-pairs-place.result c.loop-place-test.true c.index-pairs-place.is (record { key = []; value = values.Text [] }))
+key_is g c = c.as_bytes.ensures ∙ ap (λ (p : Pair). p.key) (get_or_read c.args.pairs.now c.loop-place.place c.index-pairs-place.result c.loop-place-test.true
+    c.index-pairs-place.is (record { key = []; value = values.Text [] }))
 
 short : (g : Over) (c : After-as_bytes g) → IsShortName c.as_bytes.result.now
-short g c = subst IsShortName (sym (key_is g c)) (pair_form c.args.pairs.now c.loop-place.place (record { key = []; value = values.Text [] }) c.requires.pairs c.loop-place-test.true).0
+short g c = subst IsShortName (sym (key_is g c)) (pair_form c.args.pairs.now c.loop-place.place (record { key = []; value = values.Text [] }) c.requires.pairs
+    c.loop-place-test.true).0
 
 pub number_key-requires : goal.number_key-requires
 number_key-requires g c = short g c
@@ -52,7 +54,8 @@ number_key-requires g c = short g c
 pub returns-in_err-key-clause-refused : goal.returns-in_err-key-clause-refused
 returns-in_err-key-clause-refused g c =
     fault_exit of_intern (IsAssignFault c.args.names.now.names c.args.pairs.now) c.in_err-key.field-0.0 c.from_residual.result c.from_residual.ensures.1
-    (assign_refused c.args.names.now.names c.loop-place.names.names c.args.pairs.now c.loop-place.place c.loop-place.assigned.items c.as_bytes.result.now (key_is g (goal.at.returns-in_err-key-clause-refused g c).After-as_bytes)
+    (assign_refused c.args.names.now.names c.loop-place.names.names c.args.pairs.now c.loop-place.place c.loop-place.assigned.items c.as_bytes.result.now
+    (key_is g (goal.at.returns-in_err-key-clause-refused g c).After-as_bytes)
     c.loop-place.invariant.so_far c.loop-place-test.true c.in_err-key.field-0.0 c.in_err-key.ensures.full_only)
 
 pub returns-in_err-key-clause-counts : goal.returns-in_err-key-clause-counts
@@ -98,11 +101,13 @@ loop-place-preserved g c =
     let written = name_written t u names new text uses c.number_key.ensures.known c.number_key.ensures.writes in
     record {
       so_far = now;
-      stays = λ tells. names_then s t u (inv.stays tells) (key_beside (not c.is_full-are_few.result) t u names text (λ few. c.in_ok-key.ensures.ok tells few) c.number_key.ensures.held);
+      stays = λ tells. names_then s t u (inv.stays tells) (key_beside (not c.is_full-are_few.result) t u names text (λ few. c.in_ok-key.ensures.ok tells few)
+          c.number_key.ensures.held);
       kept = λ tells few store.
           let before : length items ≤ 32 = omega arith in
           let kept = inv.kept tells before store in
-          keeps_then s t u names new kept (keeps_interned t u names new text (c.in_ok-key.ensures.ok tells (few_true g at before)) uses (short g at) room kept.store);
+          keeps_then s t u names new kept (keeps_interned t u names new text (c.in_ok-key.ensures.ok tells (few_true g at before)) uses (short g at)
+          room kept.store);
       metas = λ tells. metas_then (inv.metas tells) (c.in_ok-key.ensures.metas tells);
       shape = λ tells. (g.met.S.Reads.onward_shape _ _ c.number_key.ensures.onward) ∙ inv.shape tells;
       writes = λ few.
@@ -125,8 +130,13 @@ pub returns-then-len-clause-refused : goal.returns-then-len-clause-refused
 returns-then-len-clause-refused g c =
     let all = whole g (goal.at.returns-then-len-clause-refused g c).After-len in
     let old = c.args.names.now.names in
-    let names = c.loop-place.names.names in
-    (names, all_used old names c.args.pairs.now c.loop-place.assigned.items all, all.held.few, too_many old names c.args.pairs.now c.loop-place.assigned.items all (let e = c.len.ensures.value in omega arith))
+    let names = c.loop-place.names.names in (
+      names,
+      all_used old names c.args.pairs.now c.loop-place.assigned.items all,
+      all.held.few,
+      too_many old names c.args.pairs.now c.loop-place.assigned.items
+          all (let e = c.len.ensures.value in omega arith),
+    )
 
 pub returns-clause-assigned : goal.returns-clause-assigned
 returns-clause-assigned g c =

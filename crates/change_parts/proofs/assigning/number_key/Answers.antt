@@ -10,4 +10,5 @@ on_both (Err fault) f a b = tt
 
 pub returns-then-are_few-clause-metas : goal.returns-then-are_few-clause-metas
 returns-then-are_few-clause-metas g c tells =
-    on_both c.intern.result (λ is uses. metas_interned (g.S.Reads.state c.args.space.now) (g.S.Reads.state c.intern.new.space) c.args.names.now.names c.intern.new.self.names c.args.key.now is uses) (c.intern.ensures.ok tells) c.intern.ensures.names
+    on_both c.intern.result (λ is uses. metas_interned (g.S.Reads.state c.args.space.now) (g.S.Reads.state c.intern.new.space) c.args.names.now.names
+    c.intern.new.self.names c.args.key.now is uses) (c.intern.ensures.ok tells) c.intern.ensures.names

@@ -63,7 +63,8 @@ inside g c = c.requires.placed c.loop-assignment.assignment-index (record { key 
 -- its value is that of its pair
 value_is : (g : Over) (c : After-index-pairs-assignment g) → (get_or c.args.pairs.now (this g c).pair c.index-pairs-assignment.result).value
     ≡ (pair_at c.args.pairs.now (this g c).pair).value
-value_is g c = ap (λ (p : Pair). p.value) (sym c.index-pairs-assignment.is ∙ get_or_read c.args.pairs.now (this g c).pair c.index-pairs-assignment.result (inside g c) c.index-pairs-assignment.is (record { key = []; value = values.Text [] }))
+value_is g c = ap (λ (p : Pair). p.value) (sym c.index-pairs-assignment.is ∙ get_or_read c.args.pairs.now (this g c).pair c.index-pairs-assignment.result
+    (inside g c) c.index-pairs-assignment.is (record { key = []; value = values.Text [] }))
 
 pub add-requires-clause-kept : goal.add-requires-clause-kept
 add-requires-clause-kept g c = (pair_form c.args.pairs.now (this g c).pair c.index-pairs-assignment.result c.requires.pairs (inside g c)).1
@@ -84,9 +85,11 @@ loop-assignment-preserved g c =
           let put = inv.put tells names target is can in
           let lt = c.loop-assignment-test.true in
           let shape = inv.shape tells in
-          let added = subst (λ (o : Owner). HasKey t o (this g at).key → maps.get (properties_of t o) (text_at t (this g at).key) ≡ None → maps.len (properties_of t o) < 32 → SetsValue t u o (this g at).key value 0) is (c.in_ok-add.ensures.added tells) in
+          let added = subst (λ (o : Owner). HasKey t o (this g at).key → maps.get (properties_of t o) (text_at t (this g at).key) ≡ None → maps.len
+          (properties_of t o) < 32 → SetsValue t u o (this g at).key value 0) is (c.in_ok-add.ensures.added tells) in
           put_more s t names target pairs assigned i can c.requires.few put lt shape u value (value_is g at)
-          (added (key_there s t names target pairs assigned i can c.requires.few put lt shape) (key_new s t names target pairs assigned i can c.requires.few put lt shape) (key_fits s t names target pairs assigned i can c.requires.few put lt shape));
+          (added (key_there s t names target pairs assigned i can c.requires.few put lt shape) (key_new s t names target pairs assigned i can c.requires.few put
+          lt shape) (key_fits s t names target pairs assigned i can c.requires.few put lt shape));
       values = λ tells names id is can.
           let target = targets.Node id in
           let put = inv.put tells names target is can in
@@ -96,7 +99,8 @@ loop-assignment-preserved g c =
           let there = key_there s t names target pairs assigned i can c.requires.few put lt shape in
           let none = key_new s t names target pairs assigned i can c.requires.few put lt shape in
           let has = there.element in
-          let alone = subst (λ (o : Owner). (es : List Property) → OwnsProperties t o es → IsKnownKey t (this g at).key → LacksKey es (this g at).key → length es < 32 → SetsAlone t u o es (this g at).key value 0) is (c.in_ok-add.ensures.alone tells) in
+          let alone = subst (λ (o : Owner). (es : List Property) → OwnsProperties t o es → IsKnownKey t (this g at).key → LacksKey es (this g at).key
+          → length es < 32 → SetsAlone t u o es (this g at).key value 0) is (c.in_ok-add.ensures.alone tells) in
           let es = listed_at t (owner_of target) owned has in
           let few = key_fits s t names target pairs assigned i can c.requires.few put lt shape in
           let count = count_is t (owner_of target) owned has in
@@ -104,14 +108,16 @@ loop-assignment-preserved g c =
           (omega arith) in
           more_given t.records u.records (wanted_in s.records) (label_at s.records id) id pairs assigned i (record { key = 0; pair = 0 }) value lt
           (value_is g at)
-          (subst (λ l. ChangesValue t.records u.records l (this g at).key id None (Some value)) (label_kept s.records t.records id put.keeps) (added_value t u id (this g at).key value owned there none sets))
+          (subst (λ l. ChangesValue t.records u.records l (this g at).key id None (Some value)) (label_kept s.records t.records id put.keeps)
+          (added_value t u id (this g at).key value owned there none sets))
           (inv.values tells names id is can);
       indexes = λ tells names id is can.
           let target = targets.Edge id in
           let put = inv.put tells names target is can in
           let lt = c.loop-assignment-test.true in
           let shape = inv.shape tells in
-          let added = subst (λ (o : Owner). HasKey t o (this g at).key → maps.get (properties_of t o) (text_at t (this g at).key) ≡ None → maps.len (properties_of t o) < 32 → SetsValue t u o (this g at).key value 0) is (c.in_ok-add.ensures.added tells) in
+          let added = subst (λ (o : Owner). HasKey t o (this g at).key → maps.get (properties_of t o) (text_at t (this g at).key) ≡ None → maps.len
+          (properties_of t o) < 32 → SetsValue t u o (this g at).key value 0) is (c.in_ok-add.ensures.added tells) in
           let sets = added (key_there s t names target pairs assigned i can c.requires.few put lt shape)
           (key_new s t names target pairs assigned i can c.requires.few put lt shape)
           (key_fits s t names target pairs assigned i can c.requires.few put lt shape) in
@@ -144,10 +150,12 @@ returns-in_err-add-clause-sound g c tells names target is can room =
     let put = inv.put tells names target is can in
     let lt = c.loop-assignment-test.true in
     let shape = inv.shape tells in
-    let refused = subst (λ (o : Owner). HasKey t o (this g at).key → maps.get (properties_of t o) (text_at t (this g at).key) ≡ None → maps.len (properties_of t o) < 32 → IsSetRefusal t o (this g at).key value fault) is (c.in_err-add.ensures.refused tells) in
+    let refused = subst (λ (o : Owner). HasKey t o (this g at).key → maps.get (properties_of t o) (text_at t (this g at).key) ≡ None → maps.len
+    (properties_of t o) < 32 → IsSetRefusal t o (this g at).key value fault) is (c.in_err-add.ensures.refused tells) in
     fault_exit of_set IsOutside fault c.from_residual.result c.from_residual.ensures.1
     (put_outside s t names target pairs assigned i can c.requires.few put lt shape room value (value_is g at) fault
-    (refused (key_there s t names target pairs assigned i can c.requires.few put lt shape) (key_new s t names target pairs assigned i can c.requires.few put lt shape) (key_fits s t names target pairs assigned i can c.requires.few put lt shape)))
+    (refused (key_there s t names target pairs assigned i can c.requires.few put lt shape) (key_new s t names target pairs assigned i can c.requires.few put lt
+    shape) (key_fits s t names target pairs assigned i can c.requires.few put lt shape)))
 
 pub returns-clause-put : goal.returns-clause-put
 returns-clause-put g c tells names target is can =
@@ -186,7 +194,8 @@ returns-in_err-add-clause-err_writes g c =
     let more = sum_by_more blocks assigned i (record { key = 0; pair = 0 }) lt in
     let part = sum_by-take-le blocks assigned (i + 1) in
     let same = ap blocks_of (value_is g at) in
-    on_any_err _ _ (more_written (omega arith) (then_written (beside_written own c.loop-assignment.invariant.writes) (touched_written own c.add.ensures.touches)))
+    on_any_err _ _ (more_written (omega arith) (then_written (beside_written own c.loop-assignment.invariant.writes)
+    (touched_written own c.add.ensures.touches)))
 
 pub returns-in_err-add-clause-caused : goal.returns-in_err-add-clause-caused
 returns-in_err-add-clause-caused g c tells =
@@ -200,7 +209,8 @@ returns-in_err-add-clause-caused g c tells =
     let same = ap blocks_of (value_is g at) in
     fault_exit of_set (IsPutCause t (length assigned) (assigned_blocks c.args.pairs.now assigned)) c.in_err-add.field-0.0 c.from_residual.result
     c.from_residual.ensures.1
-    (add_caused _ t (length assigned) (assigned_blocks c.args.pairs.now assigned) _ (omega arith) (omega arith) c.in_err-add.field-0.0 (c.in_err-add.ensures.caused tells))
+    (add_caused _ t (length assigned) (assigned_blocks c.args.pairs.now assigned) _ (omega arith) (omega arith) c.in_err-add.field-0.0
+    (c.in_err-add.ensures.caused tells))
 
 pub returns-in_err-add-clause-damaged : goal.returns-in_err-add-clause-damaged
 returns-in_err-add-clause-damaged g c tells =

@@ -15,7 +15,8 @@ use Rattle.change_parts.proofs.owners.find_owner.Goals as goal
 pub returns-in-Some-clause-there : goal.returns-in-Some-clause-there
 returns-in-Some-clause-there g c tells =
     let s = g.R.Reads.state c.args.space.now in
-    subst (λ t. has_element (graph_in s) t ≡ true) (sym c.in-Node.is) (node_loaded s c.in-Node.id c.in-Some.field-0 (sym c.in-Some.is ∙ c.in_ok-load-in-Node.ensures.found tells))
+    subst (λ t. has_element (graph_in s) t ≡ true) (sym c.in-Node.is) (node_loaded s c.in-Node.id c.in-Some.field-0
+    (sym c.in-Some.is ∙ c.in_ok-load-in-Node.ensures.found tells))
 
 pub returns-in-None-clause-refused : goal.returns-in-None-clause-refused
 returns-in-None-clause-refused g c tells names store =
@@ -24,7 +25,8 @@ returns-in-None-clause-refused g c tells names store =
 pub returns-in-Some-2-clause-there : goal.returns-in-Some-2-clause-there
 returns-in-Some-2-clause-there g c tells =
     let s = g.R.Reads.state c.args.space.now in
-    subst (λ t. has_element (graph_in s) t ≡ true) (sym c.in-Edge.is) (edge_loaded s c.in-Edge.id c.in-Some-2.field-0 (sym c.in-Some-2.is ∙ c.in_ok-load-in-Edge.ensures.found tells))
+    subst (λ t. has_element (graph_in s) t ≡ true) (sym c.in-Edge.is) (edge_loaded s c.in-Edge.id c.in-Some-2.field-0
+    (sym c.in-Some-2.is ∙ c.in_ok-load-in-Edge.ensures.found tells))
 
 pub returns-in-None-2-clause-refused : goal.returns-in-None-2-clause-refused
 returns-in-None-2-clause-refused g c tells names store =
@@ -76,7 +78,8 @@ pub returns-in_err-load-in-Edge-clause-absent : goal.returns-in_err-load-in-Edge
 returns-in_err-load-in-Edge-clause-absent g c tells =
     let s = g.R.Reads.state c.args.space.now in
     fault_exit of_row (IsAbsent s c.args.target) c.in_err-load-in-Edge.field-0.0 c.from_residual-in_err-load-in-Edge.result
-    c.from_residual-in_err-load-in-Edge.ensures.1 (edge_absent s c.args.target c.in-Edge.id c.in_err-load-in-Edge.field-0.0 (c.in_err-load-in-Edge.ensures.damaged tells))
+    c.from_residual-in_err-load-in-Edge.ensures.1 (edge_absent s c.args.target c.in-Edge.id c.in_err-load-in-Edge.field-0.0
+    (c.in_err-load-in-Edge.ensures.damaged tells))
 
 pub returns-in_err-load-in-Node-clause-owner : goal.returns-in_err-load-in-Node-clause-owner
 returns-in_err-load-in-Node-clause-owner g c = never_ok c.from_residual.result _ _ c.from_residual.ensures.1

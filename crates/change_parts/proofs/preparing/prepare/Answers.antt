@@ -32,7 +32,8 @@ returns-in_err-label-clause-refused g c tells store =
     let s = g.S.Reads.state c.args.space.now in
     let reasons = IsRefusedBy line_reasons s.shape.limit (graph_in s) (commands.Node c.args.label.now c.args.pairs.now) in
     fault_exit of_intern reasons c.in_err-label.field-0.0 c.from_residual.result c.from_residual.ensures.1
-    (label_refused s c.args.names.now.names c.args.label.now c.args.pairs.now store c.in_err-label.field-0.0 (rw c.as_bytes.ensures at c.in_err-label.ensures.full_only))
+    (label_refused s c.args.names.now.names c.args.label.now c.args.pairs.now store c.in_err-label.field-0.0
+    (rw c.as_bytes.ensures at c.in_err-label.ensures.full_only))
 
 -- the label has a number
 uses : (g : Over) (c : In_ok-label g) → UsesName c.args.names.now.names c.args.label.now c.intern.new.self.names
@@ -55,7 +56,8 @@ returns-in_err-assigned-clause-refused g c tells store =
     let s = g.S.Reads.state c.args.space.now in
     let reasons = IsRefusedBy line_reasons s.shape.limit (graph_in s) (commands.Node c.args.label.now c.args.pairs.now) in
     fault_exit (λ f. f) reasons c.in_err-assigned.field-0.0 c.from_residual-in_err-assigned.result c.from_residual-in_err-assigned.ensures.1
-    (assign_refused_by s c.args.names.now.names c.intern.new.self.names c.args.label.now c.args.pairs.now store (uses g (goal.at.returns-in_err-assigned-clause-refused g c).In_ok-label) c.in_err-assigned.field-0.0 c.in_err-assigned.ensures.refused)
+    (assign_refused_by s c.args.names.now.names c.intern.new.self.names c.args.label.now c.args.pairs.now store
+    (uses g (goal.at.returns-in_err-assigned-clause-refused g c).In_ok-label) c.in_err-assigned.field-0.0 c.in_err-assigned.ensures.refused)
 
 -- the elements are kept
 kept : (g : Over) (c : In_ok-assigned g) → g.S.Reads.tells → IsMidway (g.S.Reads.state c.args.space.now) c.args.names.now.names
@@ -78,7 +80,8 @@ returns-in_err-blocks-clause-refused g c tells store =
     let reasons = IsRefusedBy line_reasons s.shape.limit (graph_in s) (commands.Node c.args.label.now pairs) in
     let fault = c.in_err-blocks.field-0.0 in
     fault_exit (λ f. f) reasons fault c.from_residual-in_err-blocks.result c.from_residual-in_err-blocks.ensures.1
-    (reserve_refused s c.args.names.now.names c.intern.new.self.names c.args.label.now pairs store (uses g (goal.at.returns-in_err-blocks-clause-refused g c).In_ok-label) u c.assign_pairs.new.names.names c.in_ok-assigned.assigned.items
+    (reserve_refused s c.args.names.now.names c.intern.new.self.names c.args.label.now pairs store
+    (uses g (goal.at.returns-in_err-blocks-clause-refused g c).In_ok-label) u c.assign_pairs.new.names.names c.in_ok-assigned.assigned.items
     c.in_ok-assigned.ensures.uses (kept g at tells store) c.in_ok-assigned.ensures.assigned c.in_ok-assigned.ensures.few c.in_ok-assigned.ensures.held.few fault
     (subst (λ l. IsReserveFault u (length l) (assigned_blocks pairs l) fault) c.deref.ensures.0 c.in_err-blocks.ensures.refused))
 
@@ -94,11 +97,13 @@ returns-clause-prepared g c tells store =
     c.in_ok-assigned.ensures.uses (kept g at tells store) c.in_ok-assigned.ensures.assigned c.in_ok-assigned.ensures.few c.in_ok-assigned.ensures.held.few _
     refl (c.in_ok-label.ensures.number ∙ ap (λ l. Some l) c.as_bytes.ensures)
     (subst (λ l. HasPropertyRoom u (length l) (assigned_blocks pairs l)) c.deref.ensures.0 c.in_ok-blocks.ensures.room)
-    (let n = c.len.ensures.value in let b = c.in_ok-blocks.ensures.blocks ∙ ap (assigned_blocks pairs) c.deref.ensures.0 in let k = c.count-known.ensures.value in let m = c.count.ensures.value in omega arith)
+    (let n = c.len.ensures.value in let b = c.in_ok-blocks.ensures.blocks ∙ ap (assigned_blocks pairs) c.deref.ensures.0 in let k =
+    c.count-known.ensures.value in let m = c.count.ensures.value in omega arith)
 
 pub returns-clause-names_full : goal.returns-clause-names_full
 returns-clause-names_full g c used other many =
-    let same = ap length (uses_once c.args.names.now.names (c.args.label.now ∷ keys_in c.args.pairs.now) used c.assign_pairs.new.names.names other (c.intern.new.self.names, uses g (goal.at.returns-clause-names_full g c).In_ok-label, c.in_ok-assigned.ensures.uses)) in
+    let same = ap length (uses_once c.args.names.now.names (c.args.label.now ∷ keys_in c.args.pairs.now) used c.assign_pairs.new.names.names other
+    (c.intern.new.self.names, uses g (goal.at.returns-clause-names_full g c).In_ok-label, c.in_ok-assigned.ensures.uses)) in
     let few = c.in_ok-assigned.ensures.held.few in
     absurd (omega arith)
 
@@ -107,7 +112,8 @@ pub returns-in_err-label-clause-counts : goal.returns-in_err-label-clause-counts
 returns-in_err-label-clause-counts g c tells =
     let s = g.S.Reads.state c.args.space.now in
     fault_exit of_intern (IsCounted s) c.in_err-label.field-0.0 c.from_residual.result c.from_residual.ensures.1
-    (assign_counted s (of_intern c.in_err-label.field-0.0) (count_full c.args.names.now.names c.as_bytes.result.now c.in_err-label.field-0.0 c.in_err-label.ensures.full_only))
+    (assign_counted s (of_intern c.in_err-label.field-0.0) (count_full c.args.names.now.names c.as_bytes.result.now c.in_err-label.field-0.0
+    c.in_err-label.ensures.full_only))
 
 pub returns-in_err-assigned-clause-counts : goal.returns-in_err-assigned-clause-counts
 returns-in_err-assigned-clause-counts g c tells =
@@ -120,7 +126,8 @@ returns-in_err-blocks-clause-counts g c tells =
     let s = g.S.Reads.state c.args.space.now in
     let t = g.S.Reads.state c.intern.new.space in
     let u = g.S.Reads.state c.assign_pairs.new.space in
-    let metas = metas_then (metas_interned s t c.args.names.now.names c.intern.new.self.names c.as_bytes.result.now (c.in_ok-label.ensures.ok tells) c.in_ok-label.ensures.names) (c.in_ok-assigned.ensures.metas tells) in
+    let metas = metas_then (metas_interned s t c.args.names.now.names c.intern.new.self.names c.as_bytes.result.now (c.in_ok-label.ensures.ok tells)
+    c.in_ok-label.ensures.names) (c.in_ok-assigned.ensures.metas tells) in
     fault_exit (λ f. f) (IsCounted s) c.in_err-blocks.field-0.0 c.from_residual-in_err-blocks.result c.from_residual-in_err-blocks.ensures.1
     (reserve_counted s u _ _ metas c.in_err-blocks.field-0.0 c.in_err-blocks.ensures.refused)
 
@@ -147,7 +154,8 @@ pub returns-clause-metas : goal.returns-clause-metas
 returns-clause-metas g c tells =
     let s = g.S.Reads.state c.args.space.now in
     let t = g.S.Reads.state c.intern.new.space in
-    metas_then (metas_interned s t c.args.names.now.names c.intern.new.self.names c.as_bytes.result.now (c.in_ok-label.ensures.ok tells) c.in_ok-label.ensures.names) (c.in_ok-assigned.ensures.metas tells)
+    metas_then (metas_interned s t c.args.names.now.names c.intern.new.self.names c.as_bytes.result.now (c.in_ok-label.ensures.ok tells)
+    c.in_ok-label.ensures.names) (c.in_ok-assigned.ensures.metas tells)
 
 pub returns-clause-light : goal.returns-clause-light
 returns-clause-light g c =
@@ -177,8 +185,14 @@ pub returns-clause-needs : goal.returns-clause-needs
 returns-clause-needs g c =
     let names = c.assign_pairs.new.names.names in
     let pairs = c.args.pairs.now in
-    let items = c.in_ok-assigned.assigned.items in
-    (inl (refl, length-assigned names pairs items c.in_ok-assigned.ensures.assigned), inr (refl, blocks-assigned names pairs items c.in_ok-assigned.ensures.assigned))
+    let items = c.in_ok-assigned.assigned.items in (
+      inl (refl, length-assigned names pairs items c.in_ok-assigned.ensures.assigned),
+      inr (
+        refl,
+        blocks-assigned names pairs items
+            c.in_ok-assigned.ensures.assigned,
+      ),
+    )
 
 pub returns-clause-prefix : goal.returns-clause-prefix
 returns-clause-prefix g c =
@@ -191,7 +205,8 @@ returns-clause-writes g c =
     let one = name_long c.args.names.now.names c.as_bytes.result.now c.intern.new.self.names c.in_ok-label.ensures.names in
     let two = uses_long c.intern.new.self.names (keys_in c.args.pairs.now) c.assign_pairs.new.names.names c.in_ok-assigned.ensures.uses in
     more_written (omega arith) (then_written
-    (name_written (g.S.Reads.state c.args.space.now) (g.S.Reads.state c.intern.new.space) c.args.names.now.names c.intern.new.self.names c.as_bytes.result.now c.in_ok-label.ensures.names (λ k. (c.intern.ensures.known k).1) c.intern.ensures.writes)
+    (name_written (g.S.Reads.state c.args.space.now) (g.S.Reads.state c.intern.new.space) c.args.names.now.names c.intern.new.self.names c.as_bytes.result.now
+    c.in_ok-label.ensures.names (λ k. (c.intern.ensures.known k).1) c.intern.ensures.writes)
     c.in_ok-assigned.ensures.writes)
 
 -- ---- why it is refused over any records
@@ -208,7 +223,8 @@ returns-in_err-assigned-clause-caused g c tells =
     let old = c.args.names.now.names in
     fault_exit (λ f. f) (IsLineCause s old c.args.label.now c.args.pairs.now) c.in_err-assigned.field-0.0 c.from_residual-in_err-assigned.result
     c.from_residual-in_err-assigned.ensures.1
-    (assign_caused s old c.intern.new.self.names c.args.label.now c.args.pairs.now (uses g (goal.at.returns-in_err-assigned-clause-caused g c).In_ok-label) c.in_err-assigned.field-0.0 c.in_err-assigned.ensures.refused c.in_err-assigned.ensures.counts)
+    (assign_caused s old c.intern.new.self.names c.args.label.now c.args.pairs.now (uses g (goal.at.returns-in_err-assigned-clause-caused g c).In_ok-label)
+    c.in_err-assigned.field-0.0 c.in_err-assigned.ensures.refused c.in_err-assigned.ensures.counts)
 
 pub returns-in_err-blocks-clause-caused : goal.returns-in_err-blocks-clause-caused
 returns-in_err-blocks-clause-caused g c tells =
@@ -224,14 +240,16 @@ returns-in_err-blocks-clause-caused g c tells =
     (c.in_ok-assigned.ensures.metas tells) in
     let shape = (g.met.S.Reads.onward_shape _ _ c.assign_pairs.ensures.onward) ∙ (g.met.S.Reads.onward_shape _ _ c.intern.ensures.onward) in
     fault_exit (λ f. f) (IsLineCause s old c.args.label.now pairs) fault c.from_residual-in_err-blocks.result c.from_residual-in_err-blocks.ensures.1
-    (reserve_caused s u old c.args.label.now pairs shape (length items) (assigned_blocks pairs items) (length-assigned names pairs items c.in_ok-assigned.ensures.assigned) (blocks-assigned names pairs items c.in_ok-assigned.ensures.assigned) metas fault
+    (reserve_caused s u old c.args.label.now pairs shape (length items) (assigned_blocks pairs items) (length-assigned names pairs items
+    c.in_ok-assigned.ensures.assigned) (blocks-assigned names pairs items c.in_ok-assigned.ensures.assigned) metas fault
     (subst (λ l. IsReserveFault u (length l) (assigned_blocks pairs l) fault) c.deref.ensures.0 c.in_err-blocks.ensures.refused))
 
 pub returns-clause-stays : goal.returns-clause-stays
 returns-clause-stays g c tells =
     let s = g.S.Reads.state c.args.space.now in
     let t = g.S.Reads.state c.intern.new.space in
-    names_then s t (g.S.Reads.state c.assign_pairs.new.space) (interned_beside s t c.args.names.now.names c.as_bytes.result.now (c.in_ok-label.ensures.ok tells)) (c.in_ok-assigned.ensures.stays tells)
+    names_then s t (g.S.Reads.state c.assign_pairs.new.space) (interned_beside s t c.args.names.now.names c.as_bytes.result.now
+    (c.in_ok-label.ensures.ok tells)) (c.in_ok-assigned.ensures.stays tells)
 
 pub returns-in_err-label-clause-cause : goal.returns-in_err-label-clause-cause
 returns-in_err-label-clause-cause g c =
@@ -262,7 +280,8 @@ returns-in_err-assigned-clause-still g c tells =
     let old = c.args.names.now.names in
     fault_exit (λ f. f) (IsLineCause t old c.args.label.now c.args.pairs.now) c.in_err-assigned.field-0.0 c.from_residual-in_err-assigned.result
     c.from_residual-in_err-assigned.ensures.1
-    (assign_caused t old c.intern.new.self.names c.args.label.now c.args.pairs.now (uses g (goal.at.returns-in_err-assigned-clause-still g c).In_ok-label) c.in_err-assigned.field-0.0 c.in_err-assigned.ensures.refused c.in_err-assigned.ensures.counts)
+    (assign_caused t old c.intern.new.self.names c.args.label.now c.args.pairs.now (uses g (goal.at.returns-in_err-assigned-clause-still g c).In_ok-label)
+    c.in_err-assigned.field-0.0 c.in_err-assigned.ensures.refused c.in_err-assigned.ensures.counts)
 
 pub returns-in_err-blocks-clause-still : goal.returns-in_err-blocks-clause-still
 returns-in_err-blocks-clause-still g c tells =
@@ -273,7 +292,8 @@ returns-in_err-blocks-clause-still g c tells =
     let items = c.in_ok-assigned.assigned.items in
     let fault = c.in_err-blocks.field-0.0 in
     fault_exit (λ f. f) (IsLineCause u old c.args.label.now pairs) fault c.from_residual-in_err-blocks.result c.from_residual-in_err-blocks.ensures.1
-    (reserve_caused u u old c.args.label.now pairs refl (length items) (assigned_blocks pairs items) (length-assigned names pairs items c.in_ok-assigned.ensures.assigned) (blocks-assigned names pairs items c.in_ok-assigned.ensures.assigned)
+    (reserve_caused u u old c.args.label.now pairs refl (length items) (assigned_blocks pairs items) (length-assigned names pairs items
+    c.in_ok-assigned.ensures.assigned) (blocks-assigned names pairs items c.in_ok-assigned.ensures.assigned)
     (record { nodes = refl; edges = refl; properties = refl; blocks = refl }) fault
     (subst (λ l. IsReserveFault u (length l) (assigned_blocks pairs l) fault) c.deref.ensures.0 c.in_err-blocks.ensures.refused))
 

@@ -35,7 +35,8 @@ use Rattle.edge_changes.proofs.OpenWrites.{ends_weigh, most_threshold}
 use Rattle.store_rules.proofs.WriteLaws.{beside_then, beside_written, more_written, none_written, then_written}
 use Rattle.change_parts.proofs.Writes.{on_any_err}
 use Rattle.change_parts.specs.Causes.{IsCaused, IsStillCaused}
-use Rattle.change_parts.proofs.Causes.{absent_caused, broken_left, caused_left, caused_read, failure_caused, line_edge, no_edge, node_of, put_caused, room_caused}
+use Rattle.change_parts.proofs.Causes.{absent_caused, broken_left, caused_left, caused_read, failure_caused, line_edge, no_edge, node_of, put_caused}
+use Rattle.change_parts.proofs.Causes.{room_caused}
 use Rattle.change_parts.proofs.DiskCauses.{change_cause_passed, later_on, room_refusal_cause}
 use Rattle.change_parts.specs.Damage.{IsBroken}
 use Rattle.change_parts.proofs.Adding.{line_blamed, names_harm_no_lists, no_lists_then, room_blamed}
@@ -105,7 +106,8 @@ returns-in_err-test_room-clause-refused g c tells whole =
     let why = c.in_err-test_room.ensures.full in
     fault_exit (λ f. f) (IsRefusal s.shape.limit (graph_in s) command) fault c.from_residual-in_err-test_room.result c.from_residual-in_err-test_room.ensures.1
     (refused_read s n change_reasons command fault c.end_degrees.ensures.state
-    (edges_refused n.shape.limit (graph_in n) c.args.from c.args.label.now c.args.to c.args.pairs.now (leaves_node g at tells store) (enters_node g at tells store)
+    (edges_refused n.shape.limit (graph_in n) c.args.from c.args.label.now c.args.to c.args.pairs.now (leaves_node g at tells store)
+    (enters_node g at tells store)
     fault _ why.is (lacks_full n names (kept g at tells store) fault why)))
 
 -- ---- there is room for an edge
@@ -127,7 +129,8 @@ returns-in_err-prepared-clause-refused g c tells whole =
     c.as_slice-pairs.ensures
     (fault_exit (λ f. f) (IsRefusal s.shape.limit (graph_in s) command) fault c.from_residual-in_err-prepared.result c.from_residual-in_err-prepared.ensures.1
     (refused_read s n change_reasons command fault c.end_degrees.ensures.state
-    (line_refused n.shape.limit (graph_in n) c.args.from c.args.label.now c.args.to pairs (leaves_node g at.In_ok-ends tells store) (enters_node g at.In_ok-ends tells store)
+    (line_refused n.shape.limit (graph_in n) c.args.from c.args.label.now c.args.to pairs (leaves_node g at.In_ok-ends tells store)
+    (enters_node g at.In_ok-ends tells store)
     (room g at.In_ok-test_room tells store) fault (c.in_err-prepared.ensures.refused tells (kept g at.In_ok-ends tells store)))))
 
 -- ---- the edge's record and its chains
@@ -156,7 +159,8 @@ edge_outside g c tells store =
     let hand = at_hand g at.In_ok-prepared tells store in
     c.in_err-id.ensures.sound tells (limit_kept g at.In_ok-prepared tells store) c.prepare.new.names.names c.args.label.now hand.kept.store hand.label_is
     (degrees_kept g at.In_ok-prepared tells store)
-    (room_kept (g.S.Reads.state c.end_degrees.new.space) c.args.names.now.names (kept g at.In_ok-ends tells store) (g.S.Reads.state c.prepare.new.space) c.prepare.new.names.names hand.kept c.in_ok-test_room.ensures.room)
+    (room_kept (g.S.Reads.state c.end_degrees.new.space) c.args.names.now.names (kept g at.In_ok-ends tells store) (g.S.Reads.state c.prepare.new.space)
+    c.prepare.new.names.names hand.kept c.in_ok-test_room.ensures.room)
 
 pub returns-in_err-id-clause-refused : goal.returns-in_err-id-clause-refused
 returns-in_err-id-clause-refused g c tells whole =
@@ -165,7 +169,8 @@ returns-in_err-id-clause-refused g c tells whole =
     let command = commands.Edge c.args.from c.args.label.now c.args.to c.args.pairs.now in
     fault_exit (λ f. f) (IsRefusal s.shape.limit (graph_in s) command) c.in_err-id.field-0.0 c.from_residual-in_err-id.result
     c.from_residual-in_err-id.ensures.1
-    (outside_refused change_reasons s.shape.limit (graph_in s) command c.in_err-id.field-0.0 (edge_outside g (goal.at.returns-in_err-id-clause-refused g c).In_err-id tells store))
+    (outside_refused change_reasons s.shape.limit (graph_in s) command c.in_err-id.field-0.0 (edge_outside g (goal.at.returns-in_err-id-clause-refused g
+    c).In_err-id tells store))
 
 pub returns-in_err-id-clause-leaves : goal.returns-in_err-id-clause-leaves
 returns-in_err-id-clause-leaves g c tells =
@@ -192,7 +197,8 @@ puts g c tells store =
     let v = g.S.Reads.state c.put_edge.new.space in
     at_nodes (λ from to. PutsEdge u v c.prepare.new.names.names from c.args.label.now to c.in_ok-id.id) c.in_ok-ends.ends c.args.from c.args.to
     c.in_ok-ends.ensures.ends
-    (c.in_ok-id.ensures.put tells (limit_kept g at tells store) c.prepare.new.names.names c.args.label.now hand.kept.store hand.label_is (degrees_kept g at tells store))
+    (c.in_ok-id.ensures.put tells (limit_kept g at tells store) c.prepare.new.names.names c.args.label.now hand.kept.store hand.label_is
+    (degrees_kept g at tells store))
 
 can : (g : Over) (c : After-put_properties g) → g.S.Reads.tells → IsMidway (g.S.Reads.state c.args.space.now) c.args.names.now.names
     → CanPut (g.S.Reads.state c.put_edge.new.space) c.prepare.new.names.names (targets.Edge c.in_ok-id.id) c.as_slice-pairs.result.now c.deref.result.now
@@ -200,7 +206,8 @@ can g c tells store =
     let at = goal.at.After-put_properties g c in
     subst (CanPut (g.S.Reads.state c.put_edge.new.space) c.prepare.new.names.names (targets.Edge c.in_ok-id.id) c.as_slice-pairs.result.now)
     (sym c.deref.ensures.0)
-    (can_put (g.S.Reads.state c.end_degrees.new.space) (g.S.Reads.state c.prepare.new.space) (g.S.Reads.state c.put_edge.new.space) c.args.names.now.names c.prepare.new.names.names c.args.from c.args.label.now c.args.to c.as_slice-pairs.result.now c.in_ok-id.id
+    (can_put (g.S.Reads.state c.end_degrees.new.space) (g.S.Reads.state c.prepare.new.space) (g.S.Reads.state c.put_edge.new.space) c.args.names.now.names
+    c.prepare.new.names.names c.args.from c.args.label.now c.args.to c.as_slice-pairs.result.now c.in_ok-id.id
     c.in_ok-prepared.prepared (kept g at.In_ok-ends tells store) (at_hand g at.In_ok-prepared tells store) (puts g at.In_ok-id tells store)
     ((g.met.S.Reads.onward_shape _ _ c.put_edge.ensures.onward)))
 
@@ -211,7 +218,8 @@ properties_outside g c tells store =
     c.in_err-put_properties.ensures.sound tells c.prepare.new.names.names (targets.Edge c.in_ok-id.id) c.edge_owner.ensures
     (can g at.After-put_properties tells store)
     (subst (λ l. HasPropertyRoom (g.S.Reads.state c.put_edge.new.space) (length l) (assigned_blocks c.as_slice-pairs.result.now l)) (sym c.deref.ensures.0)
-    (put_room (g.S.Reads.state c.end_degrees.new.space) (g.S.Reads.state c.prepare.new.space) (g.S.Reads.state c.put_edge.new.space) c.args.names.now.names c.prepare.new.names.names c.args.from c.args.label.now c.args.to c.as_slice-pairs.result.now c.in_ok-id.id
+    (put_room (g.S.Reads.state c.end_degrees.new.space) (g.S.Reads.state c.prepare.new.space) (g.S.Reads.state c.put_edge.new.space) c.args.names.now.names
+    c.prepare.new.names.names c.args.from c.args.label.now c.args.to c.as_slice-pairs.result.now c.in_ok-id.id
     c.in_ok-prepared.prepared (kept g at.In_ok-ends tells store) (at_hand g at.In_ok-prepared tells store) (puts g at.In_ok-id tells store)
     ((g.met.S.Reads.onward_shape _ _ c.put_edge.ensures.onward))))
 
@@ -222,7 +230,8 @@ returns-in_err-put_properties-clause-refused g c tells whole =
     let command = commands.Edge c.args.from c.args.label.now c.args.to c.args.pairs.now in
     fault_exit (λ f. f) (IsRefusal s.shape.limit (graph_in s) command) c.in_err-put_properties.field-0.0 c.from_residual-in_err-put_properties.result
     c.from_residual-in_err-put_properties.ensures.1
-    (outside_refused change_reasons s.shape.limit (graph_in s) command c.in_err-put_properties.field-0.0 (properties_outside g (goal.at.returns-in_err-put_properties-clause-refused g c).In_err-put_properties tells store))
+    (outside_refused change_reasons s.shape.limit (graph_in s) command c.in_err-put_properties.field-0.0
+    (properties_outside g (goal.at.returns-in_err-put_properties-clause-refused g c).In_err-put_properties tells store))
 
 pub returns-in_err-put_properties-clause-leaves : goal.returns-in_err-put_properties-clause-leaves
 returns-in_err-put_properties-clause-leaves g c tells =
@@ -242,7 +251,8 @@ returns-in_err-put_properties-clause-refused_writes g c =
     let small = c.ends_weight-moved.ensures.small in
     let allowed = most_threshold c.shape-threshold.result c.shape-threshold.ensures.allowed in
     let read = none_written _ _ c.end_degrees.ensures.state in
-    on_any_err _ _ (more_written (omega arith) (then_written read (then_written c.in_ok-prepared.ensures.writes (then_written (beside_written refl c.in_ok-id.ensures.writes) c.in_err-put_properties.ensures.err_writes))))
+    on_any_err _ _ (more_written (omega arith) (then_written read (then_written c.in_ok-prepared.ensures.writes
+    (then_written (beside_written refl c.in_ok-id.ensures.writes) c.in_err-put_properties.ensures.err_writes))))
 
 -- call after call the space goes on
 onward : (g : Over) (c : After-put_properties g) → g.S.Reads.onward c.args.space.now c.put_properties.new.space
@@ -267,7 +277,8 @@ returns-clause-full g c whole full =
     let s = g.S.Reads.state c.args.space.now in
     let n = g.S.Reads.state c.end_degrees.new.space in
     let same = c.end_degrees.ensures.state in
-    absurd (not_full n c.args.names.now.names (store_read s n c.args.names.now.names same store) c.in_ok-test_room.ensures.room (subst IsFullOfEdges (sym same) full))
+    absurd (not_full n c.args.names.now.names (store_read s n c.args.names.now.names same store) c.in_ok-test_room.ensures.room (subst IsFullOfEdges (sym same)
+    full))
 
 pub returns-clause-made : goal.returns-clause-made
 returns-clause-made g c tells whole =
@@ -288,7 +299,8 @@ returns-clause-made g c tells whole =
     (c.in_ok-put_properties.ensures.put tells names (targets.Edge id) c.edge_owner.ensures (can g at.After-put_properties tells store)) in
     made_read s n w names (commands.Edge c.args.from c.args.label.now c.args.to c.args.pairs.now) (EdgeMade id) weight c.end_degrees.ensures.state
     (subst (λ l. MakesChange (commands.Edge c.args.from c.args.label.now c.args.to l) (EdgeMade id) weight n w names) c.as_slice-pairs.ensures
-    (made n u v c.args.names.now.names names c.args.from c.args.label.now c.args.to pairs id c.in_ok-prepared.prepared (kept g at.In_ok-ends tells store) hand (puts g at.In_ok-id tells store) ((g.met.S.Reads.onward_shape _ _ c.put_edge.ensures.onward))
+    (made n u v c.args.names.now.names names c.args.from c.args.label.now c.args.to pairs id c.in_ok-prepared.prepared (kept g at.In_ok-ends tells store) hand
+    (puts g at.In_ok-id tells store) ((g.met.S.Reads.onward_shape _ _ c.put_edge.ensures.onward))
     w put (room g at.In_ok-test_room tells store) (source_of ends).degree (target_of ends).degree (source_now g at.In_ok-ends tells)
     (target_now g at.In_ok-ends tells) (subst (λ (z : State). AreIndexed z.records (wanted_in z.records)) (sym c.end_degrees.ensures.state) whole.store.indexes)
     (c.in_ok-put_properties.ensures.indexes tells names id c.edge_owner.ensures (can g at.After-put_properties tells store)) weight c.ends_weight-moved.result
@@ -314,7 +326,8 @@ returns-clause-first g c tells whole =
 owned : (g : Over) (c : In_ok-put_properties g)
     → WritesBeside (rel_key c.in_ok-id.id) (length c.deref.result.now + assigned_blocks c.as_slice-pairs.result.now c.deref.result.now)
     (g.S.Reads.state c.put_edge.new.space) (g.S.Reads.state c.put_properties.new.space)
-owned g c = subst (λ (o : Owner). WritesBeside o.key (length c.deref.result.now + assigned_blocks c.as_slice-pairs.result.now c.deref.result.now) (g.S.Reads.state c.put_edge.new.space) (g.S.Reads.state c.put_properties.new.space)) c.edge_owner.ensures
+owned g c = subst (λ (o : Owner). WritesBeside o.key (length c.deref.result.now + assigned_blocks c.as_slice-pairs.result.now c.deref.result.now)
+    (g.S.Reads.state c.put_edge.new.space) (g.S.Reads.state c.put_properties.new.space)) c.edge_owner.ensures
     c.in_ok-put_properties.ensures.writes
 
 -- the relationship weighs nine, and the ends what those that become dense write
@@ -365,7 +378,8 @@ returns-in_err-put_properties-clause-counts g c tells whole =
     let s = g.S.Reads.state c.args.space.now in
     fault_exit (λ f. f) (IsCounted s) c.in_err-put_properties.field-0.0 c.from_residual-in_err-put_properties.result
     c.from_residual-in_err-put_properties.ensures.1
-    (outside_counted s c.in_err-put_properties.field-0.0 (properties_outside g (goal.at.returns-in_err-put_properties-clause-counts g c).In_err-put_properties tells store))
+    (outside_counted s c.in_err-put_properties.field-0.0 (properties_outside g (goal.at.returns-in_err-put_properties-clause-counts g c).In_err-put_properties
+    tells store))
 
 -- ---- why it is refused over any records
 
@@ -414,7 +428,8 @@ returns-in_err-prepared-clause-caused g c tells =
     let read = c.end_degrees.ensures.state in
     subst (λ l. IfErr c.from_residual-in_err-prepared.result (IsCaused (commands.Edge c.args.from c.args.label.now c.args.to l) s t names now))
     c.as_slice-pairs.ensures
-    (fault_exit (λ f. f) (IsCaused command s t names now) c.in_err-prepared.field-0.0 c.from_residual-in_err-prepared.result c.from_residual-in_err-prepared.ensures.1
+    (fault_exit (λ f. f) (IsCaused command s t names now) c.in_err-prepared.field-0.0 c.from_residual-in_err-prepared.result
+    c.from_residual-in_err-prepared.ensures.1
     (caused_read command s n t names now read c.in_err-prepared.field-0.0
     (line_edge n t names now c.args.label.now pairs c.args.from c.args.to c.in_err-prepared.field-0.0 (c.in_err-prepared.ensures.caused tells))))
 
@@ -442,8 +457,10 @@ returns-in_err-put_properties-clause-caused g c tells =
     (c.in_err-put_properties.ensures.caused tells) in
     subst (λ l. IfErr c.from_residual-in_err-put_properties.result (IsCaused (commands.Edge c.args.from c.args.label.now c.args.to l) s t names now))
     c.as_slice-pairs.ensures
-    (fault_exit (λ f. f) (IsCaused command s t names now) c.in_err-put_properties.field-0.0 c.from_residual-in_err-put_properties.result c.from_residual-in_err-put_properties.ensures.1
-    (put_caused command s t names now pairs (length items) (assigned_blocks pairs items) needs.0 needs.1 (λ file any. any) c.in_err-put_properties.field-0.0 told))
+    (fault_exit (λ f. f) (IsCaused command s t names now) c.in_err-put_properties.field-0.0 c.from_residual-in_err-put_properties.result
+    c.from_residual-in_err-put_properties.ensures.1
+    (put_caused command s t names now pairs (length items) (assigned_blocks pairs items) needs.0 needs.1 (λ file any. any) c.in_err-put_properties.field-0.0
+    told))
 
 pub returns-in_err-test_room-clause-cause : goal.returns-in_err-test_room-clause-cause
 returns-in_err-test_room-clause-cause g c =
@@ -473,7 +490,8 @@ ends_blamed g c tells =
     let n = g.S.Reads.state c.end_degrees.new.space in
     let fault = c.in_err-ends.field-0.0 in
     blames_more (IsBroken n) (IsLinkingDamage n) (λ damage broken. inl broken) fault
-    (broken_left s n c.end_degrees.ensures.state fault (⊎_elim (absent_blamed s (targets.Node c.args.from) fault) (absent_blamed s (targets.Node c.args.to) fault) (c.in_err-ends.ensures.absent tells)))
+    (broken_left s n c.end_degrees.ensures.state fault (⊎_elim (absent_blamed s (targets.Node c.args.from) fault) (absent_blamed s (targets.Node c.args.to)
+    fault) (c.in_err-ends.ensures.absent tells)))
 
 pub returns-in_err-ends-clause-damaged : goal.returns-in_err-ends-clause-damaged
 returns-in_err-ends-clause-damaged g c tells =
@@ -513,7 +531,8 @@ put_blamed g c tells =
     let used = at_more (IsUsedEnd s) (IsUsedEnd u) ends (λ end is. used_beyond n u keeps end.node (used_read s n end.node c.end_degrees.ensures.state is))
     (c.in_ok-ends.ensures.used tells) in
     let limit = ap (λ (h : Shape). h.threshold) (c.shape-threshold.ensures.is ∙ sym (g.met.S.Reads.onward_shape _ _ c.prepare.ensures.onward)) in
-    c.in_err-id.ensures.damaged tells used limit (room_beyond n u keeps (g.met.S.Reads.onward_shape _ _ c.prepare.ensures.onward) c.in_ok-test_room.ensures.room)
+    c.in_err-id.ensures.damaged tells used limit (room_beyond n u keeps (g.met.S.Reads.onward_shape _ _ c.prepare.ensures.onward)
+    c.in_ok-test_room.ensures.room)
 
 -- the ends are in use where the chains are looked for
 used_then : (g : Over) (c : In_ok-prepared g) → g.S.Reads.tells → AtEach (IsUsedEnd (g.S.Reads.state c.prepare.new.space)) c.in_ok-ends.ends
@@ -599,7 +618,11 @@ returns-in_err-prepared-clause-still g c tells =
     subst (λ l. IfErr c.from_residual-in_err-prepared.result (IsStillCaused (commands.Edge c.args.from c.args.label.now c.args.to l) t names now))
     c.as_slice-pairs.ensures
     (fault_exit (λ f. f) (IsStillCaused command t names now) fault c.from_residual-in_err-prepared.result c.from_residual-in_err-prepared.ensures.1
-    (record { caused = line_edge t t names now c.args.label.now pairs c.args.from c.args.to fault why; damaged = line_blamed _ t names c.args.label.now pairs fault why }))
+    (record {
+      caused = line_edge t t names now c.args.label.now pairs c.args.from c.args.to fault why;
+      damaged = line_blamed _ t names c.args.label.now pairs
+          fault why;
+    }))
 
 pub returns-in_err-id-clause-still : goal.returns-in_err-id-clause-still
 returns-in_err-id-clause-still g c tells =

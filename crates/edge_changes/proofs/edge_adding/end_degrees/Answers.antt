@@ -73,13 +73,21 @@ pub returns-then-from-to-clause-found : goal.returns-then-from-to-clause-found
 returns-then-from-to-clause-found g c tells = c.in_ok-from_degree.ensures.found tells
 
 pub returns-clause-found : goal.returns-clause-found
-returns-clause-found g c tells = (c.in_ok-from_degree.ensures.found tells, subst (λ (z : State). HasDegree z.records c.args.to c.in_ok-to_degree.to_degree) c.node_degree.ensures.state (c.in_ok-to_degree.ensures.found tells))
+returns-clause-found g c tells = (
+  c.in_ok-from_degree.ensures.found tells,
+  subst (λ (z : State). HasDegree z.records c.args.to c.in_ok-to_degree.to_degree)
+      c.node_degree.ensures.state (c.in_ok-to_degree.ensures.found tells),
+)
 
 pub returns-then-from-to-clause-used : goal.returns-then-from-to-clause-used
 returns-then-from-to-clause-used g c tells = c.in_ok-from_degree.ensures.kind tells
 
 pub returns-clause-used : goal.returns-clause-used
-returns-clause-used g c tells = (c.in_ok-from_degree.ensures.kind tells, subst (λ (z : State). IsUsedNode z c.args.to) c.node_degree.ensures.state (c.in_ok-to_degree.ensures.kind tells))
+returns-clause-used g c tells = (
+  c.in_ok-from_degree.ensures.kind tells,
+  subst (λ (z : State). IsUsedNode z c.args.to) c.node_degree.ensures.state
+      (c.in_ok-to_degree.ensures.kind tells),
+)
 
 pub returns-then-from-to-clause-keys : goal.returns-then-from-to-clause-keys
 returns-then-from-to-clause-keys g c = c.in_ok-from_degree.ensures.key

@@ -149,7 +149,8 @@ module _ (g : Over) (c : After-take_edge g) where
 
   written : WritesAtMost (13 + c.in_ok-dropped.dropped.properties + c.in_ok-dropped.dropped.blocks) (g.S.Reads.state c.args.space.now)
       (g.S.Reads.state c.take_edge.new.space)
-  written = more_written (omega arith) (then_written (none_written _ _ (was_read g (goal.at.After-take_edge g c).After-drop_all)) (beside_written refl (beside_then drops c.take_edge.ensures.writes)))
+  written = more_written (omega arith) (then_written (none_written _ _ (was_read g (goal.at.After-take_edge g c).After-drop_all))
+      (beside_written refl (beside_then drops c.take_edge.ensures.writes)))
 
 pub returns-clause-writes : goal.returns-clause-writes
 returns-clause-writes g c = written g (goal.at.returns-clause-writes g c).After-take_edge
@@ -159,7 +160,8 @@ returns-in_err-dropped-clause-refused_writes g c =
     let v = g.S.Reads.state c.load.new.space in
     let touched = subst (λ (o : Owner). TouchesProperties g.S.Reads.tells (o.key ∷ []) 32 704 v (g.S.Reads.state c.drop_all.new.space)) c.edge_owner.ensures
     c.drop_all.ensures.at_most in
-    on_any_err _ _ (more_written (omega arith) (then_written (none_written _ v (was_read g (goal.at.returns-in_err-dropped-clause-refused_writes g c).After-drop_all)) (touched_written refl touched)))
+    on_any_err _ _ (more_written (omega arith)
+    (then_written (none_written _ v (was_read g (goal.at.returns-in_err-dropped-clause-refused_writes g c).After-drop_all)) (touched_written refl touched)))
 
 pub returns-in_err-take_edge-clause-refused_writes : goal.returns-in_err-take_edge-clause-refused_writes
 returns-in_err-take_edge-clause-refused_writes g c =
@@ -239,7 +241,8 @@ returns-in_err-dropped-clause-damaged g c tells =
     let used = rel_in_use s (targets.Edge c.args.id) c.args.id c.in-Some.rel refl (found g at tells) in
     fault_exit of_fault (BlamesBroken s) c.in_err-dropped.field-0.0 c.from_residual-in_err-dropped.result c.from_residual-in_err-dropped.ensures.1
     (drop_blamed s v same c.in_err-dropped.field-0.0
-    (c.in_err-dropped.ensures.damaged tells (subst (IsInUse v.records) (sym c.edge_owner.ensures) (subst (λ (z : State). IsInUse z.records (owner_of (targets.Edge c.args.id))) (sym same) used))))
+    (c.in_err-dropped.ensures.damaged tells (subst (IsInUse v.records) (sym c.edge_owner.ensures)
+    (subst (λ (z : State). IsInUse z.records (owner_of (targets.Edge c.args.id))) (sym same) used))))
 
 pub returns-in_err-take_edge-clause-damaged : goal.returns-in_err-take_edge-clause-damaged
 returns-in_err-take_edge-clause-damaged g c tells =
@@ -274,7 +277,11 @@ returns-in_err-dropped-clause-still g c tells =
     let command = commands.Delete (targets.Edge c.args.id) in
     let fault = of_fault c.in_err-dropped.field-0.0 in
     fault_exit of_fault (IsStillCaused command t names names) c.in_err-dropped.field-0.0 c.from_residual-in_err-dropped.result
-    c.from_residual-in_err-dropped.ensures.1 (record { caused = failure_caused command t t names names fault (fault_fails c.in_err-dropped.field-0.0); damaged = any_blamed _ (λ damage. tt) fault })
+    c.from_residual-in_err-dropped.ensures.1 (record {
+      caused = failure_caused command t t names names fault (fault_fails c.in_err-dropped.field-0.0);
+      damaged =
+          any_blamed _ (λ damage. tt) fault;
+    })
 
 pub returns-in_err-take_edge-clause-still : goal.returns-in_err-take_edge-clause-still
 returns-in_err-take_edge-clause-still g c tells =
@@ -283,7 +290,11 @@ returns-in_err-take_edge-clause-still g c tells =
     let command = commands.Delete (targets.Edge c.args.id) in
     let fault = c.in_err-take_edge.field-0.0 in
     fault_exit (λ f. f) (IsStillCaused command t names names) c.in_err-take_edge.field-0.0 c.from_residual-in_err-take_edge.result
-    c.from_residual-in_err-take_edge.ensures.1 (record { caused = failure_caused command t t names names fault (c.in_err-take_edge.ensures.failure); damaged = any_blamed _ (λ damage. tt) fault })
+    c.from_residual-in_err-take_edge.ensures.1 (record {
+      caused = failure_caused command t t names names fault (c.in_err-take_edge.ensures.failure);
+      damaged =
+          any_blamed _ (λ damage. tt) fault;
+    })
 
 pub returns-in_default-clause-still : goal.returns-in_default-clause-still
 returns-in_default-clause-still g c tells =
@@ -291,7 +302,11 @@ returns-in_default-clause-still g c tells =
     let t = g.S.Reads.state c.load.new.space in
     let names = c.args.names.now.names in
     let read = loaded g (goal.at.returns-in_default-clause-still g c).After-load in
-    record { caused = caused_left (commands.Delete (targets.Edge c.args.id)) s t t names names read (NoEdge c.args.id) (refl, sym (sym c.in_default.is ∙ c.in_ok-rel.ensures.found tells)); damaged = tt }
+    record {
+      caused = caused_left (commands.Delete (targets.Edge c.args.id)) s t t names names read (NoEdge c.args.id)
+          (refl, sym (sym c.in_default.is ∙ c.in_ok-rel.ensures.found tells));
+      damaged = tt;
+    }
 
 -- ---- which record is blamed, in the space as it is left
 
@@ -311,7 +326,8 @@ returns-in_err-dropped-clause-broken g c tells =
     let at = (goal.at.returns-in_err-dropped-clause-broken g c).After-drop_all in
     let used = rel_in_use s (targets.Edge c.args.id) c.args.id c.in-Some.rel refl (found g at tells) in
     fault_exit of_fault (BlamesBroken t) c.in_err-dropped.field-0.0 c.from_residual-in_err-dropped.result c.from_residual-in_err-dropped.ensures.1
-    (unwritten_left v t c.in_err-dropped.field-0.0 (c.in_err-dropped.ensures.damaged tells (subst (IsInUse v.records) (sym c.edge_owner.ensures) (subst (λ (z : State). IsInUse z.records (owner_of (targets.Edge c.args.id))) (sym (was_read g at)) used)))
+    (unwritten_left v t c.in_err-dropped.field-0.0 (c.in_err-dropped.ensures.damaged tells (subst (IsInUse v.records) (sym c.edge_owner.ensures)
+    (subst (λ (z : State). IsInUse z.records (owner_of (targets.Edge c.args.id))) (sym (was_read g at)) used)))
     c.in_err-dropped.ensures.unwritten)
 
 pub returns-in_err-take_edge-clause-broken : goal.returns-in_err-take_edge-clause-broken

@@ -44,7 +44,8 @@ returns-clause-found g c tells names store there which =
     let m = g.S.Reads.state c.end_degree.new.space in
     let t = g.S.Reads.state c.open_head.new.space in
     end_found s names c.args.id c.args.rel store there c.args.node which m t c.end_degree.ensures.state c.in_ok-head.head c.in_ok-degree.degree
-    (c.in_ok-head.ensures.found tells m.shape.threshold [] c.args.id _ (end_of s names c.args.id c.args.rel store there c.args.node which m c.end_degree.ensures.state c.at-side.result c.at-side.ensures))
+    (c.in_ok-head.ensures.found tells m.shape.threshold [] c.args.id _ (end_of s names c.args.id c.args.rel store there c.args.node which m
+    c.end_degree.ensures.state c.at-side.result c.at-side.ensures))
     (c.in_ok-degree.ensures.found tells)
 
 -- ---- what it writes
@@ -81,11 +82,13 @@ returns-in_err-head-clause-damaged g c tells =
 
 pub returns-clause-has : goal.returns-clause-has
 returns-clause-has g c tells =
-    c.in_ok-head.ensures.owns tells (subst (λ (z : State). IsDense z.records c.args.node ⊎ IsSparse z.records c.args.node) (sym c.end_degree.ensures.state) (c.in_ok-degree.ensures.kind tells))
+    c.in_ok-head.ensures.owns tells (subst (λ (z : State). IsDense z.records c.args.node ⊎ IsSparse z.records c.args.node) (sym c.end_degree.ensures.state)
+    (c.in_ok-degree.ensures.kind tells))
 
 pub returns-clause-placed : goal.returns-clause-placed
 returns-clause-placed g c tells which property =
-    c.in_ok-head.ensures.placed tells (subst (λ (z : State). IsDense z.records c.args.node ⊎ IsSparse z.records c.args.node) (sym c.end_degree.ensures.state) (c.in_ok-degree.ensures.kind tells))
+    c.in_ok-head.ensures.placed tells (subst (λ (z : State). IsDense z.records c.args.node ⊎ IsSparse z.records c.args.node) (sym c.end_degree.ensures.state)
+    (c.in_ok-degree.ensures.kind tells))
     (with_property c.args.id c.args.rel property) (record { end = ⊎_elim (λ e. inl (sym e)) (λ e. inr (sym e)) which; typed = refl; aside = c.at-side.ensures })
 
 pub returns-clause-heads : goal.returns-clause-heads
@@ -108,7 +111,8 @@ returns-in_err-degree-clause-still g c tells has which =
     let s = g.S.Reads.state c.args.space.now in
     let m = g.S.Reads.state c.end_degree.new.space in
     fault_exit (λ f. f) (BlamesBroken m) c.in_err-degree.field-0.0 c.from_residual.result c.from_residual.ensures.1
-    (end_still s m c.args.id c.args.node c.args.rel has which c.end_degree.ensures.state c.in_err-degree.field-0.0 (c.in_err-degree.ensures.damaged tells c.args.rel.label))
+    (end_still s m c.args.id c.args.node c.args.rel has which c.end_degree.ensures.state c.in_err-degree.field-0.0 (c.in_err-degree.ensures.damaged tells
+    c.args.rel.label))
 
 pub returns-in_err-head-clause-still : goal.returns-in_err-head-clause-still
 returns-in_err-head-clause-still g c tells has which =
@@ -116,7 +120,8 @@ returns-in_err-head-clause-still g c tells has which =
     let m = g.S.Reads.state c.end_degree.new.space in
     let t = g.S.Reads.state c.open_head.new.space in
     fault_exit of_fault (BlamesBroken t) c.in_err-head.field-0.0 c.from_residual-in_err-head.result c.from_residual-in_err-head.ensures.1
-    (head_still s m t c.args.id c.args.node c.args.rel has which c.end_degree.ensures.state c.in_err-head.field-0.0 (c.in_err-head.ensures.damaged tells) c.in_err-head.ensures.unwritten)
+    (head_still s m t c.args.id c.args.node c.args.rel has which c.end_degree.ensures.state c.in_err-head.field-0.0 (c.in_err-head.ensures.damaged tells)
+    c.in_err-head.ensures.unwritten)
 
 pub returns-in_err-degree-clause-found : goal.returns-in_err-degree-clause-found
 returns-in_err-degree-clause-found g c _ = never_ok c.from_residual.result _ _ c.from_residual.ensures.1

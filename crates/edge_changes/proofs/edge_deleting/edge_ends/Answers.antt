@@ -27,7 +27,8 @@ returns-in_err-target-clause-sound g c tells names store there =
     let t = g.S.Reads.state c.edge_end.new.space in
     let first = c.in_ok-source.ensures.found tells names store there (inl refl) in
     fault_exit (λ f. f) IsOutside c.in_err-target.field-0.0 c.from_residual-in_err-target.result c.from_residual-in_err-target.ensures.1
-    (c.in_err-target.ensures.sound tells names first.store (there_then s t names c.args.id c.args.rel there c.in_ok-source.source c.in_ok-source.ensures.node first) (inr refl))
+    (c.in_err-target.ensures.sound tells names first.store (there_then s t names c.args.id c.args.rel there c.in_ok-source.source c.in_ok-source.ensures.node
+    first) (inr refl))
 
 -- ---- what it leaves
 pub returns-then-rel-clause-found : goal.returns-then-rel-clause-found
@@ -45,7 +46,8 @@ returns-clause-found g c tells names store there =
     let first = c.in_ok-source.ensures.found tells names store there (inl refl) in
     both_found s t names c.args.id c.args.rel there c.in_ok-source.source c.in_ok-source.ensures.node first u c.in_ok-target.target c.in_ok-target.ensures.node
     c.if-rel.false
-    (c.in_ok-target.ensures.found tells names first.store (there_then s t names c.args.id c.args.rel there c.in_ok-source.source c.in_ok-source.ensures.node first) (inr refl))
+    (c.in_ok-target.ensures.found tells names first.store (there_then s t names c.args.id c.args.rel there c.in_ok-source.source c.in_ok-source.ensures.node
+    first) (inr refl))
 
 -- ---- what it writes
 pub returns-in_err-source-clause-writes : goal.returns-in_err-source-clause-writes
@@ -55,10 +57,20 @@ pub returns-then-rel-clause-writes : goal.returns-then-rel-clause-writes
 returns-then-rel-clause-writes g c = (c.edge_end.ensures.writes.0, c.edge_end.ensures.writes.0, one_group _ _ _ c.edge_end.ensures.writes.1)
 
 pub returns-in_err-target-clause-writes : goal.returns-in_err-target-clause-writes
-returns-in_err-target-clause-writes g c = (c.edge_end.ensures.writes.0, c.edge_end-2.ensures.writes.0, writes_then _ _ _ _ _ c.edge_end.ensures.writes.1 c.edge_end-2.ensures.writes.1)
+returns-in_err-target-clause-writes g c = (
+  c.edge_end.ensures.writes.0,
+  c.edge_end-2.ensures.writes.0,
+  writes_then _ _ _ _ _ c.edge_end.ensures.writes.1
+      c.edge_end-2.ensures.writes.1,
+)
 
 pub returns-clause-writes : goal.returns-clause-writes
-returns-clause-writes g c = (c.edge_end.ensures.writes.0, c.edge_end-2.ensures.writes.0, writes_then _ _ _ _ _ c.edge_end.ensures.writes.1 c.edge_end-2.ensures.writes.1)
+returns-clause-writes g c = (
+  c.edge_end.ensures.writes.0,
+  c.edge_end-2.ensures.writes.0,
+  writes_then _ _ _ _ _ c.edge_end.ensures.writes.1
+      c.edge_end-2.ensures.writes.1,
+)
 
 pub returns-then-rel-clause-wrote : goal.returns-then-rel-clause-wrote
 returns-then-rel-clause-wrote g c = one_head _ _ c.in_ok-source.source.head.key c.in_ok-source.ensures.wrote
@@ -85,20 +97,27 @@ returns-in_err-target-clause-damaged g c tells =
     let m = g.S.Reads.state c.edge_end.new.space in
     let fault = c.in_err-target.field-0.0 in
     fault_exit (λ f. f) (IfBlames (IsTakenDamage s c.args.id c.args.rel)) fault c.from_residual-in_err-target.result c.from_residual-in_err-target.ensures.1
-    (blames_more _ _ (end_taken s m c.args.id c.args.rel c.args.rel.to (inr refl) (edge_counted s m c.args.id (g.met.S.Reads.onward_shape _ _ c.edge_end.ensures.onward) (c.in_ok-source.ensures.counts tells))) fault (c.in_err-target.ensures.damaged tells))
+    (blames_more _ _ (end_taken s m c.args.id c.args.rel c.args.rel.to (inr refl) (edge_counted s m c.args.id
+    (g.met.S.Reads.onward_shape _ _ c.edge_end.ensures.onward) (c.in_ok-source.ensures.counts tells))) fault (c.in_err-target.ensures.damaged tells))
 
 pub returns-then-rel-clause-heads : goal.returns-then-rel-clause-heads
 returns-then-rel-clause-heads g c tells = c.in_ok-source.ensures.has tells
 
 pub returns-clause-heads : goal.returns-clause-heads
-returns-clause-heads g c tells =
-    (c.in_ok-target.ensures.heads tells (head_of c.in_ok-source.source.head) c.in_ok-source.source.node (c.in_ok-source.ensures.has tells), c.in_ok-target.ensures.has tells)
+returns-clause-heads g c tells = (
+  c.in_ok-target.ensures.heads tells (head_of c.in_ok-source.source.head) c.in_ok-source.source.node (c.in_ok-source.ensures.has tells),
+  c.in_ok-target.ensures.has tells,
+)
 
 pub returns-then-rel-clause-ends : goal.returns-then-rel-clause-ends
 returns-then-rel-clause-ends g c = record { each = c.in_ok-source.ensures.end; apart = tt }
 
 pub returns-clause-ends : goal.returns-clause-ends
-returns-clause-ends g c = record { each = (c.in_ok-source.ensures.end, c.in_ok-target.ensures.end); apart = λ e. c.if-rel.false (sym c.in_ok-source.ensures.node ∙ e ∙ c.in_ok-target.ensures.node) }
+returns-clause-ends g c = record {
+  each = (c.in_ok-source.ensures.end, c.in_ok-target.ensures.end);
+  apart = λ e. c.if-rel.false (sym c.in_ok-source.ensures.node
+      ∙ e ∙ c.in_ok-target.ensures.node);
+}
 
 pub returns-then-rel-clause-counts : goal.returns-then-rel-clause-counts
 returns-then-rel-clause-counts g c tells =
@@ -121,7 +140,8 @@ returns-clause-placed g c tells property =
     let m = g.S.Reads.state c.edge_end.new.space in
     let t = g.S.Reads.state c.edge_end-2.new.space in
     let end = c.in_ok-source.source in (
-      placed_as t m end.node (alike_back m t end.node (alike_counted m t end.node (g.met.S.Reads.onward_shape _ _ c.edge_end-2.ensures.onward) (c.in_ok-target.ensures.counts tells)))
+      placed_as t m end.node (alike_back m t end.node (alike_counted m t end.node (g.met.S.Reads.onward_shape _ _ c.edge_end-2.ensures.onward)
+          (c.in_ok-target.ensures.counts tells)))
           (head_of end.head) (with_property c.args.id c.args.rel property) (c.in_ok-source.ensures.placed tells (inl refl) property),
       c.in_ok-target.ensures.placed tells (inr refl) property,
     )

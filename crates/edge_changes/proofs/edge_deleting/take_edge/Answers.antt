@@ -56,7 +56,13 @@ returns-clause-damaged g c tells has =
     let row = with_property c.args.id c.args.rel now.0 in
     if_blames c.unlink_edge.result _ (IsTakenDamage s c.args.id c.args.rel)
     (λ damage told. ⊎_elim (λ k. Parted damage m left k) (λ k. Undropped damage m left k) told)
-    (c.unlink_edge.ensures.damaged tells row (record { live = now.1; source = c.in_ok-ends.ensures.nodes.0; target = c.in_ok-ends.ensures.nodes.1; places = c.in_ok-ends.ensures.placed tells now.0 }))
+    (c.unlink_edge.ensures.damaged tells row (record {
+      live = now.1;
+      source = c.in_ok-ends.ensures.nodes.0;
+      target = c.in_ok-ends.ensures.nodes.1;
+      places =
+          c.in_ok-ends.ensures.placed tells now.0;
+    }))
 
 -- ---- in the space as it is left
 pub returns-in_err-ends-clause-still : goal.returns-in_err-ends-clause-still

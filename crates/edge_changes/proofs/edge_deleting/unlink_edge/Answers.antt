@@ -55,7 +55,8 @@ returns-in_err-close_chain-in-Two-2-clause-sound g c tells names store bare =
     fault_exit of_fault IsOutside c.in_err-close_chain-in-Two-2.field-0.0 c.from_residual-in_err-close_chain-in-Two-2.result
     c.from_residual-in_err-close_chain-in-Two-2.ensures.1
     (fault_outside Unit c.in_err-close_chain-in-Two-2.field-0.0 (c.in_err-close_chain-in-Two-2.ensures.sound tells _ _
-    (target_closes s u names c.args.id ends here parts v (c.in_ok-close_chain-in-Two.ensures.closed tells _ _ (source_closes s u names c.args.id ends here parts)) differ refl)))
+    (target_closes s u names c.args.id ends here parts v (c.in_ok-close_chain-in-Two.ensures.closed tells _ _ (source_closes s u names c.args.id ends here
+    parts)) differ refl)))
 
 -- ---- what it leaves
 pub returns-in_ok-close_chain-in-Loop-clause-taken : goal.returns-in_ok-close_chain-in-Loop-clause-taken
@@ -80,7 +81,8 @@ returns-in_ok-close_chain-in-Two-2-clause-taken g c tells names store bare =
     let parts = subst (PartsEdge s u names c.args.id) c.in-Two.is (c.in_ok-part_edge.ensures.parted tells names store bare) in
     let differ : c.in-Two.source.node ≢ c.in-Two.target.node = subst (AreApart (λ (end : EdgeEnd). end.node)) c.in-Two.is c.requires.ends.apart in
     let closed = c.in_ok-close_chain-in-Two.ensures.closed tells _ _ (source_closes s u names c.args.id ends here parts) in
-    pair_taken s u names c.args.id ends here parts v closed w (c.in_ok-close_chain-in-Two-2.ensures.closed tells _ _ (target_closes s u names c.args.id ends here parts v closed differ refl))
+    pair_taken s u names c.args.id ends here parts v closed w (c.in_ok-close_chain-in-Two-2.ensures.closed tells _ _ (target_closes s u names c.args.id ends
+    here parts v closed differ refl))
 
 -- ---- what it writes
 pub returns-in_err-part_edge-clause-writes : goal.returns-in_err-part_edge-clause-writes
@@ -91,21 +93,24 @@ returns-in_err-close_chain-in-Loop-clause-writes g c =
     let s = g.S.Reads.state c.args.space.now in
     let u = g.S.Reads.state c.part_edge.new.space in
     let v = g.S.Reads.state c.close_chain.new.space in
-    subst (WritesTaken s v c.args.id) (sym c.in-Loop.is) (source_taken s u c.args.id (Loop c.in-Loop.end) (subst (WritesEnds s u c.args.id) c.in-Loop.is c.part_edge.ensures.writes) v c.close_chain.ensures.writes)
+    subst (WritesTaken s v c.args.id) (sym c.in-Loop.is) (source_taken s u c.args.id (Loop c.in-Loop.end) (subst (WritesEnds s u c.args.id) c.in-Loop.is
+    c.part_edge.ensures.writes) v c.close_chain.ensures.writes)
 
 pub returns-in_ok-close_chain-in-Loop-clause-writes : goal.returns-in_ok-close_chain-in-Loop-clause-writes
 returns-in_ok-close_chain-in-Loop-clause-writes g c =
     let s = g.S.Reads.state c.args.space.now in
     let u = g.S.Reads.state c.part_edge.new.space in
     let v = g.S.Reads.state c.close_chain.new.space in
-    subst (WritesTaken s v c.args.id) (sym c.in-Loop.is) (source_taken s u c.args.id (Loop c.in-Loop.end) (subst (WritesEnds s u c.args.id) c.in-Loop.is c.part_edge.ensures.writes) v c.close_chain.ensures.writes)
+    subst (WritesTaken s v c.args.id) (sym c.in-Loop.is) (source_taken s u c.args.id (Loop c.in-Loop.end) (subst (WritesEnds s u c.args.id) c.in-Loop.is
+    c.part_edge.ensures.writes) v c.close_chain.ensures.writes)
 
 pub returns-in_err-close_chain-in-Two-clause-writes : goal.returns-in_err-close_chain-in-Two-clause-writes
 returns-in_err-close_chain-in-Two-clause-writes g c =
     let s = g.S.Reads.state c.args.space.now in
     let u = g.S.Reads.state c.part_edge.new.space in
     let v = g.S.Reads.state c.close_chain-in-Two.new.space in
-    subst (WritesTaken s v c.args.id) (sym c.in-Two.is) (source_taken s u c.args.id (Two c.in-Two.source c.in-Two.target) (subst (WritesEnds s u c.args.id) c.in-Two.is c.part_edge.ensures.writes) v c.close_chain-in-Two.ensures.writes)
+    subst (WritesTaken s v c.args.id) (sym c.in-Two.is) (source_taken s u c.args.id (Two c.in-Two.source c.in-Two.target) (subst (WritesEnds s u c.args.id)
+    c.in-Two.is c.part_edge.ensures.writes) v c.close_chain-in-Two.ensures.writes)
 
 pub returns-in_err-close_chain-in-Two-2-clause-writes : goal.returns-in_err-close_chain-in-Two-2-clause-writes
 returns-in_err-close_chain-in-Two-2-clause-writes g c =
@@ -114,7 +119,8 @@ returns-in_err-close_chain-in-Two-2-clause-writes g c =
     let v = g.S.Reads.state c.close_chain-in-Two.new.space in
     let w = g.S.Reads.state c.close_chain-in-Two-2.new.space in
     subst (WritesTaken s w c.args.id) (sym c.in-Two.is)
-    (target_taken s u c.args.id (Two c.in-Two.source c.in-Two.target) (subst (WritesEnds s u c.args.id) c.in-Two.is c.part_edge.ensures.writes) v c.close_chain-in-Two.ensures.writes w c.close_chain-in-Two-2.ensures.writes)
+    (target_taken s u c.args.id (Two c.in-Two.source c.in-Two.target) (subst (WritesEnds s u c.args.id) c.in-Two.is c.part_edge.ensures.writes)
+    v c.close_chain-in-Two.ensures.writes w c.close_chain-in-Two-2.ensures.writes)
 
 pub returns-in_ok-close_chain-in-Two-2-clause-writes : goal.returns-in_ok-close_chain-in-Two-2-clause-writes
 returns-in_ok-close_chain-in-Two-2-clause-writes g c =
@@ -123,7 +129,8 @@ returns-in_ok-close_chain-in-Two-2-clause-writes g c =
     let v = g.S.Reads.state c.close_chain-in-Two.new.space in
     let w = g.S.Reads.state c.close_chain-in-Two-2.new.space in
     subst (WritesTaken s w c.args.id) (sym c.in-Two.is)
-    (target_taken s u c.args.id (Two c.in-Two.source c.in-Two.target) (subst (WritesEnds s u c.args.id) c.in-Two.is c.part_edge.ensures.writes) v c.close_chain-in-Two.ensures.writes w c.close_chain-in-Two-2.ensures.writes)
+    (target_taken s u c.args.id (Two c.in-Two.source c.in-Two.target) (subst (WritesEnds s u c.args.id) c.in-Two.is c.part_edge.ensures.writes)
+    v c.close_chain-in-Two.ensures.writes w c.close_chain-in-Two-2.ensures.writes)
 
 pub returns-in_err-close_chain-in-Loop-clause-cause : goal.returns-in_err-close_chain-in-Loop-clause-cause
 returns-in_err-close_chain-in-Loop-clause-cause g c =
@@ -161,7 +168,8 @@ returns-in_err-close_chain-in-Loop-clause-damaged g c tells row edge =
     let told = c.in_err-close_chain-in-Loop.ensures in
     fault_exit of_fault (IfBlames (λ damage. IsPartedDamage s c.args.id row.from row.to damage ⊎ IsUndroppedDamage s damage)) fault
     c.from_residual-in_err-close_chain-in-Loop.result c.from_residual-in_err-close_chain-in-Loop.ensures.1
-    (blames_more _ _ (λ damage told. inr told) (of_fault fault) (close_blamed s u (head_of end.head) end.node (c.in_ok-part_edge.ensures.groups tells heads) was now told.grouped fault (told.damaged tells)))
+    (blames_more _ _ (λ damage told. inr told) (of_fault fault) (close_blamed s u (head_of end.head) end.node (c.in_ok-part_edge.ensures.groups tells heads)
+    was now told.grouped fault (told.damaged tells)))
 
 pub returns-in_err-close_chain-in-Two-clause-damaged : goal.returns-in_err-close_chain-in-Two-clause-damaged
 returns-in_err-close_chain-in-Two-clause-damaged g c tells row edge =
@@ -175,7 +183,8 @@ returns-in_err-close_chain-in-Two-clause-damaged g c tells row edge =
     let told = c.in_err-close_chain-in-Two.ensures in
     fault_exit of_fault (IfBlames (λ damage. IsPartedDamage s c.args.id row.from row.to damage ⊎ IsUndroppedDamage s damage)) fault
     c.from_residual-in_err-close_chain-in-Two.result c.from_residual-in_err-close_chain-in-Two.ensures.1
-    (blames_more _ _ (λ damage told. inr told) (of_fault fault) (close_blamed s u (head_of end.head) end.node (c.in_ok-part_edge.ensures.groups tells heads) has.0 now told.grouped fault (told.damaged tells)))
+    (blames_more _ _ (λ damage told. inr told) (of_fault fault) (close_blamed s u (head_of end.head) end.node (c.in_ok-part_edge.ensures.groups tells heads)
+    has.0 now told.grouped fault (told.damaged tells)))
 
 pub returns-in_err-close_chain-in-Two-2-clause-damaged : goal.returns-in_err-close_chain-in-Two-2-clause-damaged
 returns-in_err-close_chain-in-Two-2-clause-damaged g c tells row edge =
@@ -195,7 +204,8 @@ returns-in_err-close_chain-in-Two-2-clause-damaged g c tells row edge =
     let told = c.in_err-close_chain-in-Two-2.ensures in
     fault_exit of_fault (IfBlames (λ damage. IsPartedDamage s c.args.id row.from row.to damage ⊎ IsUndroppedDamage s damage)) fault
     c.from_residual-in_err-close_chain-in-Two-2.result c.from_residual-in_err-close_chain-in-Two-2.ensures.1
-    (blames_more _ _ (λ damage told. inr told) (of_fault fault) (later_blamed s u v (head_of end.head) source.node end.node (c.in_ok-part_edge.ensures.groups tells heads) (c.in_ok-close_chain-in-Two.ensures.others tells first)
+    (blames_more _ _ (λ damage told. inr told) (of_fault fault) (later_blamed s u v (head_of end.head) source.node end.node
+    (c.in_ok-part_edge.ensures.groups tells heads) (c.in_ok-close_chain-in-Two.ensures.others tells first)
     (λ e. differ (sym e)) has.1 mid now told.grouped fault (told.damaged tells)))
 
 -- ---- in the space as it is left
@@ -213,7 +223,8 @@ returns-in_err-close_chain-in-Loop-clause-still g c tells row edge =
     let now = c.in_ok-part_edge.ensures.heads tells heads (head_of end.head) end.node (subst (AtEach (HasHead s.records)) c.in-Loop.is heads) in
     let fault = c.in_err-close_chain-in-Loop.field-0.0 in
     fault_exit of_fault (BlamesBroken v) fault c.from_residual-in_err-close_chain-in-Loop.result c.from_residual-in_err-close_chain-in-Loop.ensures.1
-    (break_left (g.S.Reads.state c.part_edge.new.space) v fault (c.in_err-close_chain-in-Loop.ensures.breaks tells now) c.in_err-close_chain-in-Loop.ensures.unwritten)
+    (break_left (g.S.Reads.state c.part_edge.new.space) v fault (c.in_err-close_chain-in-Loop.ensures.breaks tells now)
+    c.in_err-close_chain-in-Loop.ensures.unwritten)
 
 pub returns-in_err-close_chain-in-Two-clause-still : goal.returns-in_err-close_chain-in-Two-clause-still
 returns-in_err-close_chain-in-Two-clause-still g c tells row edge =
@@ -224,7 +235,8 @@ returns-in_err-close_chain-in-Two-clause-still g c tells row edge =
     let now = c.in_ok-part_edge.ensures.heads tells heads (head_of end.head) end.node (subst (AtEach (HasHead s.records)) c.in-Two.is heads).0 in
     let fault = c.in_err-close_chain-in-Two.field-0.0 in
     fault_exit of_fault (BlamesBroken v) fault c.from_residual-in_err-close_chain-in-Two.result c.from_residual-in_err-close_chain-in-Two.ensures.1
-    (break_left (g.S.Reads.state c.part_edge.new.space) v fault (c.in_err-close_chain-in-Two.ensures.breaks tells now) c.in_err-close_chain-in-Two.ensures.unwritten)
+    (break_left (g.S.Reads.state c.part_edge.new.space) v fault (c.in_err-close_chain-in-Two.ensures.breaks tells now)
+    c.in_err-close_chain-in-Two.ensures.unwritten)
 
 pub returns-in_err-close_chain-in-Two-2-clause-still : goal.returns-in_err-close_chain-in-Two-2-clause-still
 returns-in_err-close_chain-in-Two-2-clause-still g c tells row edge =
@@ -240,7 +252,8 @@ returns-in_err-close_chain-in-Two-2-clause-still g c tells row edge =
     let now = others (head_of end.head) end.node (λ e. differ (sym e)) (kept (head_of end.head) end.node has.1) in
     let fault = c.in_err-close_chain-in-Two-2.field-0.0 in
     fault_exit of_fault (BlamesBroken w) fault c.from_residual-in_err-close_chain-in-Two-2.result c.from_residual-in_err-close_chain-in-Two-2.ensures.1
-    (break_left (g.S.Reads.state c.close_chain-in-Two.new.space) w fault (c.in_err-close_chain-in-Two-2.ensures.breaks tells now) c.in_err-close_chain-in-Two-2.ensures.unwritten)
+    (break_left (g.S.Reads.state c.close_chain-in-Two.new.space) w fault (c.in_err-close_chain-in-Two-2.ensures.breaks tells now)
+    c.in_err-close_chain-in-Two-2.ensures.unwritten)
 
 pub returns-in_err-part_edge-clause-taken : goal.returns-in_err-part_edge-clause-taken
 returns-in_err-part_edge-clause-taken g c _ = never_ok c.from_residual.result _ _ c.from_residual.ensures.1

@@ -66,7 +66,8 @@ returns-in_err-join_ends-clause-damaged g c tells heads has =
     let t = g.S.Reads.state c.place.new.space in
     fault_exit (λ f. f) (BlamesBroken (g.S.Reads.state c.join_ends.new.space)) c.in_err-join_ends.field-0.0 c.from_residual-in_err-join_ends.result
     c.from_residual-in_err-join_ends.ensures.1
-    (c.in_err-join_ends.ensures.damaged tells (at_more (HasHead s.records) (HasHead t.records) c.args.ends (λ end. c.in_ok-id.ensures.heads tells (head_of end.head) end.node) heads))
+    (c.in_err-join_ends.ensures.damaged tells (at_more (HasHead s.records) (HasHead t.records) c.args.ends (λ end. c.in_ok-id.ensures.heads tells
+    (head_of end.head) end.node) heads))
 
 pub returns-in_err-id-clause-joined : goal.returns-in_err-id-clause-joined
 returns-in_err-id-clause-joined g c _ = never_ok c.from_residual.result _ _ c.from_residual.ensures.1

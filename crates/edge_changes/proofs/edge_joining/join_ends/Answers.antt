@@ -22,7 +22,8 @@ returns-in_ok-join_end-in-Two-clause-writes g c =
     let s = g.S.Reads.state c.args.space.now in
     let t = g.S.Reads.state c.join_end-in-Two.new.space in
     let u = g.S.Reads.state c.join_end-in-Two-2.new.space in
-    subst (WritesJoined s u c.args.rel) (sym c.in-Two.is) (both_written c.args.rel (Two c.in-Two.source c.in-Two.target) s t u c.join_end-in-Two.ensures.writes c.join_end-in-Two-2.ensures.writes)
+    subst (WritesJoined s u c.args.rel) (sym c.in-Two.is) (both_written c.args.rel (Two c.in-Two.source c.in-Two.target) s t u c.join_end-in-Two.ensures.writes
+    c.join_end-in-Two-2.ensures.writes)
 
 -- ---- which record is blamed
 pub returns-in-Loop-clause-damaged : goal.returns-in-Loop-clause-damaged

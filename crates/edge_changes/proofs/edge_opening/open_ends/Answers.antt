@@ -37,7 +37,8 @@ returns-in_err-only-in-Loop-clause-sound g c tells names can room =
     let joint = joint_of c.args.joint (Loop c.in-Loop.end) in
     let here = can_link s names c.args.joint (Loop c.in-Loop.end) c.in-Loop.is can in
     fault_exit (λ f. f) IsOutside c.in_err-only-in-Loop.field-0.0 c.from_residual.result c.from_residual.ensures.1
-    (c.in_err-only-in-Loop.ensures.sound tells _ [] (source_can s names joint here sides.Loop (loop_side c.in-Loop.end.node) 0) (source_room s names joint here room))
+    (c.in_err-only-in-Loop.ensures.sound tells _ [] (source_can s names joint here sides.Loop (loop_side c.in-Loop.end.node) 0)
+    (source_room s names joint here room))
 
 pub returns-in_ok-only-in-Loop-clause-opened : goal.returns-in_ok-only-in-Loop-clause-opened
 returns-in_ok-only-in-Loop-clause-opened g c tells names can =
@@ -47,7 +48,8 @@ returns-in_ok-only-in-Loop-clause-opened g c tells names can =
     let joint = joint_of c.args.joint (Loop end) in
     let here = can_link s names c.args.joint (Loop end) c.in-Loop.is can in
     subst (λ (o : EdgeEnd). OpensEnds s t names c.args.joint.label (Loop o)) (sym c.in_ok-only-in-Loop.ensures.is)
-    (loop_opened s names joint here t c.in_ok-only-in-Loop.only.head (λ id. c.in_ok-only-in-Loop.ensures.opened tells _ [] (source_can s names joint here sides.Loop (loop_side end.node) id)) refl)
+    (loop_opened s names joint here t c.in_ok-only-in-Loop.only.head (λ id. c.in_ok-only-in-Loop.ensures.opened tells _ []
+    (source_can s names joint here sides.Loop (loop_side end.node) id)) refl)
 
 pub returns-in_err-only-in-Loop-clause-writes : goal.returns-in_err-only-in-Loop-clause-writes
 returns-in_err-only-in-Loop-clause-writes g c =
@@ -88,7 +90,8 @@ returns-in_err-first-in-Two-clause-sound g c tells names can room =
     let here = can_link s names c.args.joint (Two a b) c.in-Two.is can in
     let differ : a.node ≢ b.node = subst (AreApart (λ (end : EndDegree). end.node)) c.in-Two.is c.requires.apart in
     fault_exit (λ f. f) IsOutside c.in_err-first-in-Two.field-0.0 c.from_residual-in_err-first-in-Two.result c.from_residual-in_err-first-in-Two.ensures.1
-    (c.in_err-first-in-Two.ensures.sound tells _ [] (source_can s names joint here sides.Out (out_side a.node b.node differ) 0) (source_room s names joint here room))
+    (c.in_err-first-in-Two.ensures.sound tells _ [] (source_can s names joint here sides.Out (out_side a.node b.node differ) 0)
+    (source_room s names joint here room))
 
 -- the ends are at two nodes
 differs : (g : Over) (c : In_ok-first-in-Two g) → c.in-Two.source.node ≢ c.in-Two.target.node
@@ -104,7 +107,8 @@ first_open : (g : Over) (c : In_ok-first-in-Two g) → g.S.Reads.tells → (name
     → OpensChain (g.S.Reads.state c.args.space.now) (g.S.Reads.state c.open_end-in-Two.new.space) (head_of c.in_ok-first-in-Two.first.head) c.in-Two.source.node
     (edge_row id c.args.joint.label c.in-Two.source.node c.in-Two.target.node) []
 first_open g c tells names can id =
-    c.in_ok-first-in-Two.ensures.opened tells _ [] (source_can (g.S.Reads.state c.args.space.now) names (joint_of c.args.joint (Two c.in-Two.source c.in-Two.target)) (here_can g c names can) sides.Out (out_side c.in-Two.source.node c.in-Two.target.node (differs g c)) id)
+    c.in_ok-first-in-Two.ensures.opened tells _ [] (source_can (g.S.Reads.state c.args.space.now) names (joint_of c.args.joint
+    (Two c.in-Two.source c.in-Two.target)) (here_can g c names can) sides.Out (out_side c.in-Two.source.node c.in-Two.target.node (differs g c)) id)
 
 pub returns-in_err-last-in-Two-clause-sound : goal.returns-in_err-last-in-Two-clause-sound
 returns-in_err-last-in-Two-clause-sound g c tells names can room =
@@ -117,7 +121,8 @@ returns-in_err-last-in-Two-clause-sound g c tells names can room =
     let one = first_open g at tells names can in
     let differ = differs g at in
     fault_exit (λ f. f) IsOutside c.in_err-last-in-Two.field-0.0 c.from_residual-in_err-last-in-Two.result c.from_residual-in_err-last-in-Two.ensures.1
-    (c.in_err-last-in-Two.ensures.sound tells _ _ (target_can s names joint here t head one differ sides.In (in_side c.in-Two.source.node c.in-Two.target.node differ) 0) (target_room s names joint here t head one differ room))
+    (c.in_err-last-in-Two.ensures.sound tells _ _ (target_can s names joint here t head one differ sides.In (in_side c.in-Two.source.node c.in-Two.target.node
+    differ) 0) (target_room s names joint here t head one differ room))
 
 pub returns-in_ok-last-in-Two-clause-opened : goal.returns-in_ok-last-in-Two-clause-opened
 returns-in_ok-last-in-Two-clause-opened g c tells names can =
@@ -131,9 +136,11 @@ returns-in_ok-last-in-Two-clause-opened g c tells names can =
     let one = first_open g at tells names can in
     let differ = differs g at in
     subst (λ (e : EdgeEnd). OpensEnds s u names c.args.joint.label (Two e c.in_ok-last-in-Two.last)) (sym c.in_ok-first-in-Two.ensures.is)
-    (subst (λ (e : EdgeEnd). OpensEnds s u names c.args.joint.label (Two (end_of c.in-Two.source.node head c.in-Two.source.degree) e)) (sym c.in_ok-last-in-Two.ensures.is)
+    (subst (λ (e : EdgeEnd). OpensEnds s u names c.args.joint.label (Two (end_of c.in-Two.source.node head c.in-Two.source.degree) e))
+    (sym c.in_ok-last-in-Two.ensures.is)
     (both_opened s names joint here t head one differ u c.in_ok-last-in-Two.last.head
-    (λ id. c.in_ok-last-in-Two.ensures.opened tells _ _ (target_can s names joint here t head one differ sides.In (in_side c.in-Two.source.node c.in-Two.target.node differ) id))))
+    (λ id. c.in_ok-last-in-Two.ensures.opened tells _ _ (target_can s names joint here t head one differ sides.In
+    (in_side c.in-Two.source.node c.in-Two.target.node differ) id))))
 
 -- ---- what is written
 pub returns-in_err-first-in-Two-clause-writes : goal.returns-in_err-first-in-Two-clause-writes
@@ -170,7 +177,8 @@ returns-in_ok-last-in-Two-clause-wrote g c =
     ap (ends_moved threshold) c.in-Two.is in
     subst (λ (e : EdgeEnd). WritesEndsOpened s u (Two e c.in_ok-last-in-Two.last) most) (sym c.in_ok-first-in-Two.ensures.is)
     (subst (λ (e : EdgeEnd). WritesEndsOpened s u (Two (end_of a.node c.in_ok-first-in-Two.first.head a.degree) e) most) (sym c.in_ok-last-in-Two.ensures.is)
-    (both_wrote s t u (end_of a.node c.in_ok-first-in-Two.first.head a.degree) (end_of b.node c.in_ok-last-in-Two.last.head b.degree) (omega arith) c.in_ok-first-in-Two.ensures.wrote c.in_ok-last-in-Two.ensures.wrote))
+    (both_wrote s t u (end_of a.node c.in_ok-first-in-Two.first.head a.degree) (end_of b.node c.in_ok-last-in-Two.last.head b.degree) (omega arith)
+    c.in_ok-first-in-Two.ensures.wrote c.in_ok-last-in-Two.ensures.wrote))
 
 pub returns-in_err-last-in-Two-clause-cause : goal.returns-in_err-last-in-Two-clause-cause
 returns-in_err-last-in-Two-clause-cause g c =
@@ -227,7 +235,8 @@ returns-in_ok-last-in-Two-clause-has g c tells used =
 pub returns-in_ok-only-in-Loop-clause-leaves : goal.returns-in_ok-only-in-Loop-clause-leaves
 returns-in_ok-only-in-Loop-clause-leaves g c tells =
     let own = sym (ap (λ (e : Ends EndDegree). (source_of e).node) c.in-Loop.is) in
-    ends_found (g.S.Reads.state c.args.space.now) (g.S.Reads.state c.open_end.new.space) (from_of c.args.joint) (to_of c.args.joint) c.in-Loop.end.node (inl own)
+    ends_found (g.S.Reads.state c.args.space.now) (g.S.Reads.state c.open_end.new.space) (from_of c.args.joint) (to_of c.args.joint) c.in-Loop.end.node
+    (inl own)
     (c.in_ok-only-in-Loop.ensures.leaves tells)
 
 pub returns-in_ok-last-in-Two-clause-leaves : goal.returns-in_ok-last-in-Two-clause-leaves

@@ -64,7 +64,8 @@ returns-clause-groups g c tells heads =
     let s = g.S.Reads.state c.args.space.now in
     let u = g.S.Reads.state c.part_ends.new.space in
     let t = g.S.Reads.state c.give.new.space in
-    groups_then s u t (c.in_ok-part_ends.ensures.groups tells heads) (groups_given u t c.args.id (g.met.S.Reads.onward_shape _ _ c.give.ensures.onward) (c.give.ensures.stays tells))
+    groups_then s u t (c.in_ok-part_ends.ensures.groups tells heads) (groups_given u t c.args.id (g.met.S.Reads.onward_shape _ _ c.give.ensures.onward)
+    (c.give.ensures.stays tells))
 
 -- ---- in the space as it is left
 pub returns-in_err-part_ends-clause-still : goal.returns-in_err-part_ends-clause-still

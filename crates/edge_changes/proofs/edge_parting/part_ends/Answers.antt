@@ -21,7 +21,8 @@ returns-in_ok-part_end-in-Two-clause-writes g c =
     let s = g.S.Reads.state c.args.space.now in
     let u = g.S.Reads.state c.part_end-in-Two.new.space in
     let t = g.S.Reads.state c.part_end-in-Two-2.new.space in
-    subst (WritesEnds s t c.args.rel) (sym c.in-Two.is) (ends_written s u c.args.rel (Two c.in-Two.source c.in-Two.target) t c.part_end-in-Two.ensures.writes c.part_end-in-Two-2.ensures.writes)
+    subst (WritesEnds s t c.args.rel) (sym c.in-Two.is) (ends_written s u c.args.rel (Two c.in-Two.source c.in-Two.target) t c.part_end-in-Two.ensures.writes
+    c.part_end-in-Two-2.ensures.writes)
 
 -- ---- which record is blamed, and heads that stay
 pub returns-in-Loop-clause-damaged : goal.returns-in-Loop-clause-damaged
@@ -30,7 +31,8 @@ returns-in-Loop-clause-damaged g c tells row =
     let out = c.part_end.result in
     subst (λ (e : Ends EdgeEnd). IsPlacedEdge s.records c.args.rel row e → IfErr out (IfBlames (IsPartedDamage s c.args.rel row.from row.to)))
     (sym c.in-Loop.is)
-    (λ edge. if_blames out _ (IsPartedDamage s c.args.rel row.from row.to) (source_cut s c.args.rel row (Loop c.in-Loop.end) edge) (c.part_end.ensures.damaged tells))
+    (λ edge. if_blames out _ (IsPartedDamage s c.args.rel row.from row.to) (source_cut s c.args.rel row (Loop c.in-Loop.end) edge)
+    (c.part_end.ensures.damaged tells))
 
 pub returns-in_err-part_end-in-Two-clause-damaged : goal.returns-in_err-part_end-in-Two-clause-damaged
 returns-in_err-part_end-in-Two-clause-damaged g c tells row edge =

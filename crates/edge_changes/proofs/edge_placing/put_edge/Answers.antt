@@ -35,7 +35,13 @@ pub returns-in_err-ends-clause-sound : goal.returns-in_err-ends-clause-sound
 returns-in_err-ends-clause-sound g c tells limit names text store at degrees room =
     let s = g.S.Reads.state c.args.space.now in
     fault_exit (λ f. f) IsOutside c.in_err-ends.field-0.0 c.from_residual.result c.from_residual.ensures.1
-    (c.in_err-ends.ensures.sound tells names (record { limit = limit; store = store; named = (number_in s.records names c.args.joint.label text store.names at).0; degrees = degrees }) room)
+    (c.in_err-ends.ensures.sound tells names (record {
+      limit = limit;
+      store = store;
+      named = (number_in s.records names c.args.joint.label text store.names
+          at).0;
+      degrees = degrees;
+    }) room)
 
 pub returns-clause-put : goal.returns-clause-put
 returns-clause-put g c tells limit =
@@ -44,21 +50,36 @@ returns-clause-put g c tells limit =
     let u = g.S.Reads.state c.join_edge.new.space in
     let nodes = c.in_ok-ends.ensures.nodes in
     if_ok c.join_edge.result _
-    (λ id. (names : List (List ℕ)) (text : List ℕ) → IsMidway s names → slice_get names c.args.joint.label ≡ Some text → AtEach (HasEndDegree s.records) c.args.joint.ends
+    (λ id. (names : List (List ℕ)) (text : List ℕ) → IsMidway s names → slice_get names c.args.joint.label ≡ Some text → AtEach (HasEndDegree s.records)
+    c.args.joint.ends
     → PutsEdge s u names (from_of c.args.joint) text (to_of c.args.joint) id)
     (λ id joined names text store at degrees.
-    let opens = c.in_ok-ends.ensures.opened tells names (record { limit = limit; store = store; named = (number_in s.records names c.args.joint.label text store.names at).0; degrees = degrees }) in
+    let opens = c.in_ok-ends.ensures.opened tells names (record {
+      limit = limit;
+      store = store;
+      named = (number_in s.records names c.args.joint.label text
+          store.names at).0;
+      degrees = degrees;
+    }) in
     puts_through s t u names (from_of c.args.joint) text (to_of c.args.joint) id opens.keeps
-    (subst (λ n. PutsEdge t u names n text (to_of c.args.joint) id) nodes.0 (subst (λ n. PutsEdge t u names (source_of c.in_ok-ends.ends).node text n id) nodes.1 (joined names text opens.can at))))
+    (subst (λ n. PutsEdge t u names n text (to_of c.args.joint) id) nodes.0 (subst (λ n. PutsEdge t u names (source_of c.in_ok-ends.ends).node text n id)
+    nodes.1 (joined names text opens.can at))))
     (c.join_edge.ensures.joined tells)
 
 pub returns-clause-sound : goal.returns-clause-sound
 returns-clause-sound g c tells limit names text store at degrees room =
     let s = g.S.Reads.state c.args.space.now in
     let t = g.S.Reads.state c.open_ends.new.space in
-    let opens = c.in_ok-ends.ensures.opened tells names (record { limit = limit; store = store; named = (number_in s.records names c.args.joint.label text store.names at).0; degrees = degrees }) in
+    let opens = c.in_ok-ends.ensures.opened tells names (record {
+      limit = limit;
+      store = store;
+      named = (number_in s.records names c.args.joint.label text
+          store.names at).0;
+      degrees = degrees;
+    }) in
     c.join_edge.ensures.sound tells names text opens.can at
-    (room_still s t format.relationships_file 1 (ap (λ (m : Meta). m.live) (opens.keeps.metas format.relationships_file (λ e. omega arith))) opens.keeps.shape room)
+    (room_still s t format.relationships_file 1 (ap (λ (m : Meta). m.live) (opens.keeps.metas format.relationships_file (λ e. omega arith))) opens.keeps.shape
+    room)
 
 pub returns-clause-writes : goal.returns-clause-writes
 returns-clause-writes g c =
@@ -81,7 +102,8 @@ returns-clause-err_writes g c =
     let ends = c.in_ok-ends.ensures.ends in
     let most = ends_moved c.args.joint.threshold c.args.joint.ends in
     err_more ((6 + most) + 7) (13 + most) s u (omega arith) c.join_edge.result
-    (put_failed s (g.S.Reads.state c.open_ends.new.space) u c.in_ok-ends.ends ends.each c.in_ok-ends.ensures.writes c.join_edge.result c.join_edge.ensures.err_writes)
+    (put_failed s (g.S.Reads.state c.open_ends.new.space) u c.in_ok-ends.ends ends.each c.in_ok-ends.ensures.writes c.join_edge.result
+    c.join_edge.ensures.err_writes)
 
 -- ---- which record is blamed
 pub returns-clause-damaged : goal.returns-clause-damaged

@@ -25,7 +25,8 @@ returns-in-Err-Usage-clause-serves g c = λ known options asks holds s k.
     absurd (rw c.deref.ensures.value at (c.in-Err-Usage.ensures.usage (ap Err c.in-Err-Usage.field-0-is)) (Run options) asks)
 
 pub returns-in-Err-Usage-clause-steps : goal.returns-in-Err-Usage-clause-steps
-returns-in-Err-Usage-clause-steps g c = λ options asks s k. absurd (rw c.deref.ensures.value at (c.in-Err-Usage.ensures.usage (ap Err c.in-Err-Usage.field-0-is)) (Run options) asks)
+returns-in-Err-Usage-clause-steps g c = λ options asks s k. absurd (rw c.deref.ensures.value at (c.in-Err-Usage.ensures.usage
+    (ap Err c.in-Err-Usage.field-0-is)) (Run options) asks)
 
 pub returns-in-Err-Usage-clause-usage : goal.returns-in-Err-Usage-clause-usage
 returns-in-Err-Usage-clause-usage g c = λ is. rw c.deref.ensures.value at (c.in-Err-Usage.ensures.usage (ap Err c.in-Err-Usage.field-0-is))
@@ -34,13 +35,16 @@ pub returns-in-Err-Usage-clause-refuses : goal.returns-in-Err-Usage-clause-refus
 returns-in-Err-Usage-clause-refuses g c = λ asks k. refuses_usage c.end_with_line.result _ _ (c.end_with_line.ensures.written k)
 
 pub returns-in-Err-Usage-clause-samples : goal.returns-in-Err-Usage-clause-samples
-returns-in-Err-Usage-clause-samples g c = λ options asks k. absurd (rw c.deref.ensures.value at (c.in-Err-Usage.ensures.usage (ap Err c.in-Err-Usage.field-0-is)) (Sample options) asks)
+returns-in-Err-Usage-clause-samples g c = λ options asks k. absurd (rw c.deref.ensures.value at (c.in-Err-Usage.ensures.usage
+    (ap Err c.in-Err-Usage.field-0-is)) (Sample options) asks)
 
 pub returns-in-Err-Usage-clause-sampled : goal.returns-in-Err-Usage-clause-sampled
-returns-in-Err-Usage-clause-sampled g c = λ asks. absurd (asks-nothing _ (rw c.deref.ensures.value at (c.in-Err-Usage.ensures.usage (ap Err c.in-Err-Usage.field-0-is))) asks)
+returns-in-Err-Usage-clause-sampled g c = λ asks. absurd (asks-nothing _ (rw c.deref.ensures.value at (c.in-Err-Usage.ensures.usage
+    (ap Err c.in-Err-Usage.field-0-is))) asks)
 
 pub returns-in-Err-Usage-clause-follows : goal.returns-in-Err-Usage-clause-follows
-returns-in-Err-Usage-clause-follows g c = λ options asks k. absurd (rw c.deref.ensures.value at (c.in-Err-Usage.ensures.usage (ap Err c.in-Err-Usage.field-0-is)) (Follow options) asks)
+returns-in-Err-Usage-clause-follows g c = λ options asks k. absurd (rw c.deref.ensures.value at (c.in-Err-Usage.ensures.usage
+    (ap Err c.in-Err-Usage.field-0-is)) (Follow options) asks)
 
 pub returns-in-Err-Memory-clause-samples : goal.returns-in-Err-Memory-clause-samples
 returns-in-Err-Memory-clause-samples g c = λ options asks k.
@@ -77,7 +81,8 @@ returns-in-Run-clause-serves g c = λ known options asks holds s k.
     (rw c.deref.ensures.value at c.in-Ok.ensures.only (Run options) asks) c.in-Run.is in
     subst
     (λ (o : RunOptions). Writes (g.K.Sink.taken c.args.output.now) (g.K.Sink.taken c.run.new.output)
-    (Serves (terms_for (as_known known g.D.Disk) o c.args.disk.now c.run.new.disk) c.run.result (g.S.Source.left c.args.input.now) (g.S.Source.left c.run.new.input)))
+    (Serves (terms_for (as_known known g.D.Disk) o c.args.disk.now c.run.new.disk) c.run.result (g.S.Source.left c.args.input.now)
+    (g.S.Source.left c.run.new.input)))
     (sym same) (c.run.ensures.serves known holds s k)
 
 pub returns-in-Run-clause-steps : goal.returns-in-Run-clause-steps
@@ -94,7 +99,8 @@ returns-in-Run-clause-unopened g c = λ options asks ends k.
     let same : options ≡ c.in-Run.options = same_run options c.in-Run.options c.in-Ok.asked
     (rw c.deref.ensures.value at c.in-Ok.ensures.only (Run options) asks) c.in-Run.is in
     subst
-    (λ (o : RunOptions). Writes (g.K.Sink.taken c.args.output.now) (g.K.Sink.taken c.run.new.output) (EndsUnopened (IsUnopened g.D.Disk (config_for o) c.args.disk.now c.run.new.disk) c.run.result))
+    (λ (o : RunOptions). Writes (g.K.Sink.taken c.args.output.now) (g.K.Sink.taken c.run.new.output) (EndsUnopened (IsUnopened g.D.Disk (config_for o)
+    c.args.disk.now c.run.new.disk) c.run.result))
     (sym same) (c.run.ensures.unopened ends k)
 
 pub returns-in-Err-Usage-clause-careful : goal.returns-in-Err-Usage-clause-careful
@@ -119,17 +125,26 @@ pub returns-in-Run-clause-sound : goal.returns-in-Run-clause-sound
 returns-in-Run-clause-sound g c = λ options shape graph asks told stands.
     let same : options ≡ c.in-Run.options = same_run options c.in-Run.options c.in-Ok.asked
     (rw c.deref.ensures.value at c.in-Ok.ensures.only (Run options) asks) c.in-Run.is in
-    let sound = c.run.ensures.sound shape graph told stands in
-    (sound.0, λ stored asked is. let differs = sound.1 stored asked is in (differs.0, subst (λ (o : RunOptions). ¬ Suits (config_for o) shape) (sym same) differs.1))
+    let sound = c.run.ensures.sound shape graph told stands in (
+      sound.0,
+      λ stored asked is. let differs = sound.1 stored asked is in (
+        differs.0,
+        subst (λ (o : RunOptions). ¬ Suits (config_for o) shape) (sym same)
+            differs.1,
+      ),
+    )
 
 pub returns-in-Run-clause-samples : goal.returns-in-Run-clause-samples
-returns-in-Run-clause-samples g c = λ options asks k. absurd (sample-not_run options c.in-Run.options c.in-Ok.asked (rw c.deref.ensures.value at c.in-Ok.ensures.only (Sample options) asks) c.in-Run.is)
+returns-in-Run-clause-samples g c = λ options asks k. absurd (sample-not_run options c.in-Run.options c.in-Ok.asked
+    (rw c.deref.ensures.value at c.in-Ok.ensures.only (Sample options) asks) c.in-Run.is)
 
 pub returns-in-Run-clause-follows : goal.returns-in-Run-clause-follows
-returns-in-Run-clause-follows g c = λ options asks k. absurd (follow-not_run options c.in-Run.options c.in-Ok.asked (rw c.deref.ensures.value at c.in-Ok.ensures.only (Follow options) asks) c.in-Run.is)
+returns-in-Run-clause-follows g c = λ options asks k. absurd (follow-not_run options c.in-Run.options c.in-Ok.asked
+    (rw c.deref.ensures.value at c.in-Ok.ensures.only (Follow options) asks) c.in-Run.is)
 
 pub returns-in-Run-clause-sampled : goal.returns-in-Run-clause-sampled
-returns-in-Run-clause-sampled g c = λ asks. absurd (asks-not_run _ c.in-Run.options c.in-Ok.asked (rw c.deref.ensures.value at c.in-Ok.ensures.only) c.in-Run.is asks)
+returns-in-Run-clause-sampled g c = λ asks. absurd (asks-not_run _ c.in-Run.options c.in-Ok.asked (rw c.deref.ensures.value at c.in-Ok.ensures.only)
+    c.in-Run.is asks)
 
 pub returns-in-Run-clause-unread : goal.returns-in-Run-clause-unread
 returns-in-Run-clause-unread g c = λ unserved. elim unserved [
@@ -155,10 +170,12 @@ returns-in-Sample-clause-serves g c = λ known options asks holds s k. absurd
     (run-not_sample options c.in-Sample.options c.in-Ok.asked (rw c.deref.ensures.value at c.in-Ok.ensures.only (Run options) asks) c.in-Sample.is)
 
 pub returns-in-Sample-clause-steps : goal.returns-in-Sample-clause-steps
-returns-in-Sample-clause-steps g c = λ options asks s k. absurd (run-not_sample options c.in-Sample.options c.in-Ok.asked (rw c.deref.ensures.value at c.in-Ok.ensures.only (Run options) asks) c.in-Sample.is)
+returns-in-Sample-clause-steps g c = λ options asks s k. absurd (run-not_sample options c.in-Sample.options c.in-Ok.asked
+    (rw c.deref.ensures.value at c.in-Ok.ensures.only (Run options) asks) c.in-Sample.is)
 
 pub returns-in-Sample-clause-unopened : goal.returns-in-Sample-clause-unopened
-returns-in-Sample-clause-unopened g c = λ options asks ends k. absurd (run-not_sample options c.in-Sample.options c.in-Ok.asked (rw c.deref.ensures.value at c.in-Ok.ensures.only (Run options) asks) c.in-Sample.is)
+returns-in-Sample-clause-unopened g c = λ options asks ends k. absurd (run-not_sample options c.in-Sample.options c.in-Ok.asked
+    (rw c.deref.ensures.value at c.in-Ok.ensures.only (Run options) asks) c.in-Sample.is)
 
 pub returns-in-Sample-clause-careful : goal.returns-in-Sample-clause-careful
 returns-in-Sample-clause-careful g c = λ told. inl (only_reads_none g.D.Disk c.args.disk.now g.met.D.Disk.only_now)
@@ -194,32 +211,38 @@ pub returns-in-Sample-clause-store_failed : goal.returns-in-Sample-clause-store_
 returns-in-Sample-clause-store_failed g c = λ options asks told stands s k is. absurd ((other_exit c.sample.result c.sample.ensures.exits).3 is)
 
 pub returns-in-Sample-clause-follows : goal.returns-in-Sample-clause-follows
-returns-in-Sample-clause-follows g c = λ options asks k. absurd (follow-not_sample options c.in-Sample.options c.in-Ok.asked (rw c.deref.ensures.value at c.in-Ok.ensures.only (Follow options) asks) c.in-Sample.is)
+returns-in-Sample-clause-follows g c = λ options asks k. absurd (follow-not_sample options c.in-Sample.options c.in-Ok.asked
+    (rw c.deref.ensures.value at c.in-Ok.ensures.only (Follow options) asks) c.in-Sample.is)
 
 pub follow-requires : goal.follow-requires
 follow-requires g c = follow_within _ c.in-Follow.options c.in-Ok.asked c.in-Ok.ensures.taken c.in-Follow.is
 
 pub returns-clause-serves : goal.returns-clause-serves
-returns-clause-serves g c = λ known options asks holds s k. absurd (run-not_follow options c.in-Follow.options c.in-Ok.asked (rw c.deref.ensures.value at c.in-Ok.ensures.only (Run options) asks) c.in-Follow.is)
+returns-clause-serves g c = λ known options asks holds s k. absurd (run-not_follow options c.in-Follow.options c.in-Ok.asked
+    (rw c.deref.ensures.value at c.in-Ok.ensures.only (Run options) asks) c.in-Follow.is)
 
 pub returns-clause-steps : goal.returns-clause-steps
-returns-clause-steps g c = λ options asks s k. absurd (run-not_follow options c.in-Follow.options c.in-Ok.asked (rw c.deref.ensures.value at c.in-Ok.ensures.only (Run options) asks) c.in-Follow.is)
+returns-clause-steps g c = λ options asks s k. absurd (run-not_follow options c.in-Follow.options c.in-Ok.asked
+    (rw c.deref.ensures.value at c.in-Ok.ensures.only (Run options) asks) c.in-Follow.is)
 
 pub returns-clause-unopened : goal.returns-clause-unopened
-returns-clause-unopened g c = λ options asks ends k. absurd (run-not_follow options c.in-Follow.options c.in-Ok.asked (rw c.deref.ensures.value at c.in-Ok.ensures.only (Run options) asks) c.in-Follow.is)
+returns-clause-unopened g c = λ options asks ends k. absurd (run-not_follow options c.in-Follow.options c.in-Ok.asked
+    (rw c.deref.ensures.value at c.in-Ok.ensures.only (Run options) asks) c.in-Follow.is)
 
 pub returns-clause-careful : goal.returns-clause-careful
 returns-clause-careful g c = λ told. inl (only_reads_none g.D.Disk c.args.disk.now g.met.D.Disk.only_now)
 
 pub returns-clause-untouched : goal.returns-clause-untouched
-returns-clause-untouched g c = λ options asks told is. absurd (run-not_follow options c.in-Follow.options c.in-Ok.asked (rw c.deref.ensures.value at c.in-Ok.ensures.only (Run options) asks) c.in-Follow.is)
+returns-clause-untouched g c = λ options asks told is. absurd (run-not_follow options c.in-Follow.options c.in-Ok.asked
+    (rw c.deref.ensures.value at c.in-Ok.ensures.only (Run options) asks) c.in-Follow.is)
 
 pub returns-clause-sound : goal.returns-clause-sound
 returns-clause-sound g c = λ options shape graph asks told stands. absurd
     (run-not_follow options c.in-Follow.options c.in-Ok.asked (rw c.deref.ensures.value at c.in-Ok.ensures.only (Run options) asks) c.in-Follow.is)
 
 pub returns-clause-samples : goal.returns-clause-samples
-returns-clause-samples g c = λ options asks k. absurd (sample-not_follow options c.in-Follow.options c.in-Ok.asked (rw c.deref.ensures.value at c.in-Ok.ensures.only (Sample options) asks) c.in-Follow.is)
+returns-clause-samples g c = λ options asks k. absurd (sample-not_follow options c.in-Follow.options c.in-Ok.asked
+    (rw c.deref.ensures.value at c.in-Ok.ensures.only (Sample options) asks) c.in-Follow.is)
 
 pub returns-clause-follows : goal.returns-clause-follows
 returns-clause-follows g c = λ options asks k.

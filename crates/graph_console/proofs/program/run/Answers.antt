@@ -51,9 +51,12 @@ returns-in-Ok-open-clause-serves g c = λ known holds s k.
     (λ told. c.in-Ok-open.ensures.stored (told_of known g.D.Disk told)) begins.1.closed c.in-Ok-open.ensures.no_snapshots in
     at_equal
     (λ (disk : g.row.D.Denot). Writes (g.K.Sink.taken c.args.output.now) (g.K.Sink.taken c.serve-exit.new.output)
-    (Serves (terms_for (as_known known g.D.Disk) c.args.options c.args.disk.now disk) c.serve-exit.result (g.S.Source.left c.args.input.now) (g.S.Source.left c.serve-exit.new.input)))
+    (Serves (terms_for (as_known known g.D.Disk) c.args.options c.args.disk.now disk) c.serve-exit.result (g.S.Source.left c.args.input.now)
+    (g.S.Source.left c.serve-exit.new.input)))
     (view c.serve-exit.new.session).disk _
-    (serves_opened (as_known known g.D.Disk) c.args.options c.args.disk.now (view c.in-Ok-open.session) (view c.serve-exit.new.session).disk (leaves-known known g.D.Disk (config_for c.args.options) c.args.disk.now (view c.in-Ok-open.session).disk opens.crash) opens.later holds begins.0 begins.1 begins.2 c.serve-exit.result _ _ _ _
+    (serves_opened (as_known known g.D.Disk) c.args.options c.args.disk.now (view c.in-Ok-open.session) (view c.serve-exit.new.session).disk
+    (leaves-known known g.D.Disk (config_for c.args.options) c.args.disk.now (view c.in-Ok-open.session).disk opens.crash) opens.later holds begins.0
+    begins.1 begins.2 c.serve-exit.result _ _ _ _
     (c.serve-exit.ensures.serves known (begins_with begins.0) at s k))
     (search rules)
 
@@ -66,16 +69,19 @@ returns-in-Ok-open-clause-steps g c = λ s k.
       opens = opens;
       none = c.in-Ok-open.ensures.no_snapshots;
       stored = c.in-Ok-open.ensures.stored;
-      records = λ told. subst (λ (config : Config). store.Opens (g.D.Disk.reads c.args.disk.now) config first.session.console.shape first.session.console.committed) config_is (c.in-Ok-open.ensures.records told);
+      records = λ told. subst (λ (config : Config). store.Opens (g.D.Disk.reads c.args.disk.now) config first.session.console.shape
+          first.session.console.committed) config_is (c.in-Ok-open.ensures.records told);
     } in
     let begins = opens.begins false (λ never. absurd never) in
     let at = opens-shared (as_known false g.D.Disk) first begins.0 begins.2 (λ never. absurd never) begins.1.closed c.in-Ok-open.ensures.no_snapshots in
     at_equal
     (λ (disk : g.row.D.Denot). Writes (g.K.Sink.taken c.args.output.now) (g.K.Sink.taken c.serve-exit.new.output)
-    (Serves (terms_over g.D.Disk c.args.options c.args.disk.now disk) c.serve-exit.result (g.S.Source.left c.args.input.now) (g.S.Source.left c.serve-exit.new.input)))
+    (Serves (terms_over g.D.Disk c.args.options c.args.disk.now disk) c.serve-exit.result (g.S.Source.left c.args.input.now)
+    (g.S.Source.left c.serve-exit.new.input)))
     (view c.serve-exit.new.session).disk _
     (walks_opened g.D.Disk c.args.options c.args.disk.now (view c.serve-exit.new.session).disk first starts
-    (ends_over g.D.Disk g.met.D.Disk.only_now g.met.D.Disk.counts_now (config_for c.args.options) c.args.disk.now (view c.serve-exit.new.session).disk first starts) c.serve-exit.result _ _ _ _
+    (ends_over g.D.Disk g.met.D.Disk.only_now g.met.D.Disk.counts_now (config_for c.args.options) c.args.disk.now (view c.serve-exit.new.session).disk first
+    starts) c.serve-exit.result _ _ _ _
     (c.serve-exit.ensures.steps (begins_with begins.0) at s k))
     (search rules)
 
@@ -90,9 +96,11 @@ returns-clause-serves g c = λ known holds s k.
     c.in-Err.ensures.unopened in
     at_equal
     (λ (disk : g.row.D.Denot). Writes (g.K.Sink.taken c.args.output.now) (g.K.Sink.taken c.end_unopened.new.output)
-    (Serves (terms_for (as_known known g.D.Disk) c.args.options c.args.disk.now disk) c.end_unopened.result (g.S.Source.left c.args.input.now) (g.S.Source.left c.args.input.now)))
+    (Serves (terms_for (as_known known g.D.Disk) c.args.options c.args.disk.now disk) c.end_unopened.result (g.S.Source.left c.args.input.now)
+    (g.S.Source.left c.args.input.now)))
     c.in-Err.field-0.disk.now _
-    (serves_unopened (terms_for (as_known known g.D.Disk) c.args.options c.args.disk.now c.in-Err.field-0.disk.now) c.in-Err.field-0.why (unopened-known known unopened) _ _ c.end_unopened.result _ _ (c.end_unopened.ensures.written k))
+    (serves_unopened (terms_for (as_known known g.D.Disk) c.args.options c.args.disk.now c.in-Err.field-0.disk.now) c.in-Err.field-0.why
+    (unopened-known known unopened) _ _ c.end_unopened.result _ _ (c.end_unopened.ensures.written k))
     (search rules)
 
 pub returns-clause-steps : goal.returns-clause-steps
@@ -102,9 +110,11 @@ returns-clause-steps g c = λ s k.
     c.in-Err.ensures.unopened in
     at_equal
     (λ (disk : g.row.D.Denot). Writes (g.K.Sink.taken c.args.output.now) (g.K.Sink.taken c.end_unopened.new.output)
-    (Serves (terms_over g.D.Disk c.args.options c.args.disk.now disk) c.end_unopened.result (g.S.Source.left c.args.input.now) (g.S.Source.left c.args.input.now)))
+    (Serves (terms_over g.D.Disk c.args.options c.args.disk.now disk) c.end_unopened.result (g.S.Source.left c.args.input.now)
+    (g.S.Source.left c.args.input.now)))
     c.in-Err.field-0.disk.now _
-    (serves_unopened (terms_over g.D.Disk c.args.options c.args.disk.now c.in-Err.field-0.disk.now) c.in-Err.field-0.why unopened _ _ c.end_unopened.result _ _ (c.end_unopened.ensures.written k))
+    (serves_unopened (terms_over g.D.Disk c.args.options c.args.disk.now c.in-Err.field-0.disk.now) c.in-Err.field-0.why unopened _ _ c.end_unopened.result _ _
+    (c.end_unopened.ensures.written k))
     (search rules)
 
 pub returns-clause-unopened : goal.returns-clause-unopened
@@ -113,9 +123,11 @@ returns-clause-unopened g c = λ ends k.
     let unopened = subst (λ (config : Config). IsUnopened g.D.Disk config c.args.disk.now c.in-Err.field-0.disk.now c.in-Err.field-0.why) config_is
     c.in-Err.ensures.unopened in
     at_equal
-    (λ (disk : g.row.D.Denot). Writes (g.K.Sink.taken c.args.output.now) (g.K.Sink.taken c.end_unopened.new.output) (EndsUnopened (IsUnopened g.D.Disk (config_for c.args.options) c.args.disk.now disk) c.end_unopened.result))
+    (λ (disk : g.row.D.Denot). Writes (g.K.Sink.taken c.args.output.now) (g.K.Sink.taken c.end_unopened.new.output)
+    (EndsUnopened (IsUnopened g.D.Disk (config_for c.args.options) c.args.disk.now disk) c.end_unopened.result))
     c.in-Err.field-0.disk.now _
-    (ends_unopened (IsUnopened g.D.Disk (config_for c.args.options) c.args.disk.now c.in-Err.field-0.disk.now) c.in-Err.field-0.why unopened _ _ c.end_unopened.result ends (c.end_unopened.ensures.written k))
+    (ends_unopened (IsUnopened g.D.Disk (config_for c.args.options) c.args.disk.now c.in-Err.field-0.disk.now) c.in-Err.field-0.why unopened _ _
+    c.end_unopened.result ends (c.end_unopened.ensures.written k))
     (search rules)
 
 pub returns-clause-sound : goal.returns-clause-sound
@@ -165,7 +177,8 @@ returns-clause-untouched g c = λ told is.
     (c.in-Err.ensures.unopened.untouched told (bad_files c.in-Err.field-0.why c.end_unopened.result c.end_unopened.ensures.cause is)) (search rules)
 
 pub returns-in_default-clause-differs : goal.returns-in_default-clause-differs
-returns-in_default-clause-differs g c = λ stored asked told is. absurd (cc (asked_other Memory c.end_without_memory.result c.end_without_memory.ensures.cause stored asked is))
+returns-in_default-clause-differs g c = λ stored asked told is. absurd (cc (asked_other Memory c.end_without_memory.result c.end_without_memory.ensures.cause
+    stored asked is))
 
 pub returns-in-Ok-open-clause-differs : goal.returns-in-Ok-open-clause-differs
 returns-in-Ok-open-clause-differs g c = λ stored asked told is. absurd (c.serve-exit.ensures.exits.1 (inr (inr (inl (stored, asked, is)))))

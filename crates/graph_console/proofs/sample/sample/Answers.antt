@@ -15,4 +15,6 @@ returns-in_default-open-clause-samples g c = λ k.
 pub returns-clause-samples : goal.returns-clause-samples
 returns-clause-samples g c = λ k.
     c.run_sample-exit.ensures.samples
-    (opens_empty _ c.args.options c.config_of.result c.in-Ok.disk (shared_view c.in-Ok-open.session) c.config_of.ensures tt (unmade_zeros (contents c.in-Ok.disk.files) c.in-Ok.ensures.zeros) c.in-Ok-open.ensures.opened c.in-Ok-open.ensures.stored c.in-Ok-open.ensures.no_snapshots) k
+    (opens_empty _ c.args.options c.config_of.result c.in-Ok.disk (shared_view c.in-Ok-open.session) c.config_of.ensures tt
+    (unmade_zeros (contents c.in-Ok.disk.files) c.in-Ok.ensures.zeros) c.in-Ok-open.ensures.opened c.in-Ok-open.ensures.stored
+    c.in-Ok-open.ensures.no_snapshots) k

@@ -37,7 +37,8 @@ pub returns-in-Some-clause-serves : goal.returns-in-Some-clause-serves
 returns-in-Some-clause-serves g c = λ known first is_at s k.
     let start : Progress = progress g.S.Source g.K.Sink g.D.Disk (loop c.args.reader.now c.args.input.now c.args.output.now (shared_view c.args.session.now)) in
     let old : Progress = progress g.S.Source g.K.Sink g.D.Disk (loop c.lines.reader c.lines.input c.lines.output (shared_view c.lines.session)) in
-    let new : Progress = progress g.S.Source g.K.Sink g.D.Disk (loop c.serve_line.new.reader c.serve_line.new.input c.serve_line.new.output (shared_view c.serve_line.new.session)) in
+    let new : Progress = progress g.S.Source g.K.Sink g.D.Disk (loop c.serve_line.new.reader c.serve_line.new.input c.serve_line.new.output
+    (shared_view c.serve_line.new.session)) in
     let so_far = c.lines.invariant.serving known first is_at s k in
     served (shared_course (as_known known g.D.Disk).tells_reads) (λ was x now step. step.blames) first _ _ _ start old new so_far
     (carries {g = as_known known g.D.Disk} (shared_view c.serve_line.new.session) so_far.steps so_far.arrives)
@@ -70,7 +71,8 @@ lines-preserved g c = record {
       let start : Progress = progress g.S.Source g.K.Sink g.D.Disk (loop c.args.reader.now c.args.input.now c.args.output.now (shared_view c.args.session.now))
       in
       let old : Progress = progress g.S.Source g.K.Sink g.D.Disk (loop c.lines.reader c.lines.input c.lines.output (shared_view c.lines.session)) in
-      let new : Progress = progress g.S.Source g.K.Sink g.D.Disk (loop c.serve_line.new.reader c.serve_line.new.input c.serve_line.new.output (shared_view c.serve_line.new.session)) in
+      let new : Progress = progress g.S.Source g.K.Sink g.D.Disk (loop c.serve_line.new.reader c.serve_line.new.input c.serve_line.new.output
+      (shared_view c.serve_line.new.session)) in
       let so_far = c.lines.invariant.serving known first is_at s k in
       let says = c.in_default.ensures.turns known so_far.state so_far.arrives.is_at s k in
       serving_on (shared_course (as_known known g.D.Disk).tells_reads) (λ was x now step. step.blames) first _ _ _ start old new so_far
@@ -101,4 +103,10 @@ lines-preserved g c = record {
 }
 
 pub returns-in-Some-clause-within : goal.returns-in-Some-clause-within
-returns-in-Some-clause-within g c = λ s. omega (arith, c.requires.fresh.taken, c.serve_line.ensures.counted s, c.lines.invariant.counted s, c.serve_line.ensures.limit)
+returns-in-Some-clause-within g c = λ s. omega (
+  arith,
+  c.requires.fresh.taken,
+  c.serve_line.ensures.counted s,
+  c.lines.invariant.counted s,
+  c.serve_line.ensures.limit,
+)

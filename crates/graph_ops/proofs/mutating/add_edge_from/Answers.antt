@@ -14,7 +14,8 @@ returns-in-Vertex-clause-refused g c told store =
     let s = g.S.Reads.state c.args.space.now in
     let mutation = mutations.AddE c.args.label.now c.args.to c.args.pairs.now in
     subst (λ (item : Item). IfErr c.add_one_edge.result (IsListRefusal s.shape.limit (graph_in s) (changes_of mutation (item ∷ [])))) (sym c.in-Vertex.is)
-    (result_refused c.add_one_edge.result s.shape.limit (graph_in s) (commands.Edge c.in-Vertex.from c.args.label.now c.args.to c.args.pairs.now) (c.add_one_edge.ensures.refused told store))
+    (result_refused c.add_one_edge.result s.shape.limit (graph_in s) (commands.Edge c.in-Vertex.from c.args.label.now c.args.to c.args.pairs.now)
+    (c.add_one_edge.ensures.refused told store))
 
 pub returns-in-Edge-clause-part : goal.returns-in-Edge-clause-part
 returns-in-Edge-clause-part g c =
@@ -30,4 +31,5 @@ pub returns-in-Vertex-clause-still : goal.returns-in-Vertex-clause-still
 returns-in-Vertex-clause-still g c tells =
     let t = g.S.Reads.state c.add_one_edge.new.space in
     let mutation = mutations.AddE c.args.label.now c.args.to c.args.pairs.now in
-    subst (λ (item : Item). IfErr c.add_one_edge.result (IsListCaused (changes_of mutation (item ∷ [])) t c.args.names.now.names c.add_one_edge.new.names.names)) (sym c.in-Vertex.is) (c.add_one_edge.ensures.still tells)
+    subst (λ (item : Item). IfErr c.add_one_edge.result (IsListCaused (changes_of mutation (item ∷ [])) t c.args.names.now.names
+    c.add_one_edge.new.names.names)) (sym c.in-Vertex.is) (c.add_one_edge.ensures.still tells)

@@ -50,7 +50,8 @@ loop-item-preserved g c =
           b ∙ ap (λ (l : List Item). l ++ new_elements (of (item ∷ [])) ts) a
           ∙ append_assoc start (new_elements (of (take i results)) rs) (new_elements (of (item ∷ [])) ts)
           ∙ ap (λ (l : List Item). start ++ l)
-          (sym (elements_then s.shape.limit s.shape.threshold (graph_in s) (graph_in t) (of (take i results)) (of (item ∷ [])) rs ts total each) ∙ ap (λ (cs : List Command). new_elements cs (rs ++ ts)) (sym (up_to of spread results i item item c.loop-item-test.true c.item-item.is))));
+          (sym (elements_then s.shape.limit s.shape.threshold (graph_in s) (graph_in t) (of (take i results)) (of (item ∷ [])) rs ts total each) ∙ ap
+          (λ (cs : List Command). new_elements cs (rs ++ ts)) (sym (up_to of spread results i item item c.loop-item-test.true c.item-item.is))));
       lines = λ shown. c.in_ok-more.ensures.lines (c.loop-item.invariant.lines shown);
     }
 
@@ -58,7 +59,9 @@ pub returns-clause-part : goal.returns-clause-part
 returns-clause-part g c =
     let mutation = mutations.AddE c.args.label.now c.args.to c.args.pairs.now in
     subst
-    (λ (results : List Item). MakesPart g.S.Reads.tells (changes_of mutation results) (λ (replies : List Reply). c.loop-item.shown.items ≡ c.args.shown.now.items ++ new_elements (changes_of mutation results) replies) c.loop-item.weight (g.S.Reads.state c.args.space.now) (g.S.Reads.state c.loop-item.space)
+    (λ (results : List Item). MakesPart g.S.Reads.tells (changes_of mutation results) (λ (replies : List Reply). c.loop-item.shown.items ≡
+    c.args.shown.now.items ++ new_elements (changes_of mutation results) replies) c.loop-item.weight (g.S.Reads.state c.args.space.now)
+    (g.S.Reads.state c.loop-item.space)
     c.args.names.now.names c.loop-item.names.names)
     (take_all c.loop-item.item-index c.args.items.now c.loop-item-test.false) c.loop-item.invariant.making.part
 
@@ -77,7 +80,8 @@ returns-in_err-more-clause-still g c tells =
 pub returns-in_err-both-clause-still : goal.returns-in_err-both-clause-still
 returns-in_err-both-clause-still g c tells =
     let t = g.S.Reads.state c.add_edge_from.new.space in
-    fault_exit (λ f. f) (IsListCaused (changes_of (mutations.AddE c.args.label.now c.args.to c.args.pairs.now) c.args.items.now) t c.args.names.now.names c.add_edge_from.new.names.names) c.in_err-both.field-0.0 c.from_residual-in_err-both.result c.from_residual-in_err-both.ensures.1
+    fault_exit (λ f. f) (IsListCaused (changes_of (mutations.AddE c.args.label.now c.args.to c.args.pairs.now) c.args.items.now) t c.args.names.now.names
+    c.add_edge_from.new.names.names) c.in_err-both.field-0.0 c.from_residual-in_err-both.result c.from_residual-in_err-both.ensures.1
     (inl c.in_err-both.ensures.memory)
 
 pub returns-in_err-more-clause-part : goal.returns-in_err-more-clause-part

@@ -90,7 +90,8 @@ returns-in_err-more-clause-lone g c tells target is =
     ∙ ap (λ (l : List Target). get_or l 0 (targets.Node 0)) is in
     let fault = c.in_err-more.field-0.0 in
     fault_exit (λ f. f) (BlamesDeletion s t target) fault c.from_residual.result c.from_residual.ensures.1
-    (subst (λ (x : Target). BlamesDeletion s t x fault) at (subst (λ (z : State). BlamesDeletion z t (get_or c.args.targets.now i (targets.Node 0)) fault) (c.loop-target.invariant.fresh none) (c.in_err-more.ensures.damaged tells)))
+    (subst (λ (x : Target). BlamesDeletion s t x fault) at (subst (λ (z : State). BlamesDeletion z t (get_or c.args.targets.now i (targets.Node 0)) fault)
+    (c.loop-target.invariant.fresh none) (c.in_err-more.ensures.damaged tells)))
 
 pub returns-in_err-both-clause-lone : goal.returns-in_err-both-clause-lone
 returns-in_err-both-clause-lone g c tells target is =

@@ -22,7 +22,8 @@ returns-in_err-weight-in-AddV-clause-refused g c told store =
     let fault = c.in_err-weight-in-AddV.field-0.0 in
     let command = commands.Node c.in-AddV.label c.in-AddV.pairs in
     subst (λ (m : Mutation). IfErr out (IsListRefusal s.shape.limit (graph_in s) (changes_of m c.args.items.items))) (sym c.in-AddV.is)
-    (fault_exit (λ f. f) (IsListRefusal s.shape.limit (graph_in s) (command ∷ [])) fault out c.from_residual.ensures.1 (one_refused s.shape.limit (graph_in s) command fault (c.in_err-weight-in-AddV.ensures.refused told store)))
+    (fault_exit (λ f. f) (IsListRefusal s.shape.limit (graph_in s) (command ∷ [])) fault out c.from_residual.ensures.1 (one_refused s.shape.limit (graph_in s)
+    command fault (c.in_err-weight-in-AddV.ensures.refused told store)))
 
 pub returns-in_ok-weight-in-AddV-clause-made : goal.returns-in_ok-weight-in-AddV-clause-made
 returns-in_ok-weight-in-AddV-clause-made g c told store =
@@ -32,7 +33,8 @@ returns-in_ok-weight-in-AddV-clause-made g c told store =
     let weight = c.in_ok-weight-in-AddV.weight in
     let n = c.add_vertex.new.names.names in
     subst (λ (m : Mutation). MakesMutation m c.args.items.items shown c.told_weight.result s t n) (sym c.in-AddV.is)
-    (vertex_made c.args.items.items shown c.new-vertices.result.items weight c.told_weight.result c.told_weight.ensures.is s t c.args.names.now.names n c.in-AddV.label c.in-AddV.pairs c.new-vertices.ensures.items c.in_ok-weight-in-AddV.ensures.part told store)
+    (vertex_made c.args.items.items shown c.new-vertices.result.items weight c.told_weight.result c.told_weight.ensures.is s t c.args.names.now.names n
+    c.in-AddV.label c.in-AddV.pairs c.new-vertices.ensures.items c.in_ok-weight-in-AddV.ensures.part told store)
 
 pub returns-in_ok-weight-in-AddE-clause-made : goal.returns-in_ok-weight-in-AddE-clause-made
 returns-in_ok-weight-in-AddE-clause-made g c told store =
@@ -45,10 +47,13 @@ returns-in_ok-weight-in-AddE-clause-made g c told store =
     let to = c.in-AddE.to in
     let pairs = c.in-AddE.pairs in
     let part =
-    subst (λ (list : List Item). MakesPart g.S.Reads.tells (changes_of (mutations.AddE label to pairs) list) (λ (replies : List Reply). shown ≡ c.new-edges.result.items ++ new_elements (changes_of (mutations.AddE label to pairs) list) replies) weight s t c.args.names.now.names n) c.deref.ensures.value
+    subst (λ (list : List Item). MakesPart g.S.Reads.tells (changes_of (mutations.AddE label to pairs) list) (λ (replies : List Reply).
+    shown ≡ c.new-edges.result.items ++ new_elements (changes_of (mutations.AddE label to pairs) list) replies) weight s t c.args.names.now.names n)
+    c.deref.ensures.value
     c.in_ok-weight-in-AddE.ensures.part in
     subst (λ (m : Mutation). MakesMutation m c.args.items.items shown c.told_weight-in-AddE.result s t n) (sym c.in-AddE.is)
-    (edges_made c.args.items.items shown c.new-edges.result.items weight c.told_weight-in-AddE.result c.told_weight-in-AddE.ensures.is s t c.args.names.now.names n label to pairs c.new-edges.ensures.items part told store)
+    (edges_made c.args.items.items shown c.new-edges.result.items weight c.told_weight-in-AddE.result c.told_weight-in-AddE.ensures.is s t
+    c.args.names.now.names n label to pairs c.new-edges.ensures.items part told store)
 
 pub returns-in_ok-weight-in-Property-clause-made :
     goal.returns-in_ok-weight-in-Property-clause-made
@@ -59,10 +64,13 @@ returns-in_ok-weight-in-Property-clause-made g c told store =
     let n = c.set_each.new.names.names in
     let results = c.args.items.items in
     let pairs = c.in-Property.pairs in
-    let part = subst (λ (list : List Pair). MakesPart g.S.Reads.tells (changes_of (mutations.Property list) c.deref-in-Property.result.now) any_replies weight s t c.args.names.now.names n) c.as_slice.ensures c.in_ok-weight-in-Property.ensures.part in
-    let whole = subst (λ (list : List Item). MakesPart g.S.Reads.tells (changes_of (mutations.Property pairs) list) any_replies weight s t c.args.names.now.names n) c.deref-in-Property.ensures.value part in
+    let part = subst (λ (list : List Pair). MakesPart g.S.Reads.tells (changes_of (mutations.Property list) c.deref-in-Property.result.now) any_replies weight s
+    t c.args.names.now.names n) c.as_slice.ensures c.in_ok-weight-in-Property.ensures.part in
+    let whole = subst (λ (list : List Item). MakesPart g.S.Reads.tells (changes_of (mutations.Property pairs) list) any_replies weight s t
+    c.args.names.now.names n) c.deref-in-Property.ensures.value part in
     subst (λ (m : Mutation). MakesMutation m results results c.told_weight-in-Property.result s t n) (sym c.in-Property.is)
-    (values_made results results results weight c.told_weight-in-Property.result c.told_weight-in-Property.ensures.is s t c.args.names.now.names n pairs whole told store)
+    (values_made results results results weight c.told_weight-in-Property.result c.told_weight-in-Property.ensures.is s t c.args.names.now.names n pairs whole
+    told store)
 
 pub returns-in_ok-weight-in-Drop-clause-made : goal.returns-in_ok-weight-in-Drop-clause-made
 returns-in_ok-weight-in-Drop-clause-made g c told store =
@@ -86,7 +94,8 @@ returns-in_err-weight-in-AddV-clause-still g c tells =
     let out = c.from_residual.result in
     let command = commands.Node c.in-AddV.label c.in-AddV.pairs in
     subst (λ (m : Mutation). IfErr out (IsListCaused (changes_of m c.args.items.items) t names now)) (sym c.in-AddV.is)
-    (fault_exit (λ f. f) (IsListCaused (command ∷ []) t names now) c.in_err-weight-in-AddV.field-0.0 out c.from_residual.ensures.1 (c.in_err-weight-in-AddV.ensures.still tells))
+    (fault_exit (λ f. f) (IsListCaused (command ∷ []) t names now) c.in_err-weight-in-AddV.field-0.0 out c.from_residual.ensures.1
+    (c.in_err-weight-in-AddV.ensures.still tells))
 
 -- ---- which record is blamed
 

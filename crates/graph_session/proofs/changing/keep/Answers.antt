@@ -17,4 +17,5 @@ returns-clause-ships g c =
     let old = c.args.store.now in
     let new = c.keep.new.self in
     subst (λ (shape : Shape). AllShip shape new.base.own.pairs) (sym c.keep.ensures.same.shape)
-    (ships-kept c.keep.result old.base.shape old.base.own.pairs old.draft.pairs new.base.own.pairs c.keep.ensures.own c.keep.ensures.refused c.requires.ships (c.draft_ships.ensures.0 c.if-not-draft_ships.false))
+    (ships-kept c.keep.result old.base.shape old.base.own.pairs old.draft.pairs new.base.own.pairs c.keep.ensures.own c.keep.ensures.refused c.requires.ships
+    (c.draft_ships.ensures.0 c.if-not-draft_ships.false))

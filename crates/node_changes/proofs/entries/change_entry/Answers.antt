@@ -104,7 +104,8 @@ returns-in_err-entered-clause-refused g c tells wanted ix store wants low =
     = λ none.
     let same : SameButReads s m = c.in_ok-left.ensures.unlisted tells wanted ix none in
     inl (undamaged_outside m fault right
-    (subst (λ (z : State). (iz : AreIndexed z.records wanted) → held_is_listed (map (pair_of z.records) iz.definitions) held ≡ false → IsFailure fault) same (c.in_err-entered.ensures.unlisted tells wanted) ix none)) in
+    (subst (λ (z : State). (iz : AreIndexed z.records wanted) → held_is_listed (map (pair_of z.records) iz.definitions) held ≡ false → IsFailure fault) same
+    (c.in_err-entered.ensures.unlisted tells wanted) ix none)) in
     fault_exit (λ f. f) (IsEntryRefusal s held) fault c.from_residual-in_err-entered.result c.from_residual-in_err-entered.ensures.1
     (on_bool (held_is_listed pairs held) with_index no_index)
 

@@ -22,7 +22,8 @@ returns-clause-entered g c tells wanted ix store lacks =
     let s = g.S.Reads.state c.args.space.now in
     let t = g.S.Reads.state c.enter.new.space in
     subst (λ (h : Option IndexedValue). AreIndexed t.records (with_new wanted h c.args.new.now)) (sym c.in-Some.is)
-    (c.in_ok-enter.ensures.entered tells wanted (free_list s store).0 ix (store_takes s store) (subst (λ (h : Option IndexedValue). LacksHeld wanted h c.args.new.now) c.in-Some.is lacks))
+    (c.in_ok-enter.ensures.entered tells wanted (free_list s store).0 ix (store_takes s store)
+    (subst (λ (h : Option IndexedValue). LacksHeld wanted h c.args.new.now) c.in-Some.is lacks))
 
 pub returns-clause-keeps : goal.returns-clause-keeps
 returns-clause-keeps g c tells wanted ix store low =
@@ -51,7 +52,8 @@ pub returns-in_err-enter-clause-sound : goal.returns-in_err-enter-clause-sound
 returns-in_err-enter-clause-sound g c tells wanted ix store =
     let s = g.S.Reads.state c.args.space.now in
     fault_exit of_take (IsEntryUndamaged s) c.in_err-enter.field-0.0 c.from_residual.result c.from_residual.ensures.1
-    (take_undamaged Unit s c.in_err-enter.field-0.0 (c.in_err-enter.ensures.sound tells wanted (free_list s store).0 ix (store_takes s store)) (c.in_err-enter.ensures.full tells))
+    (take_undamaged Unit s c.in_err-enter.field-0.0 (c.in_err-enter.ensures.sound tells wanted (free_list s store).0 ix (store_takes s store))
+    (c.in_err-enter.ensures.full tells))
 
 pub returns-in_err-enter-clause-full : goal.returns-in_err-enter-clause-full
 returns-in_err-enter-clause-full g c tells =

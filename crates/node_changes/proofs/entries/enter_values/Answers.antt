@@ -30,9 +30,18 @@ pub loop-assignment-init : goal.loop-assignment-init
 loop-assignment-init g c =
     let s = g.S.Reads.state c.args.space.now in
     record {
-      entered = λ tells wanted right low lacks once. (entered_none c.args.listed.now c.args.label c.args.node c.args.pairs.now wanted c.args.assigned.now s.records right.indexed right.are, right.kept, refl);
+      entered = λ tells wanted right low lacks once. (
+        entered_none c.args.listed.now c.args.label c.args.node c.args.pairs.now wanted c.args.assigned.now
+            s.records right.indexed right.are,
+        right.kept,
+        refl,
+      );
       counted = λ tells. omega arith;
-      touched = record { ids = []; few = omega arith; only = record { writes = record { each = λ q w. inl w }; stays = λ told. record { each = λ q. inl refl } } };
+      touched = record {
+        ids = [];
+        few = omega arith;
+        only = record { writes = record { each = λ q w. inl w }; stays = λ told. record { each = λ q. inl refl } };
+      };
       spared = λ tells. spares_none s s refl;
       onward_is = g.met.S.Reads.stays_onward c.args.space.now;
       later = omega arith;
@@ -59,9 +68,11 @@ loop-assignment-preserved g c =
           let value = (get_or pairs this.pair w.index-pairs-assignment.result).value in
           let inside = c.requires.placed i d lt in
           let is : value ≡ (pair_at pairs this.pair).value = ap (λ (p : Pair). p.value)
-          (sym w.index-pairs-assignment.is ∙ get_or_read pairs this.pair w.index-pairs-assignment.result inside w.index-pairs-assignment.is (record { key = []; value = values.Text [] })) in
+          (sym w.index-pairs-assignment.is ∙ get_or_read pairs this.pair w.index-pairs-assignment.result inside w.index-pairs-assignment.is
+          (record { key = []; value = values.Text [] })) in
           let count = count_more listed label assigned i d lt true there in
-          subst (λ sp. IsEntering g.S.Reads.tells (g.S.Reads.onward c.args.space.now sp) s (g.S.Reads.state sp) (g.S.Reads.faults c.args.space.now) (g.S.Reads.faults sp) listed label node assigned pairs (i + 1)) (sym w.space-is)
+          subst (λ sp. IsEntering g.S.Reads.tells (g.S.Reads.onward c.args.space.now sp) s (g.S.Reads.state sp) (g.S.Reads.faults c.args.space.now)
+          (g.S.Reads.faults sp) listed label node assigned pairs (i + 1)) (sym w.space-is)
           (record {
             entered = λ tells wanted right low lacks once.
                 let was = inv.entered tells wanted right low lacks once in
@@ -82,7 +93,8 @@ loop-assignment-preserved g c =
       | else-has_pair w ↦
           let none : is_listed listed label this.key ≡ false = sym c.has_pair.ensures ∙ w.if-has_pair.false in
           let count = count_more listed label assigned i d lt false none in
-          subst (λ sp. IsEntering g.S.Reads.tells (g.S.Reads.onward c.args.space.now sp) s (g.S.Reads.state sp) (g.S.Reads.faults c.args.space.now) (g.S.Reads.faults sp) listed label node assigned pairs (i + 1)) (sym w.space-is)
+          subst (λ sp. IsEntering g.S.Reads.tells (g.S.Reads.onward c.args.space.now sp) s (g.S.Reads.state sp) (g.S.Reads.faults c.args.space.now)
+          (g.S.Reads.faults sp) listed label node assigned pairs (i + 1)) (sym w.space-is)
           (record {
             entered = λ tells wanted right low lacks once.
                 let was = inv.entered tells wanted right low lacks once in
@@ -123,7 +135,8 @@ returns-in_err-enter-clause-sound g c tells wanted right low lacks once room =
     let shape = ap (λ (shape : Shape). room_of shape format.index_file) (g.met.S.Reads.onward_shape _ _ inv.onward_is) in
     let left : (meta_of m format.index_file).live < room_of m.shape format.index_file = omega (arith, count, few, counted, shape, room) in
     fault_exit of_take IsOutside c.in_err-enter.field-0.0 c.from_residual.result c.from_residual.ensures.1
-    (take_outside Unit m c.in_err-enter.field-0.0 (c.in_err-enter.ensures.sound tells _ (free_list m was.1).0 was.0 (store_takes m was.1)) (c.in_err-enter.ensures.full tells) left)
+    (take_outside Unit m c.in_err-enter.field-0.0 (c.in_err-enter.ensures.sound tells _ (free_list m was.1).0 was.0 (store_takes m was.1))
+    (c.in_err-enter.ensures.full tells) left)
 
 pub returns-in_err-enter-clause-blames : goal.returns-in_err-enter-clause-blames
 returns-in_err-enter-clause-blames g c tells =
@@ -142,7 +155,8 @@ returns-in_err-enter-clause-found g c tells has =
     let h = still_has s m spared (has (listed_some c.args.listed.now c.args.label _ there)) in
     fault_exit of_take (IfBlames (IsListOrFound s t)) fault c.from_residual.result c.from_residual.ensures.1
     (blames_more _ _ (λ damage k. named_found s m t damage spared k.0 k.1) (of_take fault)
-    (blames_both _ _ (of_take fault) (take_named m fault (c.in_err-enter.ensures.listed tells h.members h.list)) (take_untouched m t fault c.in_err-enter.ensures.unwritten)))
+    (blames_both _ _ (of_take fault) (take_named m fault (c.in_err-enter.ensures.listed tells h.members h.list))
+    (take_untouched m t fault c.in_err-enter.ensures.unwritten)))
 
 pub returns-in_err-enter-clause-touches : goal.returns-in_err-enter-clause-touches
 returns-in_err-enter-clause-touches g c =

@@ -16,7 +16,8 @@ returns-in_err-value-clause-sound g c tells store used =
     let s = g.R.Reads.state c.args.space.now in
     let known = owner_known s c.args.node store used in
     fault_exit of_fault IsOutside c.in_err-value.field-0.0 c.from_residual.result c.from_residual.ensures.1
-    (fault_outside Unit c.in_err-value.field-0.0 (c.in_err-value.ensures.sound tells known.0 (subst (λ (o : Owner). HasProperties s.records o known.0) (sym c.node_owner.ensures) known.1)))
+    (fault_outside Unit c.in_err-value.field-0.0 (c.in_err-value.ensures.sound tells known.0 (subst (λ (o : Owner). HasProperties s.records o known.0)
+    (sym c.node_owner.ensures) known.1)))
 
 pub returns-in_err-value-clause-same : goal.returns-in_err-value-clause-same
 returns-in_err-value-clause-same g c = reads_same 55 _ _ c.read_key.ensures.at_most

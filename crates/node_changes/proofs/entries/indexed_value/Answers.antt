@@ -53,7 +53,8 @@ returns-then-is_empty-clause-same g c = reads_same 17 _ _ c.listed_pairs.ensures
 
 pub returns-in_err-row-clause-same : goal.returns-in_err-row-clause-same
 returns-in_err-row-clause-same g c = same_then (g.R.Reads.state c.args.space.now) (g.R.Reads.state c.listed_pairs.new.space) (g.R.Reads.state c.load.new.space)
-    (reads_same 17 _ _ c.listed_pairs.ensures.reads) (load_same (g.R.Reads.state c.listed_pairs.new.space) (g.R.Reads.state c.load.new.space) c.in-Node.node c.load.ensures.state)
+    (reads_same 17 _ _ c.listed_pairs.ensures.reads) (load_same (g.R.Reads.state c.listed_pairs.new.space) (g.R.Reads.state c.load.new.space) c.in-Node.node
+    c.load.ensures.state)
 
 pub returns-in_default-2-clause-same : goal.returns-in_default-2-clause-same
 returns-in_default-2-clause-same g c = same_then (g.R.Reads.state c.args.space.now) (g.R.Reads.state c.listed_pairs.new.space)
@@ -67,11 +68,15 @@ returns-then-not-has_pair-clause-same g c = same_then (g.R.Reads.state c.args.sp
 
 pub returns-in_err-value-clause-same : goal.returns-in_err-value-clause-same
 returns-in_err-value-clause-same g c = same_then (g.R.Reads.state c.args.space.now) (g.R.Reads.state c.load.new.space) _
-    (same_then (g.R.Reads.state c.args.space.now) (g.R.Reads.state c.listed_pairs.new.space) (g.R.Reads.state c.load.new.space) (reads_same 17 _ _ c.listed_pairs.ensures.reads) (load_same (g.R.Reads.state c.listed_pairs.new.space) _ c.in-Node.node c.load.ensures.state)) (reads_same 55 _ _ c.read_key.ensures.at_most)
+    (same_then (g.R.Reads.state c.args.space.now) (g.R.Reads.state c.listed_pairs.new.space) (g.R.Reads.state c.load.new.space)
+    (reads_same 17 _ _ c.listed_pairs.ensures.reads) (load_same (g.R.Reads.state c.listed_pairs.new.space) _ c.in-Node.node c.load.ensures.state))
+    (reads_same 55 _ _ c.read_key.ensures.at_most)
 
 pub returns-clause-same : goal.returns-clause-same
 returns-clause-same g c = same_then (g.R.Reads.state c.args.space.now) (g.R.Reads.state c.load.new.space) _
-    (same_then (g.R.Reads.state c.args.space.now) (g.R.Reads.state c.listed_pairs.new.space) (g.R.Reads.state c.load.new.space) (reads_same 17 _ _ c.listed_pairs.ensures.reads) (load_same (g.R.Reads.state c.listed_pairs.new.space) _ c.in-Node.node c.load.ensures.state)) (reads_same 55 _ _ c.read_key.ensures.at_most)
+    (same_then (g.R.Reads.state c.args.space.now) (g.R.Reads.state c.listed_pairs.new.space) (g.R.Reads.state c.load.new.space)
+    (reads_same 17 _ _ c.listed_pairs.ensures.reads) (load_same (g.R.Reads.state c.listed_pairs.new.space) _ c.in-Node.node c.load.ensures.state))
+    (reads_same 55 _ _ c.read_key.ensures.at_most)
 
 pub returns-in_default-2-clause-held : goal.returns-in_default-2-clause-held
 returns-in_default-2-clause-held g c tells wanted ix store used =
@@ -92,7 +97,8 @@ returns-in_err-value-clause-sound g c tells wanted ix store used =
     let known = owner_known s c.in-Node.node store live in
     let there = subst (λ (z : State). HasProperties z.records (owner_of (targets.Node c.in-Node.node)) known.0) (sym same) known.1 in
     fault_exit of_fault IsOutside c.in_err-value.field-0.0 c.from_residual-in_err-value.result c.from_residual-in_err-value.ensures.1
-    (fault_outside Unit c.in_err-value.field-0.0 (c.in_err-value.ensures.sound tells known.0 (subst (λ (o : Owner). HasProperties n.records o known.0) (sym c.node_owner.ensures) there)))
+    (fault_outside Unit c.in_err-value.field-0.0 (c.in_err-value.ensures.sound tells known.0 (subst (λ (o : Owner). HasProperties n.records o known.0)
+    (sym c.node_owner.ensures) there)))
 
 pub returns-then-is_empty-clause-held : goal.returns-then-is_empty-clause-held
 returns-then-is_empty-clause-held g c tells wanted ix store used =
@@ -155,7 +161,8 @@ returns-clause-held g c tells wanted ix store used =
     = c.in_ok-value.ensures.met tells ∙ ap (λ (o : Owner). value_of (properties_met n.records o) c.args.key) c.node_owner.ensures
     ∙ ap (λ (z : State). value_of (properties_met z.records (owner_of (targets.Node node))) c.args.key) then
     ∙ sym (own_met s.records node row.label c.args.key live label) in
-    subst (λ (t : Target). IsIndexedValue s.records (map (pair_of s.records) ix.definitions) t c.args.key (Some (record { label = row.label; key = c.args.key; node = node; value = c.in_ok-value.value }))) (sym c.in-Node.is)
+    subst (λ (t : Target). IsIndexedValue s.records (map (pair_of s.records) ix.definitions) t c.args.key
+    (Some (record { label = row.label; key = c.args.key; node = node; value = c.in_ok-value.value }))) (sym c.in-Node.is)
     (refl, refl, label, there, value)
 
 pub returns-in_err-listed-clause-damaged : goal.returns-in_err-listed-clause-damaged
@@ -181,7 +188,8 @@ returns-in_err-value-clause-damaged g c tells used =
     let live = subst (λ (t : Target). IsInUse s.records (owner_of t)) c.in-Node.is used in
     let there = subst (λ (z : State). IsInUse z.records (owner_of (targets.Node c.in-Node.node))) (sym same) live in
     fault_exit of_fault (BlamesBroken s) c.in_err-value.field-0.0 c.from_residual-in_err-value.result c.from_residual-in_err-value.ensures.1
-    (read_broken s n same c.in_err-value.field-0.0 (c.in_err-value.ensures.damaged tells (subst (λ (o : Owner). IsInUse n.records o) (sym c.node_owner.ensures) there)))
+    (read_broken s n same c.in_err-value.field-0.0 (c.in_err-value.ensures.damaged tells (subst (λ (o : Owner). IsInUse n.records o) (sym c.node_owner.ensures)
+    there)))
 
 pub returns-clause-of_node : goal.returns-clause-of_node
 returns-clause-of_node g c = subst IsNodeTarget (sym c.in-Node.is) tt

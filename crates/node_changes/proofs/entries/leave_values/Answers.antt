@@ -128,7 +128,12 @@ returns-clause-touches g c = c.loop-value.invariant.touched
 pub returns-clause-at_most : goal.returns-clause-at_most
 returns-clause-at_most g c =
     let inv = c.loop-value.invariant in
-    record { ids = inv.touched.ids; few = (let a = inv.few in let b = c.requires in let d = inv.within in let e = inv.touched.few in omega arith); only = inv.touched.only }
+    record {
+      ids = inv.touched.ids;
+      few = (let a = inv.few in let b = c.requires in let d = inv.within in let e = inv.touched.few in omega arith);
+      only =
+          inv.touched.only;
+    }
 
 pub returns-clause-onward : goal.returns-clause-onward
 returns-clause-onward g c = c.loop-value.invariant.onward

@@ -136,7 +136,8 @@ returns-in_err-label-clause-refused g c tells whole =
     let command = commands.Index c.args.label.now c.args.key.now in
     let fault = c.in_err-label.field-0.0 in
     fault_exit of_intern (IsRefusal s.shape.limit (graph_in s) command) fault c.from_residual-in_err-label.result c.from_residual-in_err-label.ensures.1
-    (index_refused_label s names label key whole (c.in_ok-test_pair.ensures.may tells whole) fault (label_full g (goal.at.returns-in_err-label-clause-refused g c).In_err-label))
+    (index_refused_label s names label key whole (c.in_ok-test_pair.ensures.may tells whole) fault (label_full g (goal.at.returns-in_err-label-clause-refused g
+    c).In_err-label))
 
 pub returns-in_err-label-clause-caused : goal.returns-in_err-label-clause-caused
 returns-in_err-label-clause-caused g c tells =
@@ -149,7 +150,8 @@ returns-in_err-label-clause-caused g c tells =
     let command = commands.Index c.args.label.now c.args.key.now in
     let fault = c.in_err-label.field-0.0 in
     fault_exit of_intern (IsCaused command s t names now) fault c.from_residual-in_err-label.result c.from_residual-in_err-label.ensures.1
-    (name_caused s t names now names label key label (λ all lacks. first_lacks names label (key ∷ []) all lacks) fault (label_full g (goal.at.returns-in_err-label-clause-caused g c).In_err-label))
+    (name_caused s t names now names label key label (λ all lacks. first_lacks names label (key ∷ []) all lacks) fault
+    (label_full g (goal.at.returns-in_err-label-clause-caused g c).In_err-label))
 
 pub returns-in_err-label-clause-still : goal.returns-in_err-label-clause-still
 returns-in_err-label-clause-still g c tells =
@@ -161,7 +163,11 @@ returns-in_err-label-clause-still g c tells =
     let command = commands.Index c.args.label.now c.args.key.now in
     let fault = c.in_err-label.field-0.0 in
     fault_exit of_intern (IsStillCaused command t names now) fault c.from_residual-in_err-label.result c.from_residual-in_err-label.ensures.1
-    (record { caused = (name_caused t t names now names label key label (λ all lacks. first_lacks names label (key ∷ []) all lacks) fault (label_full g (goal.at.returns-in_err-label-clause-still g c).In_err-label)); damaged = intern_blamed (IsBroken t) fault })
+    (record {
+      caused = (name_caused t t names now names label key label (λ all lacks. first_lacks names label (key ∷ []) all lacks) fault
+          (label_full g (goal.at.returns-in_err-label-clause-still g c).In_err-label));
+      damaged = intern_blamed (IsBroken t) fault;
+    })
 
 pub returns-in_err-label-clause-damaged : goal.returns-in_err-label-clause-damaged
 returns-in_err-label-clause-damaged g c tells known uses =
@@ -180,7 +186,8 @@ returns-in_err-label-clause-counts g c tells whole =
     let key = c.args.key.now in
     let fault = c.in_err-label.field-0.0 in
     fault_exit of_intern (IsCounted s) fault c.from_residual-in_err-label.result c.from_residual-in_err-label.ensures.1
-    (caused_counted s t names now label key (of_intern fault) (name_caused s t names now names label key label (λ all lacks. first_lacks names label (key ∷ []) all lacks) fault (label_full g (goal.at.returns-in_err-label-clause-counts g c).In_err-label)))
+    (caused_counted s t names now label key (of_intern fault) (name_caused s t names now names label key label (λ all lacks. first_lacks names label (key ∷ [])
+    all lacks) fault (label_full g (goal.at.returns-in_err-label-clause-counts g c).In_err-label)))
 
 pub returns-in_err-label-clause-leaves : goal.returns-in_err-label-clause-leaves
 returns-in_err-label-clause-leaves g c tells =
@@ -191,7 +198,8 @@ returns-in_err-label-clause-leaves g c tells =
     (name_leaves s t fault)
 
 pub returns-in_err-label-clause-refused_writes : goal.returns-in_err-label-clause-refused_writes
-returns-in_err-label-clause-refused_writes g c = on_any_err _ _ (more_written (omega arith) (label_written g (goal.at.returns-in_err-label-clause-refused_writes g c).After-intern))
+returns-in_err-label-clause-refused_writes g c = on_any_err _ _ (more_written (omega arith) (label_written g (goal.at.returns-in_err-label-clause-refused_writes
+    g c).After-intern))
 
 pub returns-in_err-label-clause-cause : goal.returns-in_err-label-clause-cause
 returns-in_err-label-clause-cause g c = intern_cause_passed _ _ _ c.from_residual-in_err-label.result c.in_err-label.field-0.0
@@ -219,7 +227,9 @@ returns-in_err-key-clause-refused g c tells whole =
     let command = commands.Index c.args.label.now c.args.key.now in
     let fault = c.in_err-key.field-0.0 in
     fault_exit of_intern (IsRefusal s.shape.limit (graph_in s) command) fault c.from_residual-in_err-key.result c.from_residual-in_err-key.ensures.1
-    (index_refused_key s names label key whole (c.in_ok-test_pair.ensures.may tells whole) c.intern.new.self.names (label_uses g (goal.at.returns-in_err-key-clause-refused g c).After-intern-2) fault (key_full g (goal.at.returns-in_err-key-clause-refused g c).In_err-key))
+    (index_refused_key s names label key whole (c.in_ok-test_pair.ensures.may tells whole) c.intern.new.self.names
+    (label_uses g (goal.at.returns-in_err-key-clause-refused g c).After-intern-2) fault (key_full g (goal.at.returns-in_err-key-clause-refused g
+    c).In_err-key))
 
 pub returns-in_err-key-clause-caused : goal.returns-in_err-key-clause-caused
 returns-in_err-key-clause-caused g c tells =
@@ -232,7 +242,9 @@ returns-in_err-key-clause-caused g c tells =
     let command = commands.Index c.args.label.now c.args.key.now in
     let fault = c.in_err-key.field-0.0 in
     fault_exit of_intern (IsCaused command s t names now) fault c.from_residual-in_err-key.result c.from_residual-in_err-key.ensures.1
-    (name_caused s t names now c.intern.new.self.names label key key (λ all lacks. second_lacks names c.intern.new.self.names label key (label_uses g (goal.at.returns-in_err-key-clause-caused g c).After-intern-2) all lacks) fault (key_full g (goal.at.returns-in_err-key-clause-caused g c).In_err-key))
+    (name_caused s t names now c.intern.new.self.names label key key (λ all lacks. second_lacks names c.intern.new.self.names label key
+    (label_uses g (goal.at.returns-in_err-key-clause-caused g c).After-intern-2) all lacks) fault
+    (key_full g (goal.at.returns-in_err-key-clause-caused g c).In_err-key))
 
 pub returns-in_err-key-clause-still : goal.returns-in_err-key-clause-still
 returns-in_err-key-clause-still g c tells =
@@ -244,7 +256,12 @@ returns-in_err-key-clause-still g c tells =
     let command = commands.Index c.args.label.now c.args.key.now in
     let fault = c.in_err-key.field-0.0 in
     fault_exit of_intern (IsStillCaused command t names now) fault c.from_residual-in_err-key.result c.from_residual-in_err-key.ensures.1
-    (record { caused = (name_caused t t names now c.intern.new.self.names label key key (λ all lacks. second_lacks names c.intern.new.self.names label key (label_uses g (goal.at.returns-in_err-key-clause-still g c).After-intern-2) all lacks) fault (key_full g (goal.at.returns-in_err-key-clause-still g c).In_err-key)); damaged = intern_blamed (IsBroken t) fault })
+    (record {
+      caused = (name_caused t t names now c.intern.new.self.names label key key (λ all lacks. second_lacks names c.intern.new.self.names label key
+          (label_uses g (goal.at.returns-in_err-key-clause-still g c).After-intern-2) all lacks) fault
+          (key_full g (goal.at.returns-in_err-key-clause-still g c).In_err-key));
+      damaged = intern_blamed (IsBroken t) fault;
+    })
 
 pub returns-in_err-key-clause-damaged : goal.returns-in_err-key-clause-damaged
 returns-in_err-key-clause-damaged g c tells known uses =
@@ -263,7 +280,9 @@ returns-in_err-key-clause-counts g c tells whole =
     let key = c.args.key.now in
     let fault = c.in_err-key.field-0.0 in
     fault_exit of_intern (IsCounted s) fault c.from_residual-in_err-key.result c.from_residual-in_err-key.ensures.1
-    (caused_counted s t names now label key (of_intern fault) (name_caused s t names now c.intern.new.self.names label key key (λ all lacks. second_lacks names c.intern.new.self.names label key (label_uses g (goal.at.returns-in_err-key-clause-counts g c).After-intern-2) all lacks) fault (key_full g (goal.at.returns-in_err-key-clause-counts g c).In_err-key)))
+    (caused_counted s t names now label key (of_intern fault) (name_caused s t names now c.intern.new.self.names label key key
+    (λ all lacks. second_lacks names c.intern.new.self.names label key (label_uses g (goal.at.returns-in_err-key-clause-counts g c).After-intern-2)
+    all lacks) fault (key_full g (goal.at.returns-in_err-key-clause-counts g c).In_err-key)))
 
 pub returns-in_err-key-clause-leaves : goal.returns-in_err-key-clause-leaves
 returns-in_err-key-clause-leaves g c tells =
@@ -274,7 +293,8 @@ returns-in_err-key-clause-leaves g c tells =
     (name_leaves s t fault)
 
 pub returns-in_err-key-clause-refused_writes : goal.returns-in_err-key-clause-refused_writes
-returns-in_err-key-clause-refused_writes g c = on_any_err _ _ (more_written (omega arith) (names_written g (goal.at.returns-in_err-key-clause-refused_writes g c).After-intern-2))
+returns-in_err-key-clause-refused_writes g c = on_any_err _ _ (more_written (omega arith) (names_written g (goal.at.returns-in_err-key-clause-refused_writes g
+    c).After-intern-2))
 
 pub returns-in_err-key-clause-cause : goal.returns-in_err-key-clause-cause
 returns-in_err-key-clause-cause g c = intern_cause_passed _ _ _ c.from_residual-in_err-key.result c.in_err-key.field-0.0
@@ -390,7 +410,9 @@ module _ (g : Over) (c : After-make g) where
 
   was : g.S.Reads.tells → IsStore (g.S.Reads.state c.args.space.now) c.args.names.now.names
       → IsIndexed ((g.S.Reads.state c.intern-2.new.space).records) ((g.S.Reads.state c.intern-2.new.space).shape)
-  was tells whole = (numbered_store (g.S.Reads.state c.args.space.now) (g.S.Reads.state c.test_pair.new.space) (g.S.Reads.state c.intern.new.space) (g.S.Reads.state c.intern-2.new.space) c.args.names.now.names c.intern.new.self.names c.intern-2.new.self.names c.args.label.now c.args.key.now c.in_ok-label.label c.in_ok-key.key c.test_pair.ensures.same whole (numbered tells)).store
+  was tells whole = (numbered_store (g.S.Reads.state c.args.space.now) (g.S.Reads.state c.test_pair.new.space) (g.S.Reads.state c.intern.new.space)
+      (g.S.Reads.state c.intern-2.new.space) c.args.names.now.names c.intern.new.self.names c.intern-2.new.self.names c.args.label.now c.args.key.now
+      c.in_ok-label.label c.in_ok-key.key c.test_pair.ensures.same whole (numbered tells)).store
 
   names_are : g.S.Reads.tells → IsStore (g.S.Reads.state c.args.space.now) c.args.names.now.names
       → AreNamesOf ((g.S.Reads.state c.intern-2.new.space).records) c.in_ok-label.label c.in_ok-key.key
@@ -405,7 +427,8 @@ module _ (g : Over) (c : After-make g) where
   gone_on =
       let on = g.met.S.Reads.further_onward in
       on c.args.space.now c.intern-2.new.space c.make.new.space
-      (on c.args.space.now c.intern.new.space c.intern-2.new.space (on c.args.space.now c.test_pair.new.space c.intern.new.space c.test_pair.ensures.onward c.intern.ensures.onward) c.intern-2.ensures.onward)
+      (on c.args.space.now c.intern.new.space c.intern-2.new.space (on c.args.space.now c.test_pair.new.space c.intern.new.space c.test_pair.ensures.onward
+      c.intern.ensures.onward) c.intern-2.ensures.onward)
       c.make.ensures.onward
 
 pub returns-in_err-count-clause-refused : goal.returns-in_err-count-clause-refused
@@ -418,7 +441,12 @@ returns-in_err-count-clause-refused g c tells whole =
     let command = commands.Index c.args.label.now c.args.key.now in
     let fault = c.in_err-count.field-0.0 in
     fault_exit of_make (IsRefusal s.shape.limit (graph_in s) command) fault c.from_residual-in_err-count.result c.from_residual-in_err-count.ensures.1
-    (index_refused_make s (g.S.Reads.state c.test_pair.new.space) (g.S.Reads.state c.intern.new.space) (g.S.Reads.state c.intern-2.new.space) names c.intern.new.self.names now label key c.in_ok-label.label c.in_ok-key.key c.test_pair.ensures.same whole (numbered g (goal.at.returns-in_err-count-clause-refused g c).After-make tells) (was g (goal.at.returns-in_err-count-clause-refused g c).After-make tells whole) (c.in_ok-test_pair.ensures.may tells whole) fault (c.in_err-count.ensures.refused tells (was g (goal.at.returns-in_err-count-clause-refused g c).After-make tells whole) (names_are g (goal.at.returns-in_err-count-clause-refused g c).After-make tells whole)))
+    (index_refused_make s (g.S.Reads.state c.test_pair.new.space) (g.S.Reads.state c.intern.new.space) (g.S.Reads.state c.intern-2.new.space)
+    names c.intern.new.self.names now label key c.in_ok-label.label c.in_ok-key.key c.test_pair.ensures.same whole
+    (numbered g (goal.at.returns-in_err-count-clause-refused g c).After-make tells) (was g (goal.at.returns-in_err-count-clause-refused g c).After-make
+    tells whole) (c.in_ok-test_pair.ensures.may tells whole) fault (c.in_err-count.ensures.refused tells
+    (was g (goal.at.returns-in_err-count-clause-refused g c).After-make tells whole) (names_are g (goal.at.returns-in_err-count-clause-refused g
+    c).After-make tells whole)))
 
 pub returns-in_err-count-clause-caused : goal.returns-in_err-count-clause-caused
 returns-in_err-count-clause-caused g c tells =
@@ -431,7 +459,8 @@ returns-in_err-count-clause-caused g c tells =
     let command = commands.Index c.args.label.now c.args.key.now in
     let fault = c.in_err-count.field-0.0 in
     fault_exit of_make (IsCaused command s t names now) fault c.from_residual-in_err-count.result c.from_residual-in_err-count.ensures.1
-    (make_caused (g.S.Reads.state c.intern-2.new.space) names now label key c.in_ok-label.label c.in_ok-key.key s t (named_for g (goal.at.returns-in_err-count-clause-caused g c).After-make tells) fault (c.in_err-count.ensures.caused tells))
+    (make_caused (g.S.Reads.state c.intern-2.new.space) names now label key c.in_ok-label.label c.in_ok-key.key s t
+    (named_for g (goal.at.returns-in_err-count-clause-caused g c).After-make tells) fault (c.in_err-count.ensures.caused tells))
 
 pub returns-in_err-count-clause-still : goal.returns-in_err-count-clause-still
 returns-in_err-count-clause-still g c tells =
@@ -478,7 +507,8 @@ returns-in_err-count-clause-damaged g c tells known uses =
     (c.in_ok-key.ensures.ok tells) in
     let same = named_read s m n t names known c.intern.new.self.names label key c.test_pair.ensures.same first uses used second in
     fault_exit of_make (BlamesMaking s named) fault c.from_residual-in_err-count.result c.from_residual-in_err-count.ensures.1
-    (blames_more _ _ (λ damage broken. inr (subst (λ (z : State). IsBroken z damage) same broken)) (of_make fault) (make_blamed t fault (c.in_err-count.ensures.damaged tells)))
+    (blames_more _ _ (λ damage broken. inr (subst (λ (z : State). IsBroken z damage) same broken)) (of_make fault)
+    (make_blamed t fault (c.in_err-count.ensures.damaged tells)))
 
 pub returns-in_err-count-clause-counts : goal.returns-in_err-count-clause-counts
 returns-in_err-count-clause-counts g c tells whole =
@@ -490,7 +520,8 @@ returns-in_err-count-clause-counts g c tells whole =
     let key = c.args.key.now in
     let fault = c.in_err-count.field-0.0 in
     fault_exit of_make (IsCounted s) fault c.from_residual-in_err-count.result c.from_residual-in_err-count.ensures.1
-    (caused_counted s t names now label key (of_make fault) (make_caused (g.S.Reads.state c.intern-2.new.space) names now label key c.in_ok-label.label c.in_ok-key.key s t (named_for g (goal.at.returns-in_err-count-clause-counts g c).After-make tells) fault (c.in_err-count.ensures.caused tells)))
+    (caused_counted s t names now label key (of_make fault) (make_caused (g.S.Reads.state c.intern-2.new.space) names now label key c.in_ok-label.label
+    c.in_ok-key.key s t (named_for g (goal.at.returns-in_err-count-clause-counts g c).After-make tells) fault (c.in_err-count.ensures.caused tells)))
 
 pub returns-in_err-count-clause-leaves : goal.returns-in_err-count-clause-leaves
 returns-in_err-count-clause-leaves g c tells =
@@ -498,7 +529,8 @@ returns-in_err-count-clause-leaves g c tells =
     let t = g.S.Reads.state c.make.new.space in
     let fault = c.in_err-count.field-0.0 in
     fault_exit of_make (LeavesSpace s t) fault c.from_residual-in_err-count.result c.from_residual-in_err-count.ensures.1
-    (make_leaves (g.S.Reads.state c.intern-2.new.space) c.args.names.now.names c.intern-2.new.self.names c.args.label.now c.args.key.now c.in_ok-label.label c.in_ok-key.key s t (named_for g (goal.at.returns-in_err-count-clause-leaves g c).After-make tells) fault (c.in_err-count.ensures.caused tells))
+    (make_leaves (g.S.Reads.state c.intern-2.new.space) c.args.names.now.names c.intern-2.new.self.names c.args.label.now c.args.key.now c.in_ok-label.label
+    c.in_ok-key.key s t (named_for g (goal.at.returns-in_err-count-clause-leaves g c).After-make tells) fault (c.in_err-count.ensures.caused tells))
 
 pub returns-in_err-count-clause-refused_writes : goal.returns-in_err-count-clause-refused_writes
 returns-in_err-count-clause-refused_writes g c = on_any_err _ _ (made_written g (goal.at.returns-in_err-count-clause-refused_writes g c).After-make)
@@ -566,7 +598,8 @@ returns-clause-made g c tells whole =
 pub returns-clause-names_full : goal.returns-clause-names_full
 returns-clause-names_full g c used other many =
     let after = (goal.at.returns-clause-names_full g c).After-make in
-    let same = ap length (uses_once c.args.names.now.names (c.args.label.now ∷ c.args.key.now ∷ []) used c.intern-2.new.self.names other (c.intern.new.self.names, first_uses g after, (c.intern-2.new.self.names, last_uses g after, refl))) in
+    let same = ap length (uses_once c.args.names.now.names (c.args.label.now ∷ c.args.key.now ∷ []) used c.intern-2.new.self.names other
+    (c.intern.new.self.names, first_uses g after, (c.intern-2.new.self.names, last_uses g after, refl))) in
     let few = few_names g after in
     absurd (omega arith)
 

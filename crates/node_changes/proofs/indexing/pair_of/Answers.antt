@@ -23,7 +23,8 @@ returns-then-ne c =
     let same = c.if-label_number-key_number.true in
     subst (λ n. IsPairOf names label key (record { label = l; key = n + 1 })) same
     (pair_next names label key l c.number_of-label_number.ensures.is (subst (IsNumberOf names key) (sym same) c.number_of-key_number.ensures.is)
-    (λ e. other_text c.as_bytes.result.now c.as_bytes-then-label_number-key_number.result.now (told_other _ c.if-ne.ensures) (c.as_bytes.ensures ∙ e ∙ sym c.as_bytes-then-label_number-key_number.ensures)))
+    (λ e. other_text c.as_bytes.result.now c.as_bytes-then-label_number-key_number.result.now (told_other _ c.if-ne.ensures) (c.as_bytes.ensures ∙ e
+    ∙ sym c.as_bytes-then-label_number-key_number.ensures)))
 
 pub returns : goal.returns
 returns c =
@@ -34,6 +35,7 @@ returns c =
     c.number_of-key_number.ensures.is
     (elim c.else-label_number-key_number.branch [
       | else-label_number-key_number-via-then-label_number-key_number+else-ne w ↦ inr
-          (sym w.as_bytes.ensures ∙ same_text w.as_bytes.result.now w.as_bytes-then-label_number-key_number.result.now (told_same _ w.if-ne.ensures) ∙ w.as_bytes-then-label_number-key_number.ensures)
+          (sym w.as_bytes.ensures ∙ same_text w.as_bytes.result.now w.as_bytes-then-label_number-key_number.result.now (told_same _ w.if-ne.ensures)
+          ∙ w.as_bytes-then-label_number-key_number.ensures)
       | else-label_number-key_number-via-else-label_number-key_number w ↦ inl w.if-label_number-key_number.false
     ])

@@ -29,7 +29,8 @@ returns-in_err-listed-clause-refused g c tells whole =
     let command = commands.Index c.args.label.now c.args.key.now in
     let fault = c.in_err-listed.field-0.0 in
     fault_exit of_fault (IsRefusedBy pair_reasons s.shape.limit (graph_in s) command) fault c.from_residual.result c.from_residual.ensures.1
-    (outside_refused pair_reasons s.shape.limit (graph_in s) command (of_fault fault) (fault_outside Unit fault (c.in_err-listed.ensures.sound tells (wanted_in s.records) whole.store.indexes (store_room s whole.store.store))))
+    (outside_refused pair_reasons s.shape.limit (graph_in s) command (of_fault fault) (fault_outside Unit fault (c.in_err-listed.ensures.sound tells
+    (wanted_in s.records) whole.store.indexes (store_room s whole.store.store))))
 
 pub returns-in_err-listed-clause-caused : goal.returns-in_err-listed-clause-caused
 returns-in_err-listed-clause-caused g c tells =
@@ -68,7 +69,8 @@ returns-then-has_pair-clause-refused g c tells whole =
     let names = c.args.names.now.names in
     let pairs = c.in_ok-listed.listed.items in
     there_first s names whole c.args.label.now c.args.key.now
-    (listed_there s names whole c.args.label.now c.args.key.now pairs (c.in_ok-listed.ensures.listed tells (wanted_in s.records) whole.store.indexes) c.pair_of-pair.result c.pair_of-pair.ensures
+    (listed_there s names whole c.args.label.now c.args.key.now pairs (c.in_ok-listed.ensures.listed tells (wanted_in s.records) whole.store.indexes)
+    c.pair_of-pair.result c.pair_of-pair.ensures
     (sym (listed_is g (goal.at.returns-then-has_pair-clause-refused g c).After-has_pair) ∙ c.if-has_pair.true))
 
 pub returns-then-has_pair-clause-caused : goal.returns-then-has_pair-clause-caused
@@ -96,7 +98,8 @@ returns-then-len-ge-MOST_INDEXES-clause-refused g c tells whole =
     let m = c.deref.ensures.len in
     let v = ap length c.deref.ensures.value in
     let many = c.if-len-ge-MOST_INDEXES.true in
-    many_first s names whole c.args.label.now c.args.key.now (unlisted_free s names whole c.args.label.now c.args.key.now pairs are c.pair_of-pair.result c.pair_of-pair.ensures unlisted) (omega arith)
+    many_first s names whole c.args.label.now c.args.key.now (unlisted_free s names whole c.args.label.now c.args.key.now pairs are c.pair_of-pair.result
+    c.pair_of-pair.ensures unlisted) (omega arith)
 
 pub returns-then-len-ge-MOST_INDEXES-clause-caused : goal.returns-then-len-ge-MOST_INDEXES-clause-caused
 returns-then-len-ge-MOST_INDEXES-clause-caused g c tells =
@@ -124,7 +127,8 @@ returns-clause-may g c tells whole =
     let m = c.deref.ensures.len in
     let v = ap length c.deref.ensures.value in
     let few = c.if-len-ge-MOST_INDEXES.false in
-    may_index s names whole c.args.label.now c.args.key.now (unlisted_free s names whole c.args.label.now c.args.key.now pairs are c.pair_of-pair.result c.pair_of-pair.ensures unlisted) (omega arith)
+    may_index s names whole c.args.label.now c.args.key.now (unlisted_free s names whole c.args.label.now c.args.key.now pairs are c.pair_of-pair.result
+    c.pair_of-pair.ensures unlisted) (omega arith)
 
 pub returns-clause-tested : goal.returns-clause-tested
 returns-clause-tested g c tells =

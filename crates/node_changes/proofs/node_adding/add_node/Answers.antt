@@ -49,7 +49,8 @@ use Rattle.change_parts.proofs.Adding.{no_lists_then, node_damage, node_harms_no
 use Rattle.change_parts.proofs.Broken.{blames_both, blames_more}
 use Rattle.change_parts.proofs.DiskCauses.{change_cause_passed, later_on}
 use Rattle.node_changes.proofs.IndexBeside.{index_written, kinds_beside, touched_beside}
-use Rattle.node_changes.proofs.NodeEntries.{added_made, entries, entries_refused, keys_once, listed, node_low, pairs_then, prepared_read, room_then, whole_before}
+use Rattle.node_changes.proofs.NodeEntries.{added_made, entries, entries_refused, keys_once, listed, node_low, pairs_then, prepared_read, room_then}
+use Rattle.node_changes.proofs.NodeEntries.{whole_before}
 use Rattle.rec_bytes.proofs.Causes.{never_ok, ok_cause}
 use Rattle.node_changes.proofs.node_adding.add_node.Goals as goal
 use Rattle.node_changes.proofs.node_adding.add_node.Goals.{After-enter_values, After-listed_pairs, After-put_properties}
@@ -79,8 +80,10 @@ returns-in_err-prepared-clause-refused g c tells whole =
     let store = midway _ _ whole in
     let s = g.S.Reads.state c.args.space.now in
     subst (λ l. IfErr c.from_residual-in_err-prepared.result (IsRefusal s.shape.limit (graph_in s) (commands.Node c.args.label.now l))) c.as_slice-pairs.ensures
-    (fault_exit (λ f. f) (IsRefusal s.shape.limit (graph_in s) (commands.Node c.args.label.now c.as_slice-pairs.result.now)) c.in_err-prepared.field-0.0 c.from_residual-in_err-prepared.result c.from_residual-in_err-prepared.ensures.1
-    (line_refused s c.args.label.now c.as_slice-pairs.result.now (not_full s c.args.names.now.names store c.in_ok-test_room.ensures.room) c.in_err-prepared.field-0.0 (c.in_err-prepared.ensures.refused tells store)))
+    (fault_exit (λ f. f) (IsRefusal s.shape.limit (graph_in s) (commands.Node c.args.label.now c.as_slice-pairs.result.now)) c.in_err-prepared.field-0.0
+    c.from_residual-in_err-prepared.result c.from_residual-in_err-prepared.ensures.1
+    (line_refused s c.args.label.now c.as_slice-pairs.result.now (not_full s c.args.names.now.names store c.in_ok-test_room.ensures.room)
+    c.in_err-prepared.field-0.0 (c.in_err-prepared.ensures.refused tells store)))
 
 pub returns-in_err-prepared-clause-full : goal.returns-in_err-prepared-clause-full
 returns-in_err-prepared-clause-full g c whole full = let store = midway _ _ whole in
@@ -128,7 +131,8 @@ module _ (g : Over) (c : In_ok-listed g) (tells : g.S.Reads.tells) (whole : IsSt
   listed_is = subst (λ (y : State). (store : IsIndexed y.records y.shape) → c.in_ok-listed.listed.items ≡ map (pair_of y.records) store.indexes.definitions)
       (sym c.listed_pairs.ensures.same)
       (λ store. c.in_ok-listed.ensures.listed tells (wanted_in (read_from g back).records) store.indexes store.store)
-      (whole_before (before g back) (at_read g back) c.args.names.now.names c.prepare.new.names.names c.args.label.now c.as_slice-pairs.result.now c.in_ok-prepared.prepared whole (at_hand g back tells (midway _ _ whole))).store
+      (whole_before (before g back) (at_read g back) c.args.names.now.names c.prepare.new.names.names c.args.label.now c.as_slice-pairs.result.now
+      c.in_ok-prepared.prepared whole (at_hand g back tells (midway _ _ whole))).store
 
 -- where they are read without the rules
 listed_outside : (g : Over) (c : In_err-listed g) → g.S.Reads.tells → IsStore (g.S.Reads.state c.args.space.now) c.args.names.now.names
@@ -144,10 +148,12 @@ returns-in_err-listed-clause-refused g c tells whole =
     let command = commands.Node c.args.label.now c.args.pairs.now in
     fault_exit (λ f. f) (IsRefusal s.shape.limit (graph_in s) command) c.in_err-listed.field-0.0 c.from_residual-in_err-listed.result
     c.from_residual-in_err-listed.ensures.1
-    (outside_refused change_reasons s.shape.limit (graph_in s) command c.in_err-listed.field-0.0 (listed_outside g (goal.at.returns-in_err-listed-clause-refused g c).In_err-listed tells whole))
+    (outside_refused change_reasons s.shape.limit (graph_in s) command c.in_err-listed.field-0.0 (listed_outside g (goal.at.returns-in_err-listed-clause-refused
+    g c).In_err-listed tells whole))
 
 pub returns-in_err-listed-clause-full : goal.returns-in_err-listed-clause-full
-returns-in_err-listed-clause-full g c whole full = absurd (not_full (g.S.Reads.state c.args.space.now) c.args.names.now.names (midway _ _ whole) c.in_ok-test_room.ensures.room full)
+returns-in_err-listed-clause-full g c whole full = absurd (not_full (g.S.Reads.state c.args.space.now) c.args.names.now.names (midway _ _ whole)
+    c.in_ok-test_room.ensures.room full)
 
 pub returns-in_err-listed-clause-leaves : goal.returns-in_err-listed-clause-leaves
 returns-in_err-listed-clause-leaves g c tells =
@@ -157,7 +163,8 @@ returns-in_err-listed-clause-leaves g c tells =
     (late_leaves s u c.in_err-listed.field-0.0 (failure_late c.in_err-listed.field-0.0 c.in_err-listed.ensures.failure))
 
 pub returns-in_err-listed-clause-refused_writes : goal.returns-in_err-listed-clause-refused_writes
-returns-in_err-listed-clause-refused_writes g c = on_any_err _ _ (more_written (omega arith) (then_written c.prepare.ensures.few_writes (none_written _ _ c.listed_pairs.ensures.same)))
+returns-in_err-listed-clause-refused_writes g c = on_any_err _ _ (more_written (omega arith) (then_written c.prepare.ensures.few_writes
+    (none_written _ _ c.listed_pairs.ensures.same)))
 
 pub returns-in_err-listed-clause-counts : goal.returns-in_err-listed-clause-counts
 returns-in_err-listed-clause-counts g c tells whole =
@@ -184,7 +191,11 @@ returns-in_err-listed-clause-still g c tells =
     let command = commands.Node c.args.label.now c.args.pairs.now in
     let fault = c.in_err-listed.field-0.0 in
     fault_exit (λ f. f) (IsStillCaused command u names now) fault c.from_residual-in_err-listed.result c.from_residual-in_err-listed.ensures.1
-    (record { caused = failure_caused command u u names now fault c.in_err-listed.ensures.failure; damaged = broken_left z u c.listed_pairs.ensures.same fault (c.in_err-listed.ensures.damaged tells) })
+    (record {
+      caused = failure_caused command u u names now fault c.in_err-listed.ensures.failure;
+      damaged = broken_left z u c.listed_pairs.ensures.same fault
+          (c.in_err-listed.ensures.damaged tells);
+    })
 
 pub returns-in_err-listed-clause-damaged : goal.returns-in_err-listed-clause-damaged
 returns-in_err-listed-clause-damaged g c tells =
@@ -195,7 +206,12 @@ returns-in_err-listed-clause-damaged g c tells =
     let fault = c.in_err-listed.field-0.0 in
     fault_exit (λ f. f) (BlamesEntries s u) c.in_err-listed.field-0.0
     c.from_residual-in_err-listed.result c.from_residual-in_err-listed.ensures.1
-    (blames_more _ _ (λ damage k. inr ((k.0, subst (λ (y : State). IsBroken y damage) (sym c.listed_pairs.ensures.same) k.1), names_leave s u (beside_names g after tells) damage k.0)) fault (blames_both IsOfIndex (IsBroken z) fault (c.in_err-listed.ensures.names tells) (c.in_err-listed.ensures.damaged tells)))
+    (blames_more _ _ (λ damage k. inr (
+      (k.0, subst (λ (y : State). IsBroken y damage) (sym c.listed_pairs.ensures.same) k.1),
+      names_leave s u
+          (beside_names g after tells) damage k.0,
+    )) fault (blames_both IsOfIndex (IsBroken z) fault (c.in_err-listed.ensures.names tells)
+    (c.in_err-listed.ensures.damaged tells)))
 
 pub returns-in_err-listed-clause-cause : goal.returns-in_err-listed-clause-cause
 returns-in_err-listed-clause-cause g c =
@@ -220,20 +236,24 @@ returns-in_err-test_room-2-clause-refused g c tells whole =
     let fault = c.in_err-test_room-2.field-0.0 in
     subst (λ l. IfErr c.from_residual-in_err-test_room-2.result (IsRefusal s.shape.limit (graph_in s) (commands.Node c.args.label.now l)))
     c.as_slice-pairs.ensures
-    (fault_exit (λ f. f) (IsRefusal s.shape.limit (graph_in s) (commands.Node c.args.label.now c.as_slice-pairs.result.now)) fault c.from_residual-in_err-test_room-2.result c.from_residual-in_err-test_room-2.ensures.1
-    (entries_refused s u c.args.names.now.names c.prepare.new.names.names c.args.label.now c.as_slice-pairs.result.now c.in_ok-prepared.prepared whole (at_hand g at.After-listed_pairs tells store)
+    (fault_exit (λ f. f) (IsRefusal s.shape.limit (graph_in s) (commands.Node c.args.label.now c.as_slice-pairs.result.now))
+    fault c.from_residual-in_err-test_room-2.result c.from_residual-in_err-test_room-2.ensures.1
+    (entries_refused s u c.args.names.now.names c.prepare.new.names.names c.args.label.now c.as_slice-pairs.result.now c.in_ok-prepared.prepared whole
+    (at_hand g at.After-listed_pairs tells store)
     (not_full s c.args.names.now.names store c.in_ok-test_room.ensures.room) fault
     (subst (λ n. LacksRoom u format.index_file n fault) (entries_are g at.After-entry_count-entries tells whole) c.in_err-test_room-2.ensures.full)))
 
 pub returns-in_err-test_room-2-clause-full : goal.returns-in_err-test_room-2-clause-full
-returns-in_err-test_room-2-clause-full g c whole full = absurd (not_full (g.S.Reads.state c.args.space.now) c.args.names.now.names (midway _ _ whole) c.in_ok-test_room.ensures.room full)
+returns-in_err-test_room-2-clause-full g c whole full = absurd (not_full (g.S.Reads.state c.args.space.now) c.args.names.now.names (midway _ _ whole)
+    c.in_ok-test_room.ensures.room full)
 
 pub returns-in_err-test_room-2-clause-counts : goal.returns-in_err-test_room-2-clause-counts
 returns-in_err-test_room-2-clause-counts g c tells whole =
     let s = g.S.Reads.state c.args.space.now in
     let u = g.S.Reads.state c.listed_pairs.new.space in
     fault_exit (λ f. f) (IsCounted s) c.in_err-test_room-2.field-0.0 c.from_residual-in_err-test_room-2.result c.from_residual-in_err-test_room-2.ensures.1
-    (room_counted s u format.index_file c.entry_count-entries.result (index_meta g (goal.at.returns-in_err-test_room-2-clause-counts g c).After-listed_pairs tells) c.in_err-test_room-2.field-0.0 c.in_err-test_room-2.ensures.full)
+    (room_counted s u format.index_file c.entry_count-entries.result (index_meta g (goal.at.returns-in_err-test_room-2-clause-counts g c).After-listed_pairs
+    tells) c.in_err-test_room-2.field-0.0 c.in_err-test_room-2.ensures.full)
 
 -- the indexes have at most one entry for each property
 asked : (g : Over) (c : After-entry_count-entries g) (records : Records) (now : List (List ℕ))
@@ -258,7 +278,8 @@ returns-in_err-test_room-2-clause-caused g c tells =
     subst (λ l. IfErr c.from_residual-in_err-test_room-2.result (IsCaused (commands.Node c.args.label.now l) s u names now)) c.as_slice-pairs.ensures
     (fault_exit (λ f. f) (IsCaused command s u names now) fault c.from_residual-in_err-test_room-2.result c.from_residual-in_err-test_room-2.ensures.1
     (room_caused command s u names now format.index_file c.entry_count-entries.result (asked g at.After-entry_count-entries s.records now) fault
-    (room_before s u format.index_file c.entry_count-entries.result (index_meta g at.After-listed_pairs tells) (same_shape g at.After-listed_pairs) fault c.in_err-test_room-2.ensures.full)))
+    (room_before s u format.index_file c.entry_count-entries.result (index_meta g at.After-listed_pairs tells) (same_shape g at.After-listed_pairs)
+    fault c.in_err-test_room-2.ensures.full)))
 
 pub returns-in_err-test_room-2-clause-still : goal.returns-in_err-test_room-2-clause-still
 returns-in_err-test_room-2-clause-still g c tells =
@@ -270,7 +291,12 @@ returns-in_err-test_room-2-clause-still g c tells =
     let fault = c.in_err-test_room-2.field-0.0 in
     subst (λ l. IfErr c.from_residual-in_err-test_room-2.result (IsStillCaused (commands.Node c.args.label.now l) u names now)) c.as_slice-pairs.ensures
     (fault_exit (λ f. f) (IsStillCaused command u names now) fault c.from_residual-in_err-test_room-2.result c.from_residual-in_err-test_room-2.ensures.1
-    (record { caused = room_caused command u u names now format.index_file c.entry_count-entries.result (asked g at.After-entry_count-entries u.records now) fault c.in_err-test_room-2.ensures.full; damaged = room_blamed _ u format.index_file c.entry_count-entries.result fault c.in_err-test_room-2.ensures.full }))
+    (record {
+      caused = room_caused command u u names now format.index_file c.entry_count-entries.result (asked g at.After-entry_count-entries u.records now)
+          fault c.in_err-test_room-2.ensures.full;
+      damaged = room_blamed _ u format.index_file c.entry_count-entries.result fault
+          c.in_err-test_room-2.ensures.full;
+    }))
 
 pub returns-in_err-test_room-2-clause-damaged : goal.returns-in_err-test_room-2-clause-damaged
 returns-in_err-test_room-2-clause-damaged g c tells =
@@ -281,7 +307,8 @@ returns-in_err-test_room-2-clause-damaged g c tells =
     (room_blamed _ u format.index_file c.entry_count-entries.result c.in_err-test_room-2.field-0.0 c.in_err-test_room-2.ensures.full)
 
 pub returns-in_err-test_room-2-clause-refused_writes : goal.returns-in_err-test_room-2-clause-refused_writes
-returns-in_err-test_room-2-clause-refused_writes g c = on_any_err _ _ (more_written (omega arith) (then_written c.prepare.ensures.few_writes (none_written _ _ c.listed_pairs.ensures.same)))
+returns-in_err-test_room-2-clause-refused_writes g c = on_any_err _ _ (more_written (omega arith) (then_written c.prepare.ensures.few_writes
+    (none_written _ _ c.listed_pairs.ensures.same)))
 
 -- ---- the node's record
 -- only the machine can fail
@@ -290,7 +317,8 @@ node_outside : (g : Over) (c : In_err-id g) → g.S.Reads.tells → IsMidway (g.
 node_outside g c tells store =
     let kept = (at_hand g (goal.at.In_err-id g c).After-listed_pairs tells store).kept in
     c.in_err-id.ensures.sound tells c.prepare.new.names.names kept.store
-    (room_kept (g.S.Reads.state c.args.space.now) c.args.names.now.names store (g.S.Reads.state c.listed_pairs.new.space) c.prepare.new.names.names kept c.in_ok-test_room.ensures.room)
+    (room_kept (g.S.Reads.state c.args.space.now) c.args.names.now.names store (g.S.Reads.state c.listed_pairs.new.space) c.prepare.new.names.names kept
+    c.in_ok-test_room.ensures.room)
 
 pub returns-in_err-id-clause-refused : goal.returns-in_err-id-clause-refused
 returns-in_err-id-clause-refused g c tells whole =
@@ -299,7 +327,8 @@ returns-in_err-id-clause-refused g c tells whole =
     let command = commands.Node c.args.label.now c.args.pairs.now in
     fault_exit (λ f. f) (IsRefusal s.shape.limit (graph_in s) command) c.in_err-id.field-0.0 c.from_residual-in_err-id.result
     c.from_residual-in_err-id.ensures.1
-    (outside_refused change_reasons s.shape.limit (graph_in s) command c.in_err-id.field-0.0 (node_outside g (goal.at.returns-in_err-id-clause-refused g c).In_err-id tells store))
+    (outside_refused change_reasons s.shape.limit (graph_in s) command c.in_err-id.field-0.0 (node_outside g (goal.at.returns-in_err-id-clause-refused g
+    c).In_err-id tells store))
 
 pub returns-in_err-id-clause-full : goal.returns-in_err-id-clause-full
 returns-in_err-id-clause-full g c whole full = let store = midway _ _ whole in
@@ -310,10 +339,12 @@ returns-in_err-id-clause-leaves g c tells =
     let s = g.S.Reads.state c.args.space.now in
     let v = g.S.Reads.state c.put_node.new.space in
     fault_exit (λ f. f) (LeavesSpace s v) c.in_err-id.field-0.0 c.from_residual-in_err-id.result c.from_residual-in_err-id.ensures.1
-    (late_leaves s v c.in_err-id.field-0.0 (failure_late c.in_err-id.field-0.0 (c.in_err-id.ensures.failure tells (room_there g (goal.at.returns-in_err-id-clause-leaves g c).After-listed_pairs tells))))
+    (late_leaves s v c.in_err-id.field-0.0 (failure_late c.in_err-id.field-0.0 (c.in_err-id.ensures.failure tells
+    (room_there g (goal.at.returns-in_err-id-clause-leaves g c).After-listed_pairs tells))))
 
 pub returns-in_err-id-clause-refused_writes : goal.returns-in_err-id-clause-refused_writes
-returns-in_err-id-clause-refused_writes g c = on_any_err _ _ (more_written (omega arith) (then_written c.prepare.ensures.few_writes (then_written (none_written _ _ c.listed_pairs.ensures.same) c.in_err-id.ensures.err_writes)))
+returns-in_err-id-clause-refused_writes g c = on_any_err _ _ (more_written (omega arith) (then_written c.prepare.ensures.few_writes
+    (then_written (none_written _ _ c.listed_pairs.ensures.same) c.in_err-id.ensures.err_writes)))
 
 -- ---- its properties
 puts : (g : Over) (c : In_ok-id g) → g.S.Reads.tells → IsMidway (g.S.Reads.state c.args.space.now) c.args.names.now.names
@@ -329,7 +360,8 @@ can g c tells store =
     let at = goal.at.After-put_properties g c in
     subst (CanPut (g.S.Reads.state c.put_node.new.space) c.prepare.new.names.names (targets.Node c.in_ok-id.id) c.as_slice-pairs.result.now)
     (sym c.deref-3.ensures.0)
-    (can_put (g.S.Reads.state c.args.space.now) (g.S.Reads.state c.listed_pairs.new.space) (g.S.Reads.state c.put_node.new.space) c.args.names.now.names c.prepare.new.names.names c.args.label.now c.as_slice-pairs.result.now c.in_ok-id.id c.in_ok-prepared.prepared store
+    (can_put (g.S.Reads.state c.args.space.now) (g.S.Reads.state c.listed_pairs.new.space) (g.S.Reads.state c.put_node.new.space) c.args.names.now.names
+    c.prepare.new.names.names c.args.label.now c.as_slice-pairs.result.now c.in_ok-id.id c.in_ok-prepared.prepared store
     (at_hand g at.After-listed_pairs tells store) (puts g at.In_ok-id tells store) ((g.met.S.Reads.onward_shape _ _ c.put_node.ensures.onward)))
 
 properties_outside : (g : Over) (c : In_err-put_properties g) → g.S.Reads.tells → IsMidway (g.S.Reads.state c.args.space.now) c.args.names.now.names
@@ -339,7 +371,8 @@ properties_outside g c tells store =
     c.in_err-put_properties.ensures.sound tells c.prepare.new.names.names (targets.Node c.in_ok-id.id) c.node_owner.ensures
     (can g at.After-put_properties tells store)
     (subst (λ l. HasPropertyRoom (g.S.Reads.state c.put_node.new.space) (length l) (assigned_blocks c.as_slice-pairs.result.now l)) (sym c.deref-3.ensures.0)
-    (put_room (g.S.Reads.state c.args.space.now) (g.S.Reads.state c.listed_pairs.new.space) (g.S.Reads.state c.put_node.new.space) c.args.names.now.names c.prepare.new.names.names c.args.label.now c.as_slice-pairs.result.now c.in_ok-id.id c.in_ok-prepared.prepared store
+    (put_room (g.S.Reads.state c.args.space.now) (g.S.Reads.state c.listed_pairs.new.space) (g.S.Reads.state c.put_node.new.space) c.args.names.now.names
+    c.prepare.new.names.names c.args.label.now c.as_slice-pairs.result.now c.in_ok-id.id c.in_ok-prepared.prepared store
     (at_hand g at.After-listed_pairs tells store) (puts g at.In_ok-id tells store) ((g.met.S.Reads.onward_shape _ _ c.put_node.ensures.onward))))
 
 pub returns-in_err-put_properties-clause-refused : goal.returns-in_err-put_properties-clause-refused
@@ -349,7 +382,8 @@ returns-in_err-put_properties-clause-refused g c tells whole =
     let command = commands.Node c.args.label.now c.args.pairs.now in
     fault_exit (λ f. f) (IsRefusal s.shape.limit (graph_in s) command) c.in_err-put_properties.field-0.0 c.from_residual-in_err-put_properties.result
     c.from_residual-in_err-put_properties.ensures.1
-    (outside_refused change_reasons s.shape.limit (graph_in s) command c.in_err-put_properties.field-0.0 (properties_outside g (goal.at.returns-in_err-put_properties-clause-refused g c).In_err-put_properties tells store))
+    (outside_refused change_reasons s.shape.limit (graph_in s) command c.in_err-put_properties.field-0.0
+    (properties_outside g (goal.at.returns-in_err-put_properties-clause-refused g c).In_err-put_properties tells store))
 
 pub returns-in_err-put_properties-clause-full : goal.returns-in_err-put_properties-clause-full
 returns-in_err-put_properties-clause-full g c whole full = let store = midway _ _ whole in
@@ -370,7 +404,8 @@ returns-in_err-put_properties-clause-refused_writes g c =
     let b = ap (assigned_blocks pairs) c.deref-3.ensures.0 in
     let k = c.in_ok-prepared.ensures.weight in
     let l = c.in_ok-prepared.ensures.light in
-    on_any_err _ _ (more_written (omega arith) (then_written c.in_ok-prepared.ensures.writes (then_written (none_written _ _ c.listed_pairs.ensures.same) (then_written (beside_written refl c.in_ok-id.ensures.writes) c.in_err-put_properties.ensures.err_writes))))
+    on_any_err _ _ (more_written (omega arith) (then_written c.in_ok-prepared.ensures.writes (then_written (none_written _ _ c.listed_pairs.ensures.same)
+    (then_written (beside_written refl c.in_ok-id.ensures.writes) c.in_err-put_properties.ensures.err_writes))))
 
 -- ---- its entries
 module _ (g : Over) (c : After-enter_values g) where
@@ -402,7 +437,8 @@ module _ (g : Over) (c : After-enter_values g) where
   items = c.in_ok-prepared.prepared.assigned.items
 
   entered_many : length (indexed_of c.deref-4.result.now c.in_ok-prepared.prepared.label c.deref-5.result.now) ≡ c.entry_count-entries.result
-  entered_many = (λ i. length (indexed_of ((c.deref-4.ensures.value ∙ sym c.deref.ensures.value) i) c.in_ok-prepared.prepared.label ((c.deref-5.ensures.0 ∙ sym c.deref-2.ensures.0) i))) ∙ sym c.entry_count-entries.ensures.is
+  entered_many = (λ i. length (indexed_of ((c.deref-4.ensures.value ∙ sym c.deref.ensures.value) i) c.in_ok-prepared.prepared.label
+      ((c.deref-5.ensures.0 ∙ sym c.deref-2.ensures.0) i))) ∙ sym c.entry_count-entries.ensures.is
 
   few_entries : c.entry_count-entries.result ≤ 32
   few_entries = let a = c.entry_count-entries.ensures.few in let b = ap length c.deref-2.ensures.0 in let few = c.in_ok-prepared.ensures.few in
@@ -415,11 +451,13 @@ module _ (g : Over) (c : After-enter_values g) where
       let k = c.in_ok-prepared.ensures.weight in
       let owned = subst (λ (o : Owner). WritesBeside o.key (length c.deref-3.result.now + assigned_blocks pairs c.deref-3.result.now) v w) c.node_owner.ensures
       c.in_ok-put_properties.ensures.writes in
-      more_written (omega (arith, n, b, k)) (then_written c.in_ok-prepared.ensures.writes (then_written (none_written _ _ c.listed_pairs.ensures.same) (beside_written refl (beside_then c.in_ok-id.ensures.writes owned))))
+      more_written (omega (arith, n, b, k)) (then_written c.in_ok-prepared.ensures.writes (then_written (none_written _ _ c.listed_pairs.ensures.same)
+      (beside_written refl (beside_then c.in_ok-id.ensures.writes owned))))
 
   all_written : WritesAtMost (1 + c.in_ok-prepared.prepared.weight + 3 * c.entry_count-entries.result) s x
   all_written = let e = entered_many in more_written (omega (arith, e))
-      (then_written written (index_written (3 * length (indexed_of c.deref-4.result.now c.in_ok-prepared.prepared.label c.deref-5.result.now)) w x c.enter_values.ensures.touches))
+      (then_written written (index_written (3 * length (indexed_of c.deref-4.result.now c.in_ok-prepared.prepared.label c.deref-5.result.now))
+      w x c.enter_values.ensures.touches))
 
   same_then : v.shape ≡ u.shape
   same_then = g.met.S.Reads.onward_shape _ _ c.put_node.ensures.onward
@@ -445,14 +483,16 @@ module _ (g : Over) (c : After-enter_values g) where
     given = subst (λ l. GivesValues v w id pairs l) c.deref-3.ensures.0 (c.in_ok-put_properties.ensures.values tells names id c.node_owner.ensures can_there)
 
     pairs_here : ArePairsOf w (wanted_in v.records) c.deref-4.result.now
-    pairs_here = subst (λ l. ArePairsOf w (wanted_in v.records) l) (sym (c.deref-4.ensures.value ∙ listed_is g (goal.at.After-enter_values g c).In_ok-listed tells whole))
+    pairs_here = subst (λ l. ArePairsOf w (wanted_in v.records) l) (sym (c.deref-4.ensures.value ∙ listed_is g (goal.at.After-enter_values g c).In_ok-listed
+        tells whole))
         (pairs_then s u c.args.names.now.names names c.args.label.now pairs c.in_ok-prepared.prepared whole hand v id put_there same_then w put given)
 
     low : id < high w.records format.nodes_file
     low = node_low s u c.args.names.now.names names c.args.label.now pairs c.in_ok-prepared.prepared whole hand v id put_there same_then w put given
 
     once : AreKeysOnce c.deref-5.result.now
-    once = subst (λ l. AreKeysOnce l) (sym c.deref-5.ensures.0) (keys_once s u c.args.names.now.names names c.args.label.now pairs c.in_ok-prepared.prepared whole hand v id put_there same_then w put given)
+    once = subst (λ l. AreKeysOnce l) (sym c.deref-5.ensures.0) (keys_once s u c.args.names.now.names names c.args.label.now pairs c.in_ok-prepared.prepared
+        whole hand v id put_there same_then w put given)
 
     many : c.entry_count-entries.result ≡ entries s u c.args.names.now.names names c.args.label.now pairs c.in_ok-prepared.prepared whole hand
     many = entries_are g (goal.at.After-enter_values g c).After-entry_count-entries tells whole
@@ -462,7 +502,8 @@ module _ (g : Over) (c : After-enter_values g) where
 
     fits_then : HasRoom w format.index_file (length (indexed_of c.deref-4.result.now c.in_ok-prepared.prepared.label c.deref-5.result.now))
     fits_then = subst (λ n. HasRoom w format.index_file n) (sym (entered_many ∙ many))
-        (room_then s u c.args.names.now.names names c.args.label.now pairs c.in_ok-prepared.prepared whole hand v id put_there same_then w put given (g.met.S.Reads.onward_shape _ _ c.put_properties.ensures.onward) fits)
+        (room_then s u c.args.names.now.names names c.args.label.now pairs c.in_ok-prepared.prepared whole hand v id put_there same_then w put given
+        (g.met.S.Reads.onward_shape _ _ c.put_properties.ensures.onward) fits)
 
 entries_outside : (g : Over) (c : In_err-enter_values g) → g.S.Reads.tells → IsStore (g.S.Reads.state c.args.space.now) c.args.names.now.names
     → IsOutside c.in_err-enter_values.field-0.0
@@ -478,16 +519,19 @@ returns-in_err-enter_values-clause-refused g c tells whole =
     let command = commands.Node c.args.label.now c.args.pairs.now in
     fault_exit (λ f. f) (IsRefusal s.shape.limit (graph_in s) command) c.in_err-enter_values.field-0.0 c.from_residual-in_err-enter_values.result
     c.from_residual-in_err-enter_values.ensures.1
-    (outside_refused change_reasons s.shape.limit (graph_in s) command c.in_err-enter_values.field-0.0 (entries_outside g (goal.at.returns-in_err-enter_values-clause-refused g c).In_err-enter_values tells whole))
+    (outside_refused change_reasons s.shape.limit (graph_in s) command c.in_err-enter_values.field-0.0
+    (entries_outside g (goal.at.returns-in_err-enter_values-clause-refused g c).In_err-enter_values tells whole))
 
 pub returns-in_err-enter_values-clause-counts : goal.returns-in_err-enter_values-clause-counts
 returns-in_err-enter_values-clause-counts g c tells whole =
     let s = g.S.Reads.state c.args.space.now in
     fault_exit (λ f. f) (IsCounted s) c.in_err-enter_values.field-0.0 c.from_residual-in_err-enter_values.result c.from_residual-in_err-enter_values.ensures.1
-    (outside_counted s c.in_err-enter_values.field-0.0 (entries_outside g (goal.at.returns-in_err-enter_values-clause-counts g c).In_err-enter_values tells whole))
+    (outside_counted s c.in_err-enter_values.field-0.0 (entries_outside g (goal.at.returns-in_err-enter_values-clause-counts g c).In_err-enter_values tells
+    whole))
 
 pub returns-in_err-enter_values-clause-full : goal.returns-in_err-enter_values-clause-full
-returns-in_err-enter_values-clause-full g c whole full = absurd (not_full (g.S.Reads.state c.args.space.now) c.args.names.now.names (midway _ _ whole) c.in_ok-test_room.ensures.room full)
+returns-in_err-enter_values-clause-full g c whole full = absurd (not_full (g.S.Reads.state c.args.space.now) c.args.names.now.names (midway _ _ whole)
+    c.in_ok-test_room.ensures.room full)
 
 pub returns-in_err-enter_values-clause-leaves : goal.returns-in_err-enter_values-clause-leaves
 returns-in_err-enter_values-clause-leaves g c tells =
@@ -515,7 +559,7 @@ returns-in_err-enter_values-clause-damaged g c tells =
     let from : LeavesIndexes p w = λ damage of. later damage of ∙ ap (λ (z : State). z.records (key_in damage.file damage.id)) c.listed_pairs.ensures.same in
     let many : length c.deref-4.result.now ≡ length c.in_ok-listed.listed.items = ap length c.deref-4.ensures.value in
     let has = some_leaves p w (0 < length c.deref-4.result.now) from
-        (λ some. c.in_ok-listed.ensures.walked tells (subst (λ (n : ℕ). 0 < n) many some)) in
+    (λ some. c.in_ok-listed.ensures.walked tells (subst (λ (n : ℕ). 0 < n) many some)) in
     fault_exit (λ f. f) (BlamesEntries s x) fault c.from_residual-in_err-enter_values.result c.from_residual-in_err-enter_values.ensures.1
     (blames_more _ _ (λ damage told. found_before s w x damage left shape told.0 told.1) fault
     (blames_both _ _ fault (c.in_err-enter_values.ensures.blames tells) (c.in_err-enter_values.ensures.found tells has)))
@@ -547,7 +591,8 @@ returns-in_err-enter_values-clause-caused g c tells =
     let fault = c.in_err-enter_values.field-0.0 in
     subst (λ l. IfErr c.from_residual-in_err-enter_values.result (IsCaused (commands.Node c.args.label.now l) s x names now)) c.as_slice-pairs.ensures
     (fault_exit (λ f. f) (IsCaused command s x names now) fault c.from_residual-in_err-enter_values.result c.from_residual-in_err-enter_values.ensures.1
-    (entry_caused command s x names now (inr (refl, given_any g (goal.at.returns-in_err-enter_values-clause-caused g c).In_err-enter_values)) fault (c.in_err-enter_values.ensures.full tells)))
+    (entry_caused command s x names now (inr (refl, given_any g (goal.at.returns-in_err-enter_values-clause-caused g c).In_err-enter_values)) fault
+    (c.in_err-enter_values.ensures.full tells)))
 
 pub returns-in_err-enter_values-clause-still : goal.returns-in_err-enter_values-clause-still
 returns-in_err-enter_values-clause-still g c tells =
@@ -567,7 +612,8 @@ returns-in_err-enter_values-clause-still g c tells =
 pub returns-in_err-enter_values-clause-cause : goal.returns-in_err-enter_values-clause-cause
 returns-in_err-enter_values-clause-cause g c =
     change_cause_passed _ _ _ c.from_residual-in_err-enter_values.result c.in_err-enter_values.field-0.0
-    (later_on (later_on (later_on c.in_ok-prepared.ensures.cause.later c.in_ok-listed.ensures.cause.later) c.in_ok-id.ensures.cause.later) c.in_ok-put_properties.ensures.cause.later) c.in_err-enter_values.ensures.cause c.from_residual-in_err-enter_values.ensures.1
+    (later_on (later_on (later_on c.in_ok-prepared.ensures.cause.later c.in_ok-listed.ensures.cause.later) c.in_ok-id.ensures.cause.later)
+    c.in_ok-put_properties.ensures.cause.later) c.in_err-enter_values.ensures.cause c.from_residual-in_err-enter_values.ensures.1
 
 -- ---- the node is made
 pub returns-clause-made : goal.returns-clause-made
@@ -587,9 +633,12 @@ returns-clause-made g c tells whole =
     let e = c.in_ok-enter_values.ensures in
     subst (λ l. MakesChange (commands.Node c.args.label.now l) (NodeMade id) (1 + prepared.weight + 3 * c.entry_count-entries.result) s x names)
     c.as_slice-pairs.ensures
-    (added_made s u c.args.names.now.names names c.args.label.now pairs prepared whole (hand g after tells whole) v id (put_there g after tells whole) (same_then g after) w (put g after tells whole) (given g after tells whole)
-    x (touched_beside _ w x tells c.enter_values.ensures.touches) (e.graph tells (wanted_in v.records) here (low g after tells whole) lacks (once g after tells whole)) (e.keeps tells (wanted_in v.records) here (low g after tells whole) lacks (once g after tells whole))
-    (subst (λ l. AreIndexed x.records (with_assigned (wanted_in v.records) prepared.label id pairs l)) c.deref-5.ensures.0 (e.entered tells (wanted_in v.records) here (low g after tells whole) lacks (once g after tells whole)))
+    (added_made s u c.args.names.now.names names c.args.label.now pairs prepared whole (hand g after tells whole) v id (put_there g after tells whole)
+    (same_then g after) w (put g after tells whole) (given g after tells whole)
+    x (touched_beside _ w x tells c.enter_values.ensures.touches) (e.graph tells (wanted_in v.records) here (low g after tells whole) lacks
+    (once g after tells whole)) (e.keeps tells (wanted_in v.records) here (low g after tells whole) lacks (once g after tells whole))
+    (subst (λ l. AreIndexed x.records (with_assigned (wanted_in v.records) prepared.label id pairs l)) c.deref-5.ensures.0
+    (e.entered tells (wanted_in v.records) here (low g after tells whole) lacks (once g after tells whole)))
     (not_full s c.args.names.now.names (midway _ _ whole) c.in_ok-test_room.ensures.room) (fits g after tells whole)
     (1 + prepared.weight + 3 * c.entry_count-entries.result) (ap (λ n. 1 + prepared.weight + 3 * n) (many g after tells whole)))
 
@@ -601,12 +650,14 @@ returns-clause-sparse g c tells whole =
     let w = g.S.Reads.state c.put_properties.new.space in
     let x = g.S.Reads.state c.enter_values.new.space in
     let id = c.in_ok-id.id in
-    ap (λ (f : ℕ → ℕ). f id) (kinds_beside w.records x.records (touched_beside _ w x tells c.enter_values.ensures.touches) format.nodes_file refl (λ e. omega arith))
+    ap (λ (f : ℕ → ℕ). f id) (kinds_beside w.records x.records (touched_beside _ w x tells c.enter_values.ensures.touches) format.nodes_file refl
+    (λ e. omega arith))
     ∙ kind_kept v.records w.records (targets.Node id) (put g after tells whole).keeps format.nodes_file
     (record { no_properties = λ e. omega arith; no_strings = λ e. omega arith }) (λ e. omega arith) id ∙ (put_there g after tells whole).sparse
 
 pub returns-clause-full : goal.returns-clause-full
-returns-clause-full g c whole full = absurd (not_full (g.S.Reads.state c.args.space.now) c.args.names.now.names (midway _ _ whole) c.in_ok-test_room.ensures.room full)
+returns-clause-full g c whole full = absurd (not_full (g.S.Reads.state c.args.space.now) c.args.names.now.names (midway _ _ whole)
+    c.in_ok-test_room.ensures.room full)
 
 pub returns-clause-writes : goal.returns-clause-writes
 returns-clause-writes g c = all_written g (goal.at.returns-clause-writes g c).After-enter_values
@@ -615,7 +666,8 @@ pub returns-clause-weight : goal.returns-clause-weight
 returns-clause-weight g c =
     let few = few_entries g (goal.at.returns-clause-weight g c).After-enter_values in
     let k = c.in_ok-prepared.ensures.weighs in
-    subst (λ l. WeighsNode l (length c.prepare.new.names.names - length c.args.names.now.names) (1 + c.in_ok-prepared.prepared.weight + 3 * c.entry_count-entries.result)) c.as_slice-pairs.ensures
+    subst (λ l. WeighsNode l (length c.prepare.new.names.names - length c.args.names.now.names) (1 + c.in_ok-prepared.prepared.weight + 3 *
+    c.entry_count-entries.result)) c.as_slice-pairs.ensures
     (record { entries = c.entry_count-entries.result; few = few; is = omega (arith, k) })
 
 pub returns-clause-light : goal.returns-clause-light
@@ -638,7 +690,8 @@ returns-clause-unindexed g c tells bare =
     let none = c.in_ok-listed.ensures.none (ap (λ (m : Meta). m.live) (index_beside s z (c.in_ok-prepared.ensures.stays tells)) ∙ bare) in
     let n = c.entry_count-entries.ensures.is ∙ ap (λ l. length (indexed_of l label c.deref-2.result.now)) (c.deref.ensures.value ∙ none)
     ∙ none_listed label c.deref-2.result.now in
-    subst (λ l. 1 + c.in_ok-prepared.prepared.weight + 3 * c.entry_count-entries.result ≡ 1 + properties_weight (with_pairs no_properties l) + (length c.prepare.new.names.names - length c.args.names.now.names)) c.as_slice-pairs.ensures (omega (arith, k, n))
+    subst (λ l. 1 + c.in_ok-prepared.prepared.weight + 3 * c.entry_count-entries.result ≡ 1 + properties_weight (with_pairs no_properties l) +
+    (length c.prepare.new.names.names - length c.args.names.now.names)) c.as_slice-pairs.ensures (omega (arith, k, n))
 
 -- ---- what refusals count
 pub returns-in_err-test_room-clause-counts : goal.returns-in_err-test_room-clause-counts
@@ -665,7 +718,8 @@ returns-in_err-put_properties-clause-counts g c tells whole =
     let s = g.S.Reads.state c.args.space.now in
     fault_exit (λ f. f) (IsCounted s) c.in_err-put_properties.field-0.0 c.from_residual-in_err-put_properties.result
     c.from_residual-in_err-put_properties.ensures.1
-    (outside_counted s c.in_err-put_properties.field-0.0 (properties_outside g (goal.at.returns-in_err-put_properties-clause-counts g c).In_err-put_properties tells store))
+    (outside_counted s c.in_err-put_properties.field-0.0 (properties_outside g (goal.at.returns-in_err-put_properties-clause-counts g c).In_err-put_properties
+    tells store))
 
 -- ---- why it is refused over any records
 pub returns-in_err-test_room-clause-caused : goal.returns-in_err-test_room-clause-caused
@@ -683,7 +737,8 @@ returns-in_err-prepared-clause-caused g c tells =
     let names = c.args.names.now.names in
     let now = c.prepare.new.names.names in
     subst (λ l. IfErr c.from_residual-in_err-prepared.result (IsCaused (commands.Node c.args.label.now l) s t names now)) c.as_slice-pairs.ensures
-    (fault_exit (λ f. f) (IsCaused (commands.Node c.args.label.now c.as_slice-pairs.result.now) s t names now) c.in_err-prepared.field-0.0 c.from_residual-in_err-prepared.result c.from_residual-in_err-prepared.ensures.1
+    (fault_exit (λ f. f) (IsCaused (commands.Node c.args.label.now c.as_slice-pairs.result.now) s t names now) c.in_err-prepared.field-0.0
+    c.from_residual-in_err-prepared.result c.from_residual-in_err-prepared.ensures.1
     (line_node s t names now c.args.label.now c.as_slice-pairs.result.now c.in_err-prepared.field-0.0 (c.in_err-prepared.ensures.caused tells)))
 
 pub returns-in_err-id-clause-caused : goal.returns-in_err-id-clause-caused
@@ -709,8 +764,10 @@ returns-in_err-put_properties-clause-caused g c tells =
     let told = subst (λ l. IsPutCause t (length l) (assigned_blocks pairs l) c.in_err-put_properties.field-0.0) c.deref-3.ensures.0
     (c.in_err-put_properties.ensures.caused tells) in
     subst (λ l. IfErr c.from_residual-in_err-put_properties.result (IsCaused (commands.Node c.args.label.now l) s t names now)) c.as_slice-pairs.ensures
-    (fault_exit (λ f. f) (IsCaused (commands.Node c.args.label.now pairs) s t names now) c.in_err-put_properties.field-0.0 c.from_residual-in_err-put_properties.result c.from_residual-in_err-put_properties.ensures.1
-    (put_caused (commands.Node c.args.label.now pairs) s t names now pairs (length items) (assigned_blocks pairs items) needs.0 needs.1 (λ file any. inl any) c.in_err-put_properties.field-0.0 told))
+    (fault_exit (λ f. f) (IsCaused (commands.Node c.args.label.now pairs) s t names now) c.in_err-put_properties.field-0.0
+    c.from_residual-in_err-put_properties.result c.from_residual-in_err-put_properties.ensures.1
+    (put_caused (commands.Node c.args.label.now pairs) s t names now pairs (length items) (assigned_blocks pairs items) needs.0 needs.1 (λ file any. inl any)
+    c.in_err-put_properties.field-0.0 told))
 
 -- ---- which record is damaged
 pub returns-in_err-test_room-clause-damaged : goal.returns-in_err-test_room-clause-damaged
@@ -734,7 +791,8 @@ returns-in_err-id-clause-damaged g c tells =
     let after = (goal.at.returns-in_err-id-clause-damaged g c).After-listed_pairs in
     fault_exit (λ f. f) (BlamesEntries s (g.S.Reads.state c.put_node.new.space))
     c.in_err-id.field-0.0 c.from_residual-in_err-id.result c.from_residual-in_err-id.ensures.1
-    (blames_more _ _ (λ damage told. inl (node_damage s u (same_shape g after) (beside_names g after tells) damage told)) c.in_err-id.field-0.0 (c.in_err-id.ensures.damaged tells))
+    (blames_more _ _ (λ damage told. inl (node_damage s u (same_shape g after) (beside_names g after tells) damage told)) c.in_err-id.field-0.0
+    (c.in_err-id.ensures.damaged tells))
 
 pub returns-in_err-put_properties-clause-damaged : goal.returns-in_err-put_properties-clause-damaged
 returns-in_err-put_properties-clause-damaged g c tells =
@@ -746,7 +804,8 @@ returns-in_err-put_properties-clause-damaged g c tells =
     (node_harms_no_lists u v (g.met.S.Reads.onward_shape _ _ c.put_node.ensures.onward) (c.in_ok-id.ensures.beside tells)) in
     fault_exit (λ f. f) (BlamesEntries s (g.S.Reads.state c.put_properties.new.space))
     c.in_err-put_properties.field-0.0 c.from_residual-in_err-put_properties.result c.from_residual-in_err-put_properties.ensures.1
-    (blames_more _ _ (λ damage told. inl (lists_broken s damage (lists_before s v harmless damage told))) c.in_err-put_properties.field-0.0 (c.in_err-put_properties.ensures.damaged tells))
+    (blames_more _ _ (λ damage told. inl (lists_broken s damage (lists_before s v harmless damage told))) c.in_err-put_properties.field-0.0
+    (c.in_err-put_properties.ensures.damaged tells))
 
 pub returns-in_err-prepared-clause-cause : goal.returns-in_err-prepared-clause-cause
 returns-in_err-prepared-clause-cause g c =
@@ -773,7 +832,11 @@ returns-in_err-test_room-clause-still g c tells =
     let command = commands.Node c.args.label.now c.args.pairs.now in
     let fault = c.in_err-test_room.field-0.0 in
     fault_exit (λ f. f) (IsStillCaused command s names names) fault c.from_residual.result c.from_residual.ensures.1
-    (record { caused = room_caused command s s names names format.nodes_file 1 (inl (refl, refl)) fault c.in_err-test_room.ensures.full; damaged = room_blamed _ s format.nodes_file 1 fault c.in_err-test_room.ensures.full })
+    (record {
+      caused = room_caused command s s names names format.nodes_file 1 (inl (refl, refl)) fault c.in_err-test_room.ensures.full;
+      damaged = room_blamed _
+          s format.nodes_file 1 fault c.in_err-test_room.ensures.full;
+    })
 
 pub returns-in_err-prepared-clause-still : goal.returns-in_err-prepared-clause-still
 returns-in_err-prepared-clause-still g c tells =
@@ -784,7 +847,8 @@ returns-in_err-prepared-clause-still g c tells =
     let fault = c.in_err-prepared.field-0.0 in
     let why = c.in_err-prepared.ensures.still tells in
     subst (λ l. IfErr c.from_residual-in_err-prepared.result (IsStillCaused (commands.Node c.args.label.now l) t names now)) c.as_slice-pairs.ensures
-    (fault_exit (λ f. f) (IsStillCaused (commands.Node c.args.label.now pairs) t names now) fault c.from_residual-in_err-prepared.result c.from_residual-in_err-prepared.ensures.1
+    (fault_exit (λ f. f) (IsStillCaused (commands.Node c.args.label.now pairs) t names now) fault c.from_residual-in_err-prepared.result
+    c.from_residual-in_err-prepared.ensures.1
     (record { caused = line_node t t names now c.args.label.now pairs fault why; damaged = line_blamed _ t names c.args.label.now pairs fault why }))
 
 pub returns-in_err-id-clause-still : goal.returns-in_err-id-clause-still
@@ -796,7 +860,8 @@ returns-in_err-id-clause-still g c tells =
     let fault = c.in_err-id.field-0.0 in
     fault_exit (λ f. f) (IsStillCaused command t names now) fault c.from_residual-in_err-id.result c.from_residual-in_err-id.ensures.1
     (record {
-      caused = failure_caused command t t names now fault (c.in_err-id.ensures.failure tells (room_there g (goal.at.returns-in_err-id-clause-still g c).After-listed_pairs tells));
+      caused = failure_caused command t t names now fault (c.in_err-id.ensures.failure tells
+          (room_there g (goal.at.returns-in_err-id-clause-still g c).After-listed_pairs tells));
       damaged = c.in_err-id.ensures.still tells;
     })
 
@@ -813,7 +878,11 @@ returns-in_err-put_properties-clause-still g c tells =
     let told = subst (λ l. IsPutCause t (length l) (assigned_blocks pairs l) fault) c.deref-3.ensures.0 (c.in_err-put_properties.ensures.caused tells) in
     subst (λ l. IfErr c.from_residual-in_err-put_properties.result (IsStillCaused (commands.Node c.args.label.now l) t names now)) c.as_slice-pairs.ensures
     (fault_exit (λ f. f) (IsStillCaused command t names now) fault c.from_residual-in_err-put_properties.result c.from_residual-in_err-put_properties.ensures.1
-    (record { caused = put_caused command t t names now pairs (length items) (assigned_blocks pairs items) needs.0 needs.1 (λ file any. inl any) fault told; damaged = c.in_err-put_properties.ensures.still tells }))
+    (record {
+      caused = put_caused command t t names now pairs (length items) (assigned_blocks pairs items) needs.0 needs.1 (λ file any. inl any)
+          fault told;
+      damaged = c.in_err-put_properties.ensures.still tells;
+    }))
 
 pub returns-in_err-test_room-clause-made : goal.returns-in_err-test_room-clause-made
 returns-in_err-test_room-clause-made g c _ = never_ok c.from_residual.result _ _ c.from_residual.ensures.1

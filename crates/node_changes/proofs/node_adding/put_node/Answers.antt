@@ -27,7 +27,8 @@ pub returns-in_err-id-clause-sound : goal.returns-in_err-id-clause-sound
 returns-in_err-id-clause-sound g c tells names store room =
     let s = g.S.Reads.state c.args.space.now in
     fault_exit of_take IsOutside c.in_err-id.field-0.0 c.from_residual.result c.from_residual.ensures.1
-    (take_outside s format.nodes_file c.in_err-id.field-0.0 room (c.in_err-id.ensures.refused tells) (c.in_err-id.ensures.sound tells _ (store_can_take s names format.nodes_file refl refl store)))
+    (take_outside s format.nodes_file c.in_err-id.field-0.0 room (c.in_err-id.ensures.refused tells) (c.in_err-id.ensures.sound tells _
+    (store_can_take s names format.nodes_file refl refl store)))
 
 -- the shape after the identifier was taken
 took : (g : Over) (c : In_ok-id g) → g.S.Reads.tells → (g.S.Reads.state c.take.new.space).shape ≡ (g.S.Reads.state c.args.space.now).shape
@@ -63,7 +64,8 @@ returns-in_err-id-clause-err_writes g c = read_exit _ 1 _ _ c.in_err-id.ensures.
 
 pub returns-in_err-save-clause-err_writes : goal.returns-in_err-save-clause-err_writes
 returns-in_err-save-clause-err_writes g c =
-    on_any_err _ _ (then_written (taken_written format.nodes_file _ _ refl c.take.ensures.writes) (record_written (node_key c.new_row.result.id) _ _ refl c.save.ensures.writes))
+    on_any_err _ _ (then_written (taken_written format.nodes_file _ _ refl c.take.ensures.writes) (record_written (node_key c.new_row.result.id)
+    _ _ refl c.save.ensures.writes))
 
 -- ---- which record is damaged, and which ones differ
 pub returns-in_err-id-clause-damaged : goal.returns-in_err-id-clause-damaged

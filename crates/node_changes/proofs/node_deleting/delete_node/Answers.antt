@@ -130,7 +130,8 @@ returns-in_err-held-clause-refused g c tells whole =
     let command = commands.Delete (targets.Node c.args.id) in
     fault_exit (λ f. f) (IsRefusal s.shape.limit (graph_in s) command) c.in_err-held.field-0.0 c.from_residual-in_err-held.result
     c.from_residual-in_err-held.ensures.1
-    (outside_refused change_reasons s.shape.limit (graph_in s) command c.in_err-held.field-0.0 (c.in_err-held.ensures.sound tells (whole_read s m c.args.names.now.names (loaded g after) whole).store (used g after tells m (loaded g after))))
+    (outside_refused change_reasons s.shape.limit (graph_in s) command c.in_err-held.field-0.0 (c.in_err-held.ensures.sound tells
+    (whole_read s m c.args.names.now.names (loaded g after) whole).store (used g after tells m (loaded g after))))
 
 pub returns-in_err-held-clause-found : goal.returns-in_err-held-clause-found
 returns-in_err-held-clause-found g c tells =
@@ -139,7 +140,8 @@ returns-in_err-held-clause-found g c tells =
     let m = g.S.Reads.state c.load.new.space in
     let t = g.S.Reads.state c.held_values.new.space in
     fault_exit (λ f. f) (IsDeleteCause s t c.args.id) c.in_err-held.field-0.0 c.from_residual-in_err-held.result c.from_residual-in_err-held.ensures.1
-    (held_cause s t c.args.id c.in_err-held.field-0.0 c.in_err-held.ensures.failure (blames_more _ _ (λ damage broken. subst (λ (z : State). IsBroken z damage) (loaded g after) broken) c.in_err-held.field-0.0 (c.in_err-held.ensures.damaged tells (used g after tells m (loaded g after)))))
+    (held_cause s t c.args.id c.in_err-held.field-0.0 c.in_err-held.ensures.failure (blames_more _ _ (λ damage broken. subst (λ (z : State). IsBroken z damage)
+    (loaded g after) broken) c.in_err-held.field-0.0 (c.in_err-held.ensures.damaged tells (used g after tells m (loaded g after)))))
 
 pub returns-in_err-held-clause-refused_writes : goal.returns-in_err-held-clause-refused_writes
 returns-in_err-held-clause-refused_writes g c =
@@ -174,7 +176,8 @@ returns-in_err-dropped-clause-found g c tells =
     let used = node_in_use s (targets.Node c.args.id) c.args.id c.in-Some.node refl found in
     fault_exit of_fault (IsDeleteCause s t c.args.id) c.in_err-dropped.field-0.0 c.from_residual-in_err-dropped.result c.from_residual-in_err-dropped.ensures.1
     (drop_cause s n t c.args.id (read g after) c.in_err-dropped.field-0.0
-    (c.in_err-dropped.ensures.damaged tells (subst (IsInUse n.records) (sym c.node_owner.ensures) (subst (λ (z : State). IsInUse z.records (owner_of (targets.Node c.args.id))) (sym (read g after)) used))))
+    (c.in_err-dropped.ensures.damaged tells (subst (IsInUse n.records) (sym c.node_owner.ensures)
+    (subst (λ (z : State). IsInUse z.records (owner_of (targets.Node c.args.id))) (sym (read g after)) used))))
 
 -- the node's record, those of its properties and their blocks
 written : (g : Over) (c : After-give g) → WritesAtMost (1 + c.in_ok-dropped.dropped.properties + c.in_ok-dropped.dropped.blocks)
@@ -189,7 +192,8 @@ written g c =
     let drops = subst (λ (o : Owner). WritesBeside o.key count n u) c.node_owner.ensures c.in_ok-dropped.ensures.writes in
     let gives = this_written key u t (key ∷ meta_key_of format.nodes_file ∷ [])
     (λ q i. ⊎_elim (λ e. inl e) (λ j. inr (⊎_elim (λ e. among_metas format.nodes_file q refl e) (λ e. absurd e) j)) i) c.give.ensures.writes in
-    more_written (omega arith) (then_written (none_written s n (read g (goal.at.After-give g c).After-held_values)) (beside_written refl (beside_then drops gives)))
+    more_written (omega arith) (then_written (none_written s n (read g (goal.at.After-give g c).After-held_values))
+    (beside_written refl (beside_then drops gives)))
 
 pub returns-clause-writes : goal.returns-clause-writes
 returns-clause-writes g c =
@@ -212,7 +216,8 @@ returns-in_err-dropped-clause-refused_writes g c =
     let n = g.S.Reads.state c.held_values.new.space in
     let u = g.S.Reads.state c.drop_all.new.space in
     let touched = subst (λ (o : Owner). TouchesProperties g.S.Reads.tells (o.key ∷ []) 32 704 n u) c.node_owner.ensures c.drop_all.ensures.at_most in
-    on_any_err _ _ (more_written (omega arith) (then_written (none_written _ _ (read g (goal.at.returns-in_err-dropped-clause-refused_writes g c).After-held_values)) (touched_written refl touched)))
+    on_any_err _ _ (more_written (omega arith)
+    (then_written (none_written _ _ (read g (goal.at.returns-in_err-dropped-clause-refused_writes g c).After-held_values)) (touched_written refl touched)))
 
 pub returns-in_err-give-clause-refused_writes : goal.returns-in_err-give-clause-refused_writes
 returns-in_err-give-clause-refused_writes g c =
@@ -224,7 +229,8 @@ pub returns-in_err-entries-clause-refused_writes : goal.returns-in_err-entries-c
 returns-in_err-entries-clause-refused_writes g c =
     let p = c.in_ok-dropped.ensures.few_properties in
     let b = c.in_ok-dropped.ensures.few_blocks in
-    on_any_err _ _ (more_written (omega arith) (then_written (written g (goal.at.returns-in_err-entries-clause-refused_writes g c).After-give) (index_written 48 _ _ c.leave_values.ensures.at_most)))
+    on_any_err _ _ (more_written (omega arith) (then_written (written g (goal.at.returns-in_err-entries-clause-refused_writes g c).After-give)
+    (index_written 48 _ _ c.leave_values.ensures.at_most)))
 
 pub returns-clause-light : goal.returns-clause-light
 returns-clause-light g c = let p = c.in_ok-dropped.ensures.few_properties in let b = c.in_ok-dropped.ensures.few_blocks in let e =
@@ -277,13 +283,17 @@ module _ (g : Over) (c : After-leave_values g) (tells : g.S.Reads.tells) (whole 
       (c.in_ok-give.ensures.given tells)
 
   keeps : KeepsStore t
-  keeps = (gone_left (n g held_at) u t c.args.names.now.names c.args.id here used_here (lone g held_at tells (n g held_at) (read g held_at)) dropped owned_here drops (g.met.S.Reads.onward_shape _ _ c.drop_all.ensures.onward) (g.met.S.Reads.onward_shape _ _ c.give.ensures.onward) (c.in_ok-give.ensures.given tells)).store
+  keeps = (gone_left (n g held_at) u t c.args.names.now.names c.args.id here used_here (lone g held_at tells (n g held_at) (read g held_at)) dropped owned_here
+      drops (g.met.S.Reads.onward_shape _ _ c.drop_all.ensures.onward) (g.met.S.Reads.onward_shape _ _ c.give.ensures.onward)
+      (c.in_ok-give.ensures.given tells)).store
 
   -- the values that were held
   held_is : c.in_ok-held.held.items ≡ held_of (n g held_at).records (label_at (n g held_at).records c.args.id) c.args.id
       (map (pair_of (n g held_at).records) here.store.indexes.definitions)
-  held_is = subst (λ (z : State). (store : IsIndexed z.records z.shape) → c.in_ok-held.held.items ≡ held_of z.records (label_at z.records c.args.id) c.args.id (map (pair_of z.records) store.indexes.definitions)) (sym c.held_values.ensures.same)
-      (λ store. c.in_ok-held.ensures.held tells (record { store = store.store; indexes = store.indexes }) (used g held_at tells (m g held_at) (loaded g held_at)) (label g held_at tells (m g held_at) (loaded g held_at))
+  held_is = subst (λ (z : State). (store : IsIndexed z.records z.shape) → c.in_ok-held.held.items ≡ held_of z.records (label_at z.records c.args.id) c.args.id
+      (map (pair_of z.records) store.indexes.definitions)) (sym c.held_values.ensures.same)
+      (λ store. c.in_ok-held.ensures.held tells (record { store = store.store; indexes = store.indexes }) (used g held_at tells (m g held_at)
+      (loaded g held_at)) (label g held_at tells (m g held_at) (loaded g held_at))
       ∙ ap (λ l. held_of (m g held_at).records l c.args.id (map (pair_of (m g held_at).records) store.indexes.definitions))
       (label g held_at tells (m g held_at) (loaded g held_at))) here.store
 
@@ -295,7 +305,8 @@ returns-in_err-entries-clause-refused g c tells whole =
     let command = commands.Delete (targets.Node c.args.id) in
     fault_exit (λ f. f) (IsRefusal s.shape.limit (graph_in s) command) c.in_err-entries.field-0.0 c.from_residual-in_err-entries.result
     c.from_residual-in_err-entries.ensures.1
-    (outside_refused change_reasons s.shape.limit (graph_in s) command c.in_err-entries.field-0.0 (c.in_err-entries.ensures.sound tells (wanted_in n.records) (between g after tells whole) (keeps g after tells whole)))
+    (outside_refused change_reasons s.shape.limit (graph_in s) command c.in_err-entries.field-0.0 (c.in_err-entries.ensures.sound tells (wanted_in n.records)
+    (between g after tells whole) (keeps g after tells whole)))
 
 pub returns-in_err-entries-clause-found : goal.returns-in_err-entries-clause-found
 returns-in_err-entries-clause-found g c tells =
@@ -315,7 +326,8 @@ returns-in_err-entries-clause-found g c tells =
     let shape : e.shape ≡ s.shape = g.met.S.Reads.onward_shape _ _ c.give.ensures.onward ∙ g.met.S.Reads.onward_shape _ _ c.drop_all.ensures.onward
     ∙ ap (λ (z : State). z.shape) (read g after) in
     let from : LeavesIndexes m e = λ damage of. later damage of ∙ ap (λ (z : State). z.records (key_in damage.file damage.id)) c.held_values.ensures.same in
-    let has = some_leaves m e (0 < length c.deref.result.now) from (λ some. c.in_ok-held.ensures.walked tells (let len = ap length c.deref.ensures.value in omega (arith, some, len))) in
+    let has = some_leaves m e (0 < length c.deref.result.now) from (λ some. c.in_ok-held.ensures.walked tells (let len = ap length c.deref.ensures.value in
+    omega (arith, some, len))) in
     fault_exit (λ f. f) (IsDeleteCause s v c.args.id) fault c.from_residual-in_err-entries.result c.from_residual-in_err-entries.ensures.1
     (entry_cause s v c.args.id fault c.in_err-entries.ensures.failure
     (blames_more _ _ (λ damage told. found_before s e v damage left shape told.0 told.1) fault
@@ -334,10 +346,12 @@ returns-clause-made g c tells whole =
     let items = c.deref.result.now in
     made_read s n v names (commands.Delete (targets.Node c.args.id)) Done
     (1 + c.in_ok-dropped.dropped.properties + c.in_ok-dropped.dropped.blocks + c.in_ok-entries.entries) (read g held)
-    (gone_made n (g.S.Reads.state c.drop_all.new.space) t names c.args.id (here g after tells whole) (used_here g after tells whole) (lone g held tells n (read g held)) c.in_ok-dropped.dropped (owned_here g after tells whole) (drops g after tells whole)
+    (gone_made n (g.S.Reads.state c.drop_all.new.space) t names c.args.id (here g after tells whole) (used_here g after tells whole)
+    (lone g held tells n (read g held)) c.in_ok-dropped.dropped (owned_here g after tells whole) (drops g after tells whole)
     (g.met.S.Reads.onward_shape _ _ c.drop_all.ensures.onward) (g.met.S.Reads.onward_shape _ _ c.give.ensures.onward) (c.in_ok-give.ensures.given tells)
     (alone g after tells whole)
-    v (touched_beside c.in_ok-entries.entries t v tells e.touches) (e.graph tells (wanted_in n.records) (between g after tells whole) (keeps g after tells whole)) (e.keeps tells (wanted_in n.records) (between g after tells whole) (keeps g after tells whole))
+    v (touched_beside c.in_ok-entries.entries t v tells e.touches) (e.graph tells (wanted_in n.records) (between g after tells whole)
+    (keeps g after tells whole)) (e.keeps tells (wanted_in n.records) (between g after tells whole) (keeps g after tells whole))
     items (c.deref.ensures.value ∙ held_is g after tells whole) (e.left tells (wanted_in n.records) (between g after tells whole) (keeps g after tells whole))
     c.in_ok-entries.entries e.weight)
 
@@ -418,7 +432,8 @@ returns-in_err-give-clause-cause g c =
 pub returns-in_err-entries-clause-cause : goal.returns-in_err-entries-clause-cause
 returns-in_err-entries-clause-cause g c =
     change_cause_passed _ _ _ c.from_residual-in_err-entries.result c.in_err-entries.field-0.0
-    (later_on (later_on (later_on c.in_ok-node.ensures.cause.later c.in_ok-held.ensures.cause.later) c.in_ok-dropped.ensures.cause.later) c.in_ok-give.ensures.cause.later) c.in_err-entries.ensures.cause c.from_residual-in_err-entries.ensures.1
+    (later_on (later_on (later_on c.in_ok-node.ensures.cause.later c.in_ok-held.ensures.cause.later) c.in_ok-dropped.ensures.cause.later)
+    c.in_ok-give.ensures.cause.later) c.in_err-entries.ensures.cause c.from_residual-in_err-entries.ensures.1
 
 -- ---- the space goes on
 
@@ -426,7 +441,8 @@ gone_on : (g : Over) (c : After-give g) → g.S.Reads.onward c.args.space.now c.
 gone_on g c =
     let on = g.met.S.Reads.further_onward in
     on c.args.space.now c.drop_all.new.space c.give.new.space
-    (on c.args.space.now c.held_values.new.space c.drop_all.new.space (on c.args.space.now c.load.new.space c.held_values.new.space c.load.ensures.onward c.held_values.ensures.onward) c.drop_all.ensures.onward)
+    (on c.args.space.now c.held_values.new.space c.drop_all.new.space (on c.args.space.now c.load.new.space c.held_values.new.space c.load.ensures.onward
+    c.held_values.ensures.onward) c.drop_all.ensures.onward)
     c.give.ensures.onward
 
 pub returns-in_err-give-clause-onward : goal.returns-in_err-give-clause-onward
@@ -494,7 +510,11 @@ returns-in_err-dropped-clause-still g c tells =
     let command = commands.Delete (targets.Node c.args.id) in
     let fault = of_fault c.in_err-dropped.field-0.0 in
     fault_exit of_fault (IsStillCaused command t names names) c.in_err-dropped.field-0.0 c.from_residual-in_err-dropped.result
-    c.from_residual-in_err-dropped.ensures.1 (record { caused = failure_caused command t t names names fault (fault_fails c.in_err-dropped.field-0.0); damaged = any_blamed _ (λ damage. tt) fault })
+    c.from_residual-in_err-dropped.ensures.1 (record {
+      caused = failure_caused command t t names names fault (fault_fails c.in_err-dropped.field-0.0);
+      damaged =
+          any_blamed _ (λ damage. tt) fault;
+    })
 
 pub returns-in_err-give-clause-still : goal.returns-in_err-give-clause-still
 returns-in_err-give-clause-still g c tells =
@@ -511,7 +531,11 @@ returns-in_default-clause-still g c tells =
     let t = g.S.Reads.state c.load.new.space in
     let names = c.args.names.now.names in
     let read = same g (goal.at.returns-in_default-clause-still g c).After-load in
-    record { caused = caused_left (commands.Delete (targets.Node c.args.id)) s t t names names read (NoNode c.args.id) (refl, sym (sym c.in_default.is ∙ c.in_ok-node.ensures.found tells)); damaged = tt }
+    record {
+      caused = caused_left (commands.Delete (targets.Node c.args.id)) s t t names names read (NoNode c.args.id)
+          (refl, sym (sym c.in_default.is ∙ c.in_ok-node.ensures.found tells));
+      damaged = tt;
+    }
 
 pub returns-then-node-ne0-clause-still : goal.returns-then-node-ne0-clause-still
 returns-then-node-ne0-clause-still g c tells =
@@ -543,7 +567,8 @@ returns-in_err-held-clause-broken g c tells =
     let t = g.S.Reads.state c.held_values.new.space in
     let fault = c.in_err-held.field-0.0 in
     fault_exit (λ f. f) (BlamesBroken t) fault c.from_residual-in_err-held.result c.from_residual-in_err-held.ensures.1
-    (broken_left s t (read g after) fault (blames_more (IsBroken m) (IsBroken s) (λ damage broken. subst (λ (z : State). IsBroken z damage) (loaded g after) broken) fault (c.in_err-held.ensures.damaged tells (used g after tells m (loaded g after)))))
+    (broken_left s t (read g after) fault (blames_more (IsBroken m) (IsBroken s) (λ damage broken. subst (λ (z : State). IsBroken z damage) (loaded g after)
+    broken) fault (c.in_err-held.ensures.damaged tells (used g after tells m (loaded g after)))))
 
 pub returns-in_err-dropped-clause-broken : goal.returns-in_err-dropped-clause-broken
 returns-in_err-dropped-clause-broken g c tells =
@@ -553,7 +578,8 @@ returns-in_err-dropped-clause-broken g c tells =
     let t = g.S.Reads.state c.drop_all.new.space in
     let in_use = node_in_use s (targets.Node c.args.id) c.args.id c.in-Some.node refl (sym c.in-Some.is ∙ c.in_ok-node.ensures.found tells) in
     fault_exit of_fault (BlamesBroken t) c.in_err-dropped.field-0.0 c.from_residual-in_err-dropped.result c.from_residual-in_err-dropped.ensures.1
-    (unwritten_left n t c.in_err-dropped.field-0.0 (c.in_err-dropped.ensures.damaged tells (subst (IsInUse n.records) (sym c.node_owner.ensures) (subst (λ (z : State). IsInUse z.records (owner_of (targets.Node c.args.id))) (sym (read g after)) in_use)))
+    (unwritten_left n t c.in_err-dropped.field-0.0 (c.in_err-dropped.ensures.damaged tells (subst (IsInUse n.records) (sym c.node_owner.ensures)
+    (subst (λ (z : State). IsInUse z.records (owner_of (targets.Node c.args.id))) (sym (read g after)) in_use)))
     c.in_err-dropped.ensures.unwritten)
 
 pub returns-in_err-give-clause-broken : goal.returns-in_err-give-clause-broken

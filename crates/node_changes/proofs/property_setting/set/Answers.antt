@@ -81,7 +81,8 @@ returns-in_err-owner-clause-refused g c tells whole =
     let s = g.S.Reads.state c.args.space.now in
     fault_exit (λ f. f) (IsRefusal s.shape.limit (graph_in s) (commands.Set c.args.target c.args.key.now c.args.value.now)) c.in_err-owner.field-0.0
     c.from_residual.result c.from_residual.ensures.1
-    (set_missing s.shape.limit (graph_in s) c.args.target c.args.key.now c.args.value.now c.in_err-owner.field-0.0 (c.in_err-owner.ensures.refused tells c.args.names.now.names store))
+    (set_missing s.shape.limit (graph_in s) c.args.target c.args.key.now c.args.value.now c.in_err-owner.field-0.0 (c.in_err-owner.ensures.refused tells
+    c.args.names.now.names store))
 
 pub returns-in_err-number-clause-refused : goal.returns-in_err-number-clause-refused
 returns-in_err-number-clause-refused g c tells whole =
@@ -122,7 +123,8 @@ module _ (g : Over) (c : After-indexed_value g) (tells : g.S.Reads.tells) (store
   kept : KeepsElements (g.S.Reads.state c.find_owner.new.space) (g.S.Reads.state c.intern.new.space) c.intern.new.self.names
   kept = keeps_interned (g.S.Reads.state c.find_owner.new.space) (g.S.Reads.state c.intern.new.space) c.args.names.now.names c.intern.new.self.names
       c.args.key.now
-      (subst (λ k. g.S.Reads.state c.intern.new.space ≡ interned (g.S.Reads.state c.find_owner.new.space) c.args.names.now.names k) (text_is g c) (c.in_ok-number.ensures.ok tells))
+      (subst (λ k. g.S.Reads.state c.intern.new.space ≡ interned (g.S.Reads.state c.find_owner.new.space) c.args.names.now.names k) (text_is g c)
+      (c.in_ok-number.ensures.ok tells))
       (uses g c) c.requires.0 (room g c) store_found
 
   -- so it is after the value that was there was read
@@ -175,7 +177,8 @@ returns-in_err-held-clause-refused g c tells whole =
     let here = full_before g after tells whole in
     fault_exit (λ f. f) (IsRefusal s.shape.limit (graph_in s) command) c.in_err-held.field-0.0 c.from_residual-in_err-held.result
     c.from_residual-in_err-held.ensures.1
-    (outside_refused change_reasons s.shape.limit (graph_in s) command c.in_err-held.field-0.0 (c.in_err-held.ensures.sound tells (wanted_in i.records) here.store.indexes here.store.store (used_before g after tells)))
+    (outside_refused change_reasons s.shape.limit (graph_in s) command c.in_err-held.field-0.0 (c.in_err-held.ensures.sound tells (wanted_in i.records)
+    here.store.indexes here.store.store (used_before g after tells)))
 
 pub returns-in_err-held-clause-caused : goal.returns-in_err-held-clause-caused
 returns-in_err-held-clause-caused g c tells =
@@ -195,7 +198,8 @@ returns-in_err-held-clause-leaves g c tells =
     (late_leaves s t c.in_err-held.field-0.0 (failure_late c.in_err-held.field-0.0 c.in_err-held.ensures.failure))
 
 pub returns-in_err-held-clause-refused_writes : goal.returns-in_err-held-clause-refused_writes
-returns-in_err-held-clause-refused_writes g c = on_any_err _ _ (more_written (omega arith) (then_written (key_written g (goal.at.returns-in_err-held-clause-refused_writes g c).After-intern) (none_written _ _ c.indexed_value.ensures.same)))
+returns-in_err-held-clause-refused_writes g c = on_any_err _ _ (more_written (omega arith)
+    (then_written (key_written g (goal.at.returns-in_err-held-clause-refused_writes g c).After-intern) (none_written _ _ c.indexed_value.ensures.same)))
 
 pub returns-in_err-held-clause-cause : goal.returns-in_err-held-clause-cause
 returns-in_err-held-clause-cause g c =
@@ -216,16 +220,19 @@ returns-in_err-released-clause-leaves g c tells =
     let s = g.S.Reads.state c.args.space.now in
     let u = g.S.Reads.state c.set.new.space in
     fault_exit of_set (LeavesSpace s u) c.in_err-released.field-0.0 c.from_residual-in_err-released.result c.from_residual-in_err-released.ensures.1
-    (late_leaves s u (of_set c.in_err-released.field-0.0) (set_late _ _ _ (g.S.Reads.state c.set.new.space) c.in_err-released.field-0.0 (c.in_err-released.ensures.caused tells)))
+    (late_leaves s u (of_set c.in_err-released.field-0.0) (set_late _ _ _ (g.S.Reads.state c.set.new.space) c.in_err-released.field-0.0
+    (c.in_err-released.ensures.caused tells)))
 
 pub returns-in_err-number-clause-refused_writes : goal.returns-in_err-number-clause-refused_writes
-returns-in_err-number-clause-refused_writes g c = on_any_err _ _ (more_written (omega arith) (key_written g (goal.at.returns-in_err-number-clause-refused_writes g c).After-intern))
+returns-in_err-number-clause-refused_writes g c = on_any_err _ _ (more_written (omega arith) (key_written g (goal.at.returns-in_err-number-clause-refused_writes
+    g c).After-intern))
 
 pub returns-in_err-released-clause-refused_writes : goal.returns-in_err-released-clause-refused_writes
 returns-in_err-released-clause-refused_writes g c =
     let few = few_blocks c.args.value.now c.requires.1 in
     let own = subst (λ (o : Owner). is_meta_file o.key.file ≡ true) (sym c.in_ok-owner.ensures.owner) (own_record c.args.target) in
-    on_any_err _ _ (more_written (omega arith) (then_written (key_written g (goal.at.returns-in_err-released-clause-refused_writes g c).After-intern) (then_written (none_written _ _ c.indexed_value.ensures.same) (touched_written own c.set.ensures.at_most))))
+    on_any_err _ _ (more_written (omega arith) (then_written (key_written g (goal.at.returns-in_err-released-clause-refused_writes g c).After-intern)
+    (then_written (none_written _ _ c.indexed_value.ensures.same) (touched_written own c.set.ensures.at_most))))
 
 pub returns-clause-light : goal.returns-clause-light
 returns-clause-light g c =
@@ -285,14 +292,16 @@ module _ (g : Over) (c : After-change_entry g) where
 
     alone : SetsAlone n u (owner_of c.args.target) (listed_at n (owner_of c.args.target) owned element) c.in_ok-number.number c.args.value.now
         c.in_ok-released.released
-    alone = subst (λ (o : Owner). (es : List Property) → OwnsProperties n o es → IsKnownKey n c.in_ok-number.number → SetsAlone n u o es c.in_ok-number.number c.args.value.now c.in_ok-released.released) c.in_ok-owner.ensures.owner (c.in_ok-released.ensures.alone tells)
+    alone = subst (λ (o : Owner). (es : List Property) → OwnsProperties n o es → IsKnownKey n c.in_ok-number.number → SetsAlone n u o es c.in_ok-number.number
+        c.args.value.now c.in_ok-released.released) c.in_ok-owner.ensures.owner (c.in_ok-released.ensures.alone tells)
         (listed_at n (owner_of c.args.target) owned element) (owns_listed n (owner_of c.args.target) owned element) (known g after tells mid).known
 
     between : AreIndexed u.records (wanted_in n.records)
     between = indexes_between n u (owner_of c.args.target) sets.changes full_then.store.indexes
 
     is_held : IsIndexedValue n.records (map (pair_of n.records) full_then.store.indexes.definitions) c.args.target c.in_ok-number.number c.in_ok-held.held
-    is_held = subst (λ (z : State). (ix : AreIndexed z.records (wanted_in z.records)) → IsIndexedValue z.records (map (pair_of z.records) ix.definitions) c.args.target c.in_ok-number.number c.in_ok-held.held) (sym c.indexed_value.ensures.same)
+    is_held = subst (λ (z : State). (ix : AreIndexed z.records (wanted_in z.records)) → IsIndexedValue z.records (map (pair_of z.records) ix.definitions)
+        c.args.target c.in_ok-number.number c.in_ok-held.held) (sym c.indexed_value.ensures.same)
         (λ ix. c.in_ok-held.ensures.held tells (wanted_in i.records) ix (full_before g after tells whole).store.store (used_before g after tells))
         full_then.store.indexes
 
@@ -302,8 +311,10 @@ node_low : (g : Over) (c : After-change_entry g) (tells : g.S.Reads.tells) → I
 node_low g c tells whole =
     let n = g.S.Reads.state c.indexed_value.new.space in
     let change = sets g c tells whole in
-    let mark = ap (λ (r : Rec). (metas.meta_of r).high) (change.changes.changes.others (meta_key_of format.nodes_file) (λ e. omega arith) (λ e. omega arith) (λ e. let f = ap (λ (k : Key). k.id) e in omega arith) (λ e. let f = ap (λ (k : Key). k.id) e in omega arith) (meta_apart c.args.target)) in
-    subst (λ z. IfSome c.in_ok-held.held (λ h. h.node < z)) (sym mark) (held_low n.records c.args.target c.in_ok-number.number (map (pair_of n.records) (full_then g c tells whole).store.indexes.definitions) c.in_ok-held.held (is_held g c tells whole) (element g c tells whole).used)
+    let mark = ap (λ (r : Rec). (metas.meta_of r).high) (change.changes.changes.others (meta_key_of format.nodes_file) (λ e. omega arith) (λ e. omega arith)
+    (λ e. let f = ap (λ (k : Key). k.id) e in omega arith) (λ e. let f = ap (λ (k : Key). k.id) e in omega arith) (meta_apart c.args.target)) in
+    subst (λ z. IfSome c.in_ok-held.held (λ h. h.node < z)) (sym mark) (held_low n.records c.args.target c.in_ok-number.number (map (pair_of n.records)
+    (full_then g c tells whole).store.indexes.definitions) c.in_ok-held.held (is_held g c tells whole) (element g c tells whole).used)
   where
     meta_apart : (t : Target) → meta_key_of format.nodes_file ≢ key_in (owner_of t).key.file (owner_of t).key.id
     meta_apart (targets.Node id) e = let f = ap (λ (k : Key). k.file) e in omega arith
@@ -340,11 +351,13 @@ returns-clause-made g c tells whole =
           (wants_held n.records target number (map (pair_of n.records) ready.store.indexes.definitions) held (is_held g after tells whole));
     } in
     made_read s m v new (commands.Set target key value) Done weight c.find_owner.ensures.state
-    (set_any m old target key value (store_found g back tells mid) (there g back tells mid) n u v new number (uses g back) (kept_then g back tells mid) (few g back) (at g back)
+    (set_any m old target key value (store_found g back tells mid) (there g back tells mid) n u v new number (uses g back) (kept_then g back tells mid)
+    (few g back) (at g back)
     ready (owned g after) (element g after tells whole) c.in_ok-released.released change (g.met.S.Reads.onward_shape _ _ c.set.ensures.onward)
     (alone g after tells whole) held made (is_held g after tells whole)
     (g.met.S.Reads.onward_shape _ _ c.change_entry.ensures.onward) weight
-    (weight_is c.count-known.result c.count.result c.block_count.result (length old) (length new) (blocks_of value) c.in_ok-released.released c.in_ok-entries.entries (old_weight held + new_weight held) c.count-known.ensures.value c.count.ensures.value c.block_count.ensures.is entries.weight))
+    (weight_is c.count-known.result c.count.result c.block_count.result (length old) (length new) (blocks_of value) c.in_ok-released.released
+    c.in_ok-entries.entries (old_weight held + new_weight held) c.count-known.ensures.value c.count.ensures.value c.block_count.ensures.is entries.weight))
 
 pub returns-clause-writes : goal.returns-clause-writes
 returns-clause-writes g c =
@@ -359,7 +372,8 @@ returns-clause-writes g c =
     let weight = weight_is c.count-known.result c.count.result c.block_count.result (length old) (length new) (blocks_of c.args.value.now)
     c.in_ok-released.released c.in_ok-entries.entries c.in_ok-entries.entries c.count-known.ensures.value c.count.ensures.value c.block_count.ensures.is
     refl in
-    more_written (omega arith) (then_written (none_written s m c.find_owner.ensures.state) (then_written named (then_written (none_written _ _ c.indexed_value.ensures.same)
+    more_written (omega arith) (then_written (none_written s m c.find_owner.ensures.state)
+    (then_written named (then_written (none_written _ _ c.indexed_value.ensures.same)
     (then_written c.in_ok-released.ensures.writes (index_written c.in_ok-entries.entries u v c.in_ok-entries.ensures.touches)))))
 
 -- ---- what is counted
@@ -374,7 +388,8 @@ pub returns-in_err-number-clause-counts : goal.returns-in_err-number-clause-coun
 returns-in_err-number-clause-counts g c tells =
     let shape = (g.S.Reads.state c.args.space.now).shape in
     fault_exit of_intern (IsSetCount shape) c.in_err-number.field-0.0 c.from_residual-in_err-number.result c.from_residual-in_err-number.ensures.1
-    (named_exact shape (of_intern c.in_err-number.field-0.0) (count_full c.args.names.now.names c.as_bytes.result.now c.in_err-number.field-0.0 c.in_err-number.ensures.full_only))
+    (named_exact shape (of_intern c.in_err-number.field-0.0) (count_full c.args.names.now.names c.as_bytes.result.now c.in_err-number.field-0.0
+    c.in_err-number.ensures.full_only))
 
 pub returns-in_err-released-clause-counts : goal.returns-in_err-released-clause-counts
 returns-in_err-released-clause-counts g c tells =
@@ -383,7 +398,8 @@ returns-in_err-released-clause-counts g c tells =
     let shape : t.shape ≡ s.shape = g.met.S.Reads.onward_shape _ _ c.set.ensures.onward ∙ g.met.S.Reads.onward_shape _ _ c.indexed_value.ensures.onward
     ∙ g.met.S.Reads.onward_shape _ _ c.intern.ensures.onward ∙ g.met.S.Reads.onward_shape _ _ c.find_owner.ensures.onward in
     fault_exit of_set (IsSetCount s.shape) c.in_err-released.field-0.0 c.from_residual-in_err-released.result c.from_residual-in_err-released.ensures.1
-    (subst (λ (h : Shape). IsSetCount h (of_set c.in_err-released.field-0.0)) shape (set_exact _ _ _ t c.in_err-released.field-0.0 (c.in_err-released.ensures.caused tells)))
+    (subst (λ (h : Shape). IsSetCount h (of_set c.in_err-released.field-0.0)) shape (set_exact _ _ _ t c.in_err-released.field-0.0
+    (c.in_err-released.ensures.caused tells)))
 
 -- ---- why it is refused over any records
 pub returns-in_err-owner-clause-caused : goal.returns-in_err-owner-clause-caused
@@ -403,7 +419,8 @@ returns-in_err-number-clause-caused g c tells =
     let now = c.intern.new.self.names in
     let command = commands.Set c.args.target c.args.key.now c.args.value.now in
     fault_exit of_intern (IsCaused command s t names now) c.in_err-number.field-0.0 c.from_residual-in_err-number.result c.from_residual-in_err-number.ensures.1
-    (key_caused s t names now c.args.target c.args.key.now c.args.value.now c.in_err-number.field-0.0 (subst (λ k. IsFullFault names k c.in_err-number.field-0.0) c.as_bytes.ensures c.in_err-number.ensures.full_only))
+    (key_caused s t names now c.args.target c.args.key.now c.args.value.now c.in_err-number.field-0.0
+    (subst (λ k. IsFullFault names k c.in_err-number.field-0.0) c.as_bytes.ensures c.in_err-number.ensures.full_only))
 
 pub returns-in_err-released-clause-caused : goal.returns-in_err-released-clause-caused
 returns-in_err-released-clause-caused g c tells =
@@ -424,7 +441,8 @@ returns-in_err-released-clause-caused g c tells =
     let of = c.in_ok-owner.owner in
     let after = g.S.Reads.state c.indexed_value.new.space in
     let only = subst (λ (z : State). IsSetCause (IsCrowded z.records of number) (LacksMet z.records of number) blocks t fault) c.indexed_value.ensures.same
-    (set_cause_map _ _ (IsCrowded after.records of number) (LacksMet after.records of number) (λ k. k.0) (λ k. k.0) blocks t fault (c.in_err-released.ensures.caused tells)) in
+    (set_cause_map _ _ (IsCrowded after.records of number) (LacksMet after.records of number) (λ k. k.0) (λ k. k.0) blocks t fault
+    (c.in_err-released.ensures.caused tells)) in
     let why = subst (λ (o : Owner). IsSetCause (IsCrowded n.records o number) (LacksMet n.records o number) blocks t fault) c.in_ok-owner.ensures.owner only in
     fault_exit of_set (IsCaused command s t names now) fault c.from_residual-in_err-released.result c.from_residual-in_err-released.ensures.1
     (set_caused s t names now target c.args.key.now c.args.value.now number numbered n.records met fault why)
@@ -464,7 +482,8 @@ returns-in_err-released-clause-damaged g c tells =
     (subst (λ (z : State). IsInUse z.records (owner_of c.args.target)) (sym is) (interned_in_use m names key c.args.target used)) in
     fault_exit of_set (BlamesGiven s named (g.S.Reads.state c.set.new.space))
     c.in_err-released.field-0.0 c.from_residual-in_err-released.result c.from_residual-in_err-released.ensures.1
-    (value_blamed s named v (g.S.Reads.state c.set.new.space) same c.in_err-released.field-0.0 (c.in_err-released.ensures.damaged tells (subst (IsInUse v.records) (sym c.in_ok-owner.ensures.owner) kept)))
+    (value_blamed s named v (g.S.Reads.state c.set.new.space) same c.in_err-released.field-0.0 (c.in_err-released.ensures.damaged tells
+    (subst (IsInUse v.records) (sym c.in_ok-owner.ensures.owner) kept)))
 
 pub returns-in_err-number-clause-cause : goal.returns-in_err-number-clause-cause
 returns-in_err-number-clause-cause g c =
@@ -550,7 +569,8 @@ returns-in_err-entries-clause-leaves g c tells =
 pub returns-in_err-entries-clause-cause : goal.returns-in_err-entries-clause-cause
 returns-in_err-entries-clause-cause g c =
     change_cause_passed _ _ _ c.from_residual-in_err-entries.result c.in_err-entries.field-0.0
-    (later_on (later_on (later_on c.in_ok-owner.ensures.cause.later c.in_ok-number.ensures.cause.later) c.in_ok-held.ensures.cause.later) c.in_ok-released.ensures.cause.later)
+    (later_on (later_on (later_on c.in_ok-owner.ensures.cause.later c.in_ok-number.ensures.cause.later) c.in_ok-held.ensures.cause.later)
+    c.in_ok-released.ensures.cause.later)
     c.in_err-entries.ensures.cause c.from_residual-in_err-entries.ensures.1
 
 pub returns-in_err-held-clause-damaged : goal.returns-in_err-held-clause-damaged
@@ -567,7 +587,8 @@ returns-in_err-held-clause-damaged g c tells =
     (interned_read s m names key c.find_owner.ensures.state) in
     fault_exit (λ f. f) (BlamesGiven s named v) c.in_err-held.field-0.0
     c.from_residual-in_err-held.result c.from_residual-in_err-held.ensures.1
-    (blames_more _ _ (λ damage broken. inr (inl (subst (λ (z : State). IsBroken z damage) same broken))) c.in_err-held.field-0.0 (c.in_err-held.ensures.damaged tells (used_before g after tells)))
+    (blames_more _ _ (λ damage broken. inr (inl (subst (λ (z : State). IsBroken z damage) same broken))) c.in_err-held.field-0.0
+    (c.in_err-held.ensures.damaged tells (used_before g after tells)))
 
 pub returns-in_err-entries-clause-damaged : goal.returns-in_err-entries-clause-damaged
 returns-in_err-entries-clause-damaged g c tells =
@@ -592,9 +613,11 @@ returns-in_err-entries-clause-damaged g c tells =
     (owner_file c.in_ok-owner.owner c.args.target c.in_ok-owner.ensures.owner) tells c.set.ensures.at_most in
     let both : LeavesIndexes s u = λ damage of. later damage of ∙ leaves damage of in
     let shape : u.shape ≡ s.shape = g.met.S.Reads.onward_shape _ _ (g.met.S.Reads.further_onward _ _ _ c.find_owner.ensures.onward
-    (g.met.S.Reads.further_onward _ _ _ c.in_ok-number.ensures.onward (g.met.S.Reads.further_onward _ _ _ c.indexed_value.ensures.onward c.set.ensures.onward))) in
+    (g.met.S.Reads.further_onward _ _ _ c.in_ok-number.ensures.onward (g.met.S.Reads.further_onward _ _ _ c.indexed_value.ensures.onward
+    c.set.ensures.onward))) in
     let had = held_leaves t u c.in_ok-held.held
-    (λ damage of. later damage of ∙ ap (λ (z : State). z.records (key_in damage.file damage.id)) c.indexed_value.ensures.same) (c.in_ok-held.ensures.walked tells) in
+    (λ damage of. later damage of ∙ ap (λ (z : State). z.records (key_in damage.file damage.id)) c.indexed_value.ensures.same)
+    (c.in_ok-held.ensures.walked tells) in
     fault_exit (λ f. f) (BlamesGiven s named v) fault c.from_residual-in_err-entries.result c.from_residual-in_err-entries.ensures.1
     (blames_more _ _ (λ damage told. ⊎_elim (λ broken. inl broken) (λ found. inr (inr found)) (found_before s u v damage both shape told.0 told.1)) fault
     (blames_both _ _ fault (c.in_err-entries.ensures.blames tells) (c.in_err-entries.ensures.found tells had)))
@@ -618,7 +641,8 @@ pub returns-in_err-entries-clause-refused_writes : goal.returns-in_err-entries-c
 returns-in_err-entries-clause-refused_writes g c =
     let few = few_blocks c.args.value.now c.requires.1 in
     let own = subst (λ (o : Owner). is_meta_file o.key.file ≡ true) (sym c.in_ok-owner.ensures.owner) (own_record c.args.target) in
-    on_any_err _ _ (more_written (omega arith) (then_written (key_written g (goal.at.returns-in_err-entries-clause-refused_writes g c).After-intern) (then_written (none_written _ _ c.indexed_value.ensures.same)
+    on_any_err _ _ (more_written (omega arith) (then_written (key_written g (goal.at.returns-in_err-entries-clause-refused_writes g c).After-intern)
+    (then_written (none_written _ _ c.indexed_value.ensures.same)
     (then_written (touched_written own c.set.ensures.at_most) (index_written 6 _ _ c.change_entry.ensures.at_most)))))
 
 -- the space goes on
@@ -626,7 +650,9 @@ gone_on : (g : Over) (c : After-change_entry g) → g.S.Reads.onward c.args.spac
 gone_on g c =
     let on = g.met.S.Reads.further_onward in
     on c.args.space.now c.set.new.space c.change_entry.new.space
-    (on c.args.space.now c.indexed_value.new.space c.set.new.space (on c.args.space.now c.intern.new.space c.indexed_value.new.space (on c.args.space.now c.find_owner.new.space c.intern.new.space c.find_owner.ensures.onward c.intern.ensures.onward) c.indexed_value.ensures.onward) c.set.ensures.onward)
+    (on c.args.space.now c.indexed_value.new.space c.set.new.space (on c.args.space.now c.intern.new.space c.indexed_value.new.space
+    (on c.args.space.now c.find_owner.new.space c.intern.new.space c.find_owner.ensures.onward c.intern.ensures.onward) c.indexed_value.ensures.onward)
+    c.set.ensures.onward)
     c.change_entry.ensures.onward
 
 pub returns-in_err-entries-clause-onward : goal.returns-in_err-entries-clause-onward
@@ -652,7 +678,8 @@ returns-in_err-entries-clause-caused g c tells =
     let node = of_node g (goal.at.returns-in_err-entries-clause-caused g c).In_err-entries in
     fault_exit (λ f. f) (IsCaused (commands.Set c.args.target c.args.key.now c.args.value.now) s t names now) c.in_err-entries.field-0.0
     c.from_residual-in_err-entries.result c.from_residual-in_err-entries.ensures.1
-    (entry_caused (commands.Set c.args.target c.args.key.now c.args.value.now) s t names now (inr (refl, node)) c.in_err-entries.field-0.0 (c.in_err-entries.ensures.full tells))
+    (entry_caused (commands.Set c.args.target c.args.key.now c.args.value.now) s t names now (inr (refl, node)) c.in_err-entries.field-0.0
+    (c.in_err-entries.ensures.full tells))
 
 pub returns-in_err-entries-clause-still : goal.returns-in_err-entries-clause-still
 returns-in_err-entries-clause-still g c tells =
@@ -703,8 +730,10 @@ returns-in_err-entries-clause-refused g c tells whole =
     (node_low g after tells whole) in
     fault_exit (λ f. f) (IsRefusal s.shape.limit (graph_in s) command) fault c.from_residual-in_err-entries.result c.from_residual-in_err-entries.ensures.1
     (⊎_elim (λ outside. outside_refused change_reasons s.shape.limit (graph_in s) command fault outside)
-    (λ (k : LacksValue held × LacksRoom u format.index_file 1 fault). subst (λ (z : State). IsRefusal z.shape.limit (graph_in z) command fault) c.find_owner.ensures.state
-    (set_entry_refused m old target key value (store_found g back tells mid) (there g back tells mid) n u c.intern.new.self.names number (uses g back) (kept_then g back tells mid) (few g back) (at g back)
+    (λ (k : LacksValue held × LacksRoom u format.index_file 1 fault). subst (λ (z : State). IsRefusal z.shape.limit (graph_in z) command fault)
+    c.find_owner.ensures.state
+    (set_entry_refused m old target key value (store_found g back tells mid) (there g back tells mid) n u c.intern.new.self.names number (uses g back)
+    (kept_then g back tells mid) (few g back) (at g back)
     ready (owned g after) (element g after tells whole) c.in_ok-released.released change (g.met.S.Reads.onward_shape _ _ c.set.ensures.onward) held
     (is_held g after tells whole) fault k.0 k.1)) why)
 

@@ -58,14 +58,16 @@ returns-in_err-owner-clause-refused g c tells whole =
     let s = g.S.Reads.state c.args.space.now in
     fault_exit (λ f. f) (IsRefusal s.shape.limit (graph_in s) (commands.Unset c.args.target c.args.key.now)) c.in_err-owner.field-0.0 c.from_residual.result
     c.from_residual.ensures.1
-    (unset_missing s.shape.limit (graph_in s) c.args.target c.args.key.now c.in_err-owner.field-0.0 (c.in_err-owner.ensures.refused tells c.args.names.now.names store))
+    (unset_missing s.shape.limit (graph_in s) c.args.target c.args.key.now c.in_err-owner.field-0.0 (c.in_err-owner.ensures.refused tells c.args.names.now.names
+    store))
 
 -- ---- what is damaged
 
 pub returns-in_err-owner-clause-damaged : goal.returns-in_err-owner-clause-damaged
 returns-in_err-owner-clause-damaged g c tells =
     fault_exit (λ f. f) (BlamesEntries (g.S.Reads.state c.args.space.now) (g.S.Reads.state c.find_owner.new.space)) c.in_err-owner.field-0.0
-    c.from_residual.result c.from_residual.ensures.1 (blames_more _ _ (λ damage broken. inl broken) c.in_err-owner.field-0.0 (c.in_err-owner.ensures.damaged tells))
+    c.from_residual.result c.from_residual.ensures.1 (blames_more _ _ (λ damage broken. inl broken) c.in_err-owner.field-0.0
+    (c.in_err-owner.ensures.damaged tells))
 
 -- ---- why it is refused over any records
 pub returns-in_err-owner-clause-caused : goal.returns-in_err-owner-clause-caused
@@ -135,7 +137,8 @@ returns-in_default-clause-made g c tells whole =
     let names = c.args.names.now.names in
     let there = c.in_ok-owner.ensures.there tells in
     unset_nothing s names c.args.target c.args.key.now (midway s names whole) there m whole c.find_owner.ensures.state
-    (unnamed_none s names c.args.target c.args.key.now (midway s names whole) there (subst (λ k. ¬ Contains names k) c.as_bytes.ensures c.in_default.ensures.none))
+    (unnamed_none s names c.args.target c.args.key.now (midway s names whole) there (subst (λ k. ¬ Contains names k) c.as_bytes.ensures
+    c.in_default.ensures.none))
 
 pub returns-in_err-held-clause-refused : goal.returns-in_err-held-clause-refused
 returns-in_err-held-clause-refused g c tells whole =
@@ -145,7 +148,8 @@ returns-in_err-held-clause-refused g c tells whole =
     let here = found g after tells whole in
     fault_exit (λ f. f) (IsRefusal s.shape.limit (graph_in s) command) c.in_err-held.field-0.0 c.from_residual-in_err-held.result
     c.from_residual-in_err-held.ensures.1
-    (outside_refused change_reasons s.shape.limit (graph_in s) command c.in_err-held.field-0.0 (c.in_err-held.ensures.sound tells (wanted_in (g.S.Reads.state c.find_owner.new.space).records) here.store.indexes here.store.store (used_then g after tells)))
+    (outside_refused change_reasons s.shape.limit (graph_in s) command c.in_err-held.field-0.0 (c.in_err-held.ensures.sound tells
+    (wanted_in (g.S.Reads.state c.find_owner.new.space).records) here.store.indexes here.store.store (used_then g after tells)))
 
 pub returns-in_err-held-clause-caused : goal.returns-in_err-held-clause-caused
 returns-in_err-held-clause-caused g c tells =
@@ -182,7 +186,8 @@ returns-in_err-released-clause-refused g c tells whole =
     c.from_residual-in_err-released.result c.from_residual-in_err-released.ensures.1
     (prop_refused s.shape.limit (graph_in s) (commands.Unset c.args.target c.args.key.now) c.in_err-released.field-0.0
     (c.in_err-released.ensures.sound tells
-    (has_key n names c.args.target c.args.key.now (midway n names (store g after tells whole)) (there g after tells whole) c.in_ok-owner.owner c.in-Some.number c.in_ok-owner.ensures.owner (at g after))))
+    (has_key n names c.args.target c.args.key.now (midway n names (store g after tells whole)) (there g after tells whole) c.in_ok-owner.owner c.in-Some.number
+    c.in_ok-owner.ensures.owner (at g after))))
 
 pub returns-in_err-released-clause-damaged : goal.returns-in_err-released-clause-damaged
 returns-in_err-released-clause-damaged g c tells =
@@ -192,7 +197,8 @@ returns-in_err-released-clause-damaged g c tells =
     let used = subst (λ (z : State). IsInUse z.records (owner_of c.args.target)) (sym c.indexed_value.ensures.same) (used_then g after tells) in
     fault_exit of_fault (BlamesEntries s (g.S.Reads.state c.unset.new.space)) c.in_err-released.field-0.0 c.from_residual-in_err-released.result
     c.from_residual-in_err-released.ensures.1
-    (blames_more _ _ (λ damage broken. inl broken) (of_fault c.in_err-released.field-0.0) (read_broken s n (read g after) c.in_err-released.field-0.0 (c.in_err-released.ensures.damaged tells (subst (IsInUse n.records) (sym c.in_ok-owner.ensures.owner) used))))
+    (blames_more _ _ (λ damage broken. inl broken) (of_fault c.in_err-released.field-0.0) (read_broken s n (read g after) c.in_err-released.field-0.0
+    (c.in_err-released.ensures.damaged tells (subst (IsInUse n.records) (sym c.in_ok-owner.ensures.owner) used))))
 
 pub returns-in_err-released-clause-caused : goal.returns-in_err-released-clause-caused
 returns-in_err-released-clause-caused g c tells =
@@ -211,7 +217,10 @@ returns-in_err-released-clause-still g c tells =
     let command = commands.Unset c.args.target c.args.key.now in
     let fault = of_fault c.in_err-released.field-0.0 in
     fault_exit of_fault (IsStillCaused command t names names) c.in_err-released.field-0.0 c.from_residual-in_err-released.result
-    c.from_residual-in_err-released.ensures.1 (record { caused = failure_caused command t t names names fault (fault_fails c.in_err-released.field-0.0); damaged = any_blamed _ (λ damage. tt) fault })
+    c.from_residual-in_err-released.ensures.1 (record {
+      caused = failure_caused command t t names names fault (fault_fails c.in_err-released.field-0.0);
+      damaged = any_blamed _ (λ damage. tt) fault;
+    })
 
 pub returns-in_err-released-clause-cause : goal.returns-in_err-released-clause-cause
 returns-in_err-released-clause-cause g c =
@@ -258,7 +267,8 @@ module _ (g : Over) (c : After-leave_entry g) where
         c.in-Some.number c.in-Some-2.released
     alone =
         let es = listed_at (n g back) (owner_of c.args.target) owned (element g back tells whole) in
-        let unsets = subst (λ (o : Owner). (es : List Property) → OwnsProperties (n g back) o es → UnsetsAlone (n g back) u o es c.in-Some.number c.in_ok-released.field-0) c.in_ok-owner.ensures.owner (c.in_ok-released.ensures.alone tells) in
+        let unsets = subst (λ (o : Owner). (es : List Property) → OwnsProperties (n g back) o es → UnsetsAlone (n g back) u o es c.in-Some.number
+        c.in_ok-released.field-0) c.in_ok-owner.ensures.owner (c.in_ok-released.ensures.alone tells) in
         subst (UnsetsAlone (n g back) u (owner_of c.args.target) es c.in-Some.number) c.in-Some-2.is
         (unsets es (owns_listed (n g back) (owner_of c.args.target) owned (element g back tells whole)))
 
@@ -274,7 +284,8 @@ returns-in_err-entries-clause-refused g c tells whole =
     let change = removes g after tells whole in
     fault_exit (λ f. f) (IsRefusal s.shape.limit (graph_in s) command) c.in_err-entries.field-0.0 c.from_residual-in_err-entries.result
     c.from_residual-in_err-entries.ensures.1
-    (outside_refused change_reasons s.shape.limit (graph_in s) command c.in_err-entries.field-0.0 (c.in_err-entries.ensures.sound tells (wanted_in n.records) (between g after tells whole) change.changes.store))
+    (outside_refused change_reasons s.shape.limit (graph_in s) command c.in_err-entries.field-0.0 (c.in_err-entries.ensures.sound tells (wanted_in n.records)
+    (between g after tells whole) change.changes.store))
 
 pub returns-in_err-entries-clause-caused : goal.returns-in_err-entries-clause-caused
 returns-in_err-entries-clause-caused g c tells =
@@ -319,11 +330,13 @@ returns-clause-made g c tells whole =
     let change = removes g after tells whole in
     let indexed = between g after tells whole in
     let entries = c.in_ok-entries.ensures in
-    let is = subst (λ (z : State). (ix : AreIndexed z.records (wanted_in z.records)) → IsIndexedValue z.records (map (pair_of z.records) ix.definitions) target number held) (sym c.indexed_value.ensures.same)
+    let is = subst (λ (z : State). (ix : AreIndexed z.records (wanted_in z.records)) → IsIndexedValue z.records (map (pair_of z.records) ix.definitions)
+    target number held) (sym c.indexed_value.ensures.same)
     (λ ix. c.in_ok-held.ensures.held tells (wanted_in m.records) ix (found g back tells whole).store.store (used_then g back tells)) here.store.indexes in
     made_read s n v names (commands.Unset target key) Done (2 + c.in-Some-2.released + c.in_ok-entries.entries) (read g back)
     (subst (λ w. MakesChange (commands.Unset target key) Done (2 + c.in-Some-2.released + w) n v names) (sym entries.weight)
-    (unset_any n u v names target key number here (there g back tells whole) (at g back) (owned g after) (element g back tells whole) c.in-Some-2.released change (alone g after tells whole) held
+    (unset_any n u v names target key number here (there g back tells whole) (at g back) (owned g after) (element g back tells whole) c.in-Some-2.released
+    change (alone g after tells whole) held
     (record {
       beside = touched_beside c.in_ok-entries.entries u v tells entries.touches;
       graph = entries.graph tells (wanted_in n.records) indexed change.changes.store;
@@ -334,7 +347,9 @@ returns-clause-made g c tells whole =
 
 -- what is written
 written : (g : Over) (c : After-leave_entry g) → WritesAtMost (2 + c.in-Some-2.released) (g.S.Reads.state c.args.space.now) (g.S.Reads.state c.unset.new.space)
-written g c = more_written (omega arith) (then_written (none_written _ _ (read g (goal.at.After-leave_entry g c).After-indexed_value)) (subst (λ (o : Option ℕ). WritesAtMost (2 + released_blocks o) (g.S.Reads.state c.indexed_value.new.space) (g.S.Reads.state c.unset.new.space)) c.in-Some-2.is c.in_ok-released.ensures.writes))
+written g c = more_written (omega arith) (then_written (none_written _ _ (read g (goal.at.After-leave_entry g c).After-indexed_value))
+    (subst (λ (o : Option ℕ). WritesAtMost (2 + released_blocks o) (g.S.Reads.state c.indexed_value.new.space) (g.S.Reads.state c.unset.new.space))
+    c.in-Some-2.is c.in_ok-released.ensures.writes))
 
 pub returns-clause-writes : goal.returns-clause-writes
 returns-clause-writes g c =
@@ -351,14 +366,16 @@ pub returns-clause-onward : goal.returns-clause-onward
 returns-clause-onward g c =
     let on = g.met.S.Reads.further_onward in
     on c.args.space.now c.unset.new.space c.leave_entry.new.space
-    (on c.args.space.now c.indexed_value.new.space c.unset.new.space (on c.args.space.now c.find_owner.new.space c.indexed_value.new.space c.find_owner.ensures.onward c.indexed_value.ensures.onward) c.unset.ensures.onward)
+    (on c.args.space.now c.indexed_value.new.space c.unset.new.space (on c.args.space.now c.find_owner.new.space c.indexed_value.new.space
+    c.find_owner.ensures.onward c.indexed_value.ensures.onward) c.unset.ensures.onward)
     c.leave_entry.ensures.onward
 
 pub returns-in_err-entries-clause-onward : goal.returns-in_err-entries-clause-onward
 returns-in_err-entries-clause-onward g c =
     let on = g.met.S.Reads.further_onward in
     on c.args.space.now c.unset.new.space c.leave_entry.new.space
-    (on c.args.space.now c.indexed_value.new.space c.unset.new.space (on c.args.space.now c.find_owner.new.space c.indexed_value.new.space c.find_owner.ensures.onward c.indexed_value.ensures.onward) c.unset.ensures.onward)
+    (on c.args.space.now c.indexed_value.new.space c.unset.new.space (on c.args.space.now c.find_owner.new.space c.indexed_value.new.space
+    c.find_owner.ensures.onward c.indexed_value.ensures.onward) c.unset.ensures.onward)
     c.leave_entry.ensures.onward
 
 -- ---- which record is damaged
@@ -369,7 +386,8 @@ returns-in_err-held-clause-damaged g c tells =
     let s = g.S.Reads.state c.args.space.now in
     let t = g.S.Reads.state c.indexed_value.new.space in
     fault_exit (λ f. f) (BlamesEntries s t) c.in_err-held.field-0.0 c.from_residual-in_err-held.result c.from_residual-in_err-held.ensures.1
-    (blames_more _ _ (λ damage broken. inl (subst (λ (z : State). IsBroken z damage) c.find_owner.ensures.state broken)) c.in_err-held.field-0.0 (c.in_err-held.ensures.damaged tells (used_then g after tells)))
+    (blames_more _ _ (λ damage broken. inl (subst (λ (z : State). IsBroken z damage) c.find_owner.ensures.state broken)) c.in_err-held.field-0.0
+    (c.in_err-held.ensures.damaged tells (used_then g after tells)))
 
 pub returns-in_err-entries-clause-damaged : goal.returns-in_err-entries-clause-damaged
 returns-in_err-entries-clause-damaged g c tells =
@@ -382,7 +400,11 @@ returns-in_err-entries-clause-damaged g c tells =
     fault_exit (λ f. f) (BlamesEntries s v) fault c.from_residual-in_err-entries.result c.from_residual-in_err-entries.ensures.1
     (blames_more _ _ (λ damage told.
     let found : IsAsFound s n damage = ap (λ (z : State). z.records (key_in damage.file damage.id)) (read g after) in
-    inr (told.0, told.1 ∙ properties_leave g.S.Reads.tells 2 22 n u c.in_ok-owner.owner (owner_file c.in_ok-owner.owner c.args.target c.in_ok-owner.ensures.owner) tells c.unset.ensures.at_most damage told.0.0 ∙ found)) fault
+    inr (
+      told.0,
+      told.1 ∙ properties_leave g.S.Reads.tells 2 22 n u c.in_ok-owner.owner (owner_file c.in_ok-owner.owner c.args.target
+          c.in_ok-owner.ensures.owner) tells c.unset.ensures.at_most damage told.0.0 ∙ found,
+    )) fault
     (blames_both _ _ fault (c.in_err-entries.ensures.blames tells) (c.in_err-entries.ensures.untouched tells)))
 
 pub returns-in_err-owner-clause-made : goal.returns-in_err-owner-clause-made

@@ -132,7 +132,8 @@ returns-in_err-hash-clause-damaged g c tells =
     (sym (same_records s now same))
     (let end = c.loop-node.invariant.end in let test = c.loop-node-test.true in omega (arith, end, test)) in
     let p = err_from_is_err_and c.from_residual.result c.from_residual.ensures.1 in
-    rw (p.1, p.2) (read_make s.records s.shape c.in_err-hash.field-0.0 (blames_before s now c.in_err-hash.field-0.0 same (c.in_err-hash.ensures.damaged tells low)))
+    rw (p.1, p.2) (read_make s.records s.shape c.in_err-hash.field-0.0 (blames_before s now c.in_err-hash.field-0.0 same (c.in_err-hash.ensures.damaged tells
+    low)))
 
 pub returns-in_err-push-clause-damaged : goal.returns-in_err-push-clause-damaged
 returns-in_err-push-clause-damaged g c tells =
@@ -185,15 +186,19 @@ pub returns-then-count-gt-MOST_ENTRIES-clause-caused : goal.returns-then-count-g
 returns-then-count-gt-MOST_ENTRIES-clause-caused g c tells =
     let s = g.R.Reads.state c.args.space.now in
     let at : c.loop-node.node ≡ high s.records format.nodes_file = omega
-    (arith, c.loop-node.invariant.end, c.loop-node.auto.node-end, c.loop-node-test.false) in
-    (subst (λ n. c.loop-node.count ≡ length (contents_in s.records c.args.label c.args.key n)) at (c.loop-node.invariant.counted tells), c.if-count-gt-MOST_ENTRIES.true)
+    (arith, c.loop-node.invariant.end, c.loop-node.auto.node-end, c.loop-node-test.false) in (
+      subst (λ n. c.loop-node.count ≡ length (contents_in s.records c.args.label c.args.key n)) at (c.loop-node.invariant.counted tells),
+      c.if-count-gt-MOST_ENTRIES.true,
+    )
 
 pub returns-then-count-gt-MOST_ENTRIES-clause-refused : goal.returns-then-count-gt-MOST_ENTRIES-clause-refused
 returns-then-count-gt-MOST_ENTRIES-clause-refused g c tells readable =
     let s = g.R.Reads.state c.args.space.now in
     let at : c.loop-node.node ≡ high s.records format.nodes_file = omega
-    (arith, c.loop-node.invariant.end, c.loop-node.auto.node-end, c.loop-node-test.false) in
-    (subst (λ n. c.loop-node.count ≡ length (contents_in s.records c.args.label c.args.key n)) at (c.loop-node.invariant.counted tells), c.if-count-gt-MOST_ENTRIES.true)
+    (arith, c.loop-node.invariant.end, c.loop-node.auto.node-end, c.loop-node-test.false) in (
+      subst (λ n. c.loop-node.count ≡ length (contents_in s.records c.args.label c.args.key n)) at (c.loop-node.invariant.counted tells),
+      c.if-count-gt-MOST_ENTRIES.true,
+    )
 
 pub returns-then-count-gt-MOST_ENTRIES-clause-same : goal.returns-then-count-gt-MOST_ENTRIES-clause-same
 returns-then-count-gt-MOST_ENTRIES-clause-same g c = c.loop-node.invariant.same

@@ -31,7 +31,11 @@ returns-clause-found g c tells low =
     let rec_is : c.get_into.new.rec ≡ rec_at s format.nodes_file c.args.node = c.in_ok-get_into.ensures.got tells
     ∙ ap (λ (o : Owner). s o.key) c.in_ok-owner.ensures.is in
     sym (hash_at-none s c.args.label c.args.key c.args.node low (λ used is.
-    true≢false (sym (c.is_labelled.ensures.1 (subst (λ (r : Rec). field 1 r format.kind ≡ format.free_kind → ⊥) (sym rec_is) used, ap (λ (r : Rec). field 4 r format.node_label) rec_is ∙ is)) ∙ c.if-is_labelled.false)))
+    true≢false (sym (c.is_labelled.ensures.1 (
+      subst (λ (r : Rec). field 1 r format.kind ≡ format.free_kind → ⊥) (sym rec_is) used,
+      ap
+          (λ (r : Rec). field 4 r format.node_label) rec_is ∙ is,
+    )) ∙ c.if-is_labelled.false)))
 
 on_if : {T E : Type 0} {P Q : T → Type 0} (r : Result T E) → ((x : T) → P x → Q x) → IfOk r P → IfOk r Q
 on_if (Ok x) f p = f x p
@@ -57,9 +61,11 @@ returns-then-is_labelled-clause-sound g c tells low readable =
     let gone : (g.R.Reads.state c.get_into.new.self).records ≡ s = ap (λ (z : State). z.records) c.get_into.ensures.state in
     let both = c.is_labelled.ensures.0 c.if-is_labelled.true in
     let used : kind_at s format.nodes_file c.args.node ≡ format.free_kind
-    → ⊥ = λ e. both.0 (ap (λ (r : Rec). field 1 r format.kind) rec_is ∙ sym (kind_low (high s format.nodes_file) (rec_at s format.nodes_file c.args.node) c.args.node low) ∙ e) in
+    → ⊥ = λ e. both.0 (ap (λ (r : Rec). field 1 r format.kind) rec_is ∙ sym (kind_low (high s format.nodes_file) (rec_at s format.nodes_file c.args.node)
+    c.args.node low) ∙ e) in
     let listed = readable.each c.args.node used in
-    c.value_hash.ensures.sound tells listed.properties (subst (λ (o : Owner). HasProperties (g.R.Reads.state c.get_into.new.self).records o listed.properties) (sym c.in_ok-owner.ensures.is)
+    c.value_hash.ensures.sound tells listed.properties (subst (λ (o : Owner). HasProperties (g.R.Reads.state c.get_into.new.self).records o listed.properties)
+    (sym c.in_ok-owner.ensures.is)
     (subst (λ (r : Records). HasProperties r (node_owner c.args.node) listed.properties) (sym gone) listed.has))
 
 pub returns-in_err-owner-clause-at_most : goal.returns-in_err-owner-clause-at_most
@@ -96,9 +102,11 @@ returns-then-is_labelled-clause-damaged g c tells low =
     let gone : now.records ≡ s = ap (λ (z : State). z.records) c.get_into.ensures.state in
     let both = c.is_labelled.ensures.0 c.if-is_labelled.true in
     let used : kind_at s format.nodes_file c.args.node ≡ format.free_kind
-    → ⊥ = λ e. both.0 (ap (λ (r : Rec). field 1 r format.kind) rec_is ∙ sym (kind_low (high s format.nodes_file) (rec_at s format.nodes_file c.args.node) c.args.node low) ∙ e) in
+    → ⊥ = λ e. both.0 (ap (λ (r : Rec). field 1 r format.kind) rec_is ∙ sym (kind_low (high s format.nodes_file) (rec_at s format.nodes_file c.args.node)
+    c.args.node low) ∙ e) in
     if_err c.value_hash.result (λ fault is. blames_before t now fault (reads_same 1 t now (reads_one 1 t now (omega arith) c.get_into.ensures.state)) is)
-    (c.value_hash.ensures.damaged tells (subst (λ (o : Owner). IsInUse now.records o) (sym c.in_ok-owner.ensures.is) (subst (λ (r : Records). IsInUse r (node_owner c.args.node)) (sym gone) used)))
+    (c.value_hash.ensures.damaged tells (subst (λ (o : Owner). IsInUse now.records o) (sym c.in_ok-owner.ensures.is)
+    (subst (λ (r : Records). IsInUse r (node_owner c.args.node)) (sym gone) used)))
 
 pub returns-in_err-owner-clause-found : goal.returns-in_err-owner-clause-found
 returns-in_err-owner-clause-found g c _ _ = never_ok c.from_residual.result _ _ c.from_residual.ensures.1

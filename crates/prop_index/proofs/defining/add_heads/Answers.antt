@@ -59,8 +59,10 @@ loop-number-preserved g c =
           subst (PutsHeads s t (n + 1)) (sym now_is) (record {
             keeps = keeps_then s m t format.index_file was.keeps new.keeps;
             used = λ k lt. ⊎_elim
-                (λ (u : k < n). subst (λ x. kind_at t.records format.index_file x ≢ format.free_kind) (sym (head-other rec n id k low u)) (new.keeps.used (head_of rec k) (was.used k u)))
-                (λ (u : n ≤ k). let e : k ≡ n = omega arith in subst (λ x. kind_at t.records format.index_file x ≢ format.free_kind) (sym (ap (head_of (with_head rec n id)) e ∙ head-same rec n id low small)) new.used)
+                (λ (u : k < n). subst (λ x. kind_at t.records format.index_file x ≢ format.free_kind) (sym (head-other rec n id k low u))
+                (new.keeps.used (head_of rec k) (was.used k u)))
+                (λ (u : n ≤ k). let e : k ≡ n = omega arith in subst (λ x. kind_at t.records format.index_file x ≢ format.free_kind)
+                (sym (ap (head_of (with_head rec n id)) e ∙ head-same rec n id low small)) new.used)
                 (cases_lt k n);
           });
       kind = ap (λ (r : Rec). field 1 r format.kind) now_is ∙ field-with_field_other 4 rec (format.definition_heads + 4 * n) id 1 format.kind (omega arith)
@@ -68,14 +70,16 @@ loop-number-preserved g c =
       counted = λ tells. counts_then s m t n 1 (n + 1) refl (old.counted tells) (c.in_ok-id.ensures.counted tells);
       heads = λ k lt. subst (λ (r : Rec). IsKey (key_in format.index_file (head_of r k))) (sym now_is) (⊎_elim
           (λ (u : k < n). subst (λ x. IsKey (key_in format.index_file x)) (sym (head-other rec n id k low u)) (old.heads k u))
-          (λ (u : n ≤ k). let e : k ≡ n = omega arith in subst (λ x. IsKey (key_in format.index_file x)) (sym (ap (head_of (with_head rec n id)) e ∙ head-same rec n id low small)) c.in_ok-id.ensures.key)
+          (λ (u : n ≤ k). let e : k ≡ n = omega arith in subst (λ x. IsKey (key_in format.index_file x))
+          (sym (ap (head_of (with_head rec n id)) e ∙ head-same rec n id low small)) c.in_ok-id.ensures.key)
           (cases_lt k n));
       touched =
           let ids_are : head_ids (n + 1) c.set_number.new.self ≡ id ∷ head_ids n rec
           = (λ i. head_ids (n + 1) (now_is i)) ∙ ap (λ k. head_ids k (with_head rec n id)) (let e : n + 1 ≡ suc n = omega arith in e)
           ∙ head_ids-more rec n id low small in
           subst (λ (xs : List ℕ). TouchesOnly g.S.Reads.tells s t (index_keys xs)) (sym ids_are)
-          (only_join (head_ids n rec) (id ∷ []) (id ∷ head_ids n rec) s m t (λ x i. inr i) (λ x i. ⊎_elim (λ e. inl e) (λ (k : ⊥). absurd k) i) old.touched c.in_ok-id.ensures.touched);
+          (only_join (head_ids n rec) (id ∷ []) (id ∷ head_ids n rec) s m t (λ x i. inr i) (λ x i. ⊎_elim (λ e. inl e) (λ (k : ⊥). absurd k) i)
+          old.touched c.in_ok-id.ensures.touched);
       onward = g.met.S.Reads.further_onward _ _ _ old.onward c.in_ok-id.ensures.onward;
       later = omega (arith, old.later, c.in_ok-id.ensures.cause.later);
     }
@@ -141,7 +145,8 @@ returns-in_err-id-clause-mishap g c tells store left =
     let m = g.S.Reads.state c.loop-number.space in
     let test = c.loop-number-test.true in
     take_has IsMishap c.from_residual.result c.in_err-id.field-0.0 c.from_residual.ensures.1
-    (c.in_err-id.ensures.mishap tells (c.loop-number.invariant.added tells store).kept (counts_left s m c.loop-number.number 1 12 (c.loop-number.invariant.counted tells) (omega (arith, test)) left))
+    (c.in_err-id.ensures.mishap tells (c.loop-number.invariant.added tells store).kept (counts_left s m c.loop-number.number 1 12
+    (c.loop-number.invariant.counted tells) (omega (arith, test)) left))
 
 pub returns-in_err-id-clause-still : goal.returns-in_err-id-clause-still
 returns-in_err-id-clause-still g c tells =

@@ -32,7 +32,8 @@ pub returns-in_err-id-clause-mishap : goal.returns-in_err-id-clause-mishap
 returns-in_err-id-clause-mishap g c tells store left =
     let s = g.S.Reads.state c.args.space.now in
     let p = err_from_is_err_and c.from_residual.result c.from_residual.ensures.1 in
-    rw (p.1, p.2) (take_mishap s c.in_err-id.field-0.0 (c.in_err-id.ensures.refused tells) (c.in_err-id.ensures.sound tells (free_list s store).0 (store_takes s store)) left)
+    rw (p.1, p.2) (take_mishap s c.in_err-id.field-0.0 (c.in_err-id.ensures.refused tells) (c.in_err-id.ensures.sound tells (free_list s store).0
+    (store_takes s store)) left)
 
 pub returns-in_err-put-clause-mishap : goal.returns-in_err-put-clause-mishap
 returns-in_err-put-clause-mishap g c tells store left =
@@ -44,11 +45,17 @@ returns-clause-touched g c = meta_then (c.in_ok-id.id ∷ []) _ _ _ (record { wr
     (only_one c.in_ok-id.id _ _ (only_put _ _ (key_in format.index_file c.in_ok-id.id) _ c.in_ok-put.ensures.ok))
 
 pub returns-clause-touches : goal.returns-clause-touches
-returns-clause-touches g c = index_one_taken c.in_ok-id.id _ _ (meta_then (c.in_ok-id.id ∷ []) _ _ _ (record { writes = c.in_ok-id.ensures.writes; stays = c.in_ok-id.ensures.stays })
+returns-clause-touches g c = index_one_taken c.in_ok-id.id _ _ (meta_then (c.in_ok-id.id ∷ []) _ _ _
+    (record { writes = c.in_ok-id.ensures.writes; stays = c.in_ok-id.ensures.stays })
     (only_one c.in_ok-id.id _ _ (only_put _ _ (key_in format.index_file c.in_ok-id.id) _ c.in_ok-put.ensures.ok)))
 
 pub returns-in_err-id-clause-touches : goal.returns-in_err-id-clause-touches
-returns-in_err-id-clause-touches g c = record { ids = []; few = omega arith; only = meta_only [] _ _ (record { writes = c.in_err-id.ensures.writes; stays = c.in_err-id.ensures.stays }) }
+returns-in_err-id-clause-touches g c = record {
+  ids = [];
+  few = omega arith;
+  only = meta_only [] _ _
+      (record { writes = c.in_err-id.ensures.writes; stays = c.in_err-id.ensures.stays });
+}
 
 pub returns-in_err-put-clause-touches : goal.returns-in_err-put-clause-touches
 returns-in_err-put-clause-touches g c =

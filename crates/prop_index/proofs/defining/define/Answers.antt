@@ -86,7 +86,8 @@ returns-clause-touches g c =
 
 pub returns-clause-onward : goal.returns-clause-onward
 returns-clause-onward g c =
-    g.met.S.Reads.further_onward _ _ _ (g.met.S.Reads.further_onward _ _ _ (g.met.S.Reads.further_onward _ _ _ c.get.ensures.onward c.in_ok-rec.ensures.onward) c.in_ok-id.ensures.onward) c.in_ok-set_number.ensures.onward
+    g.met.S.Reads.further_onward _ _ _ (g.met.S.Reads.further_onward _ _ _ (g.met.S.Reads.further_onward _ _ _ c.get.ensures.onward c.in_ok-rec.ensures.onward)
+    c.in_ok-id.ensures.onward) c.in_ok-set_number.ensures.onward
 
 pub returns-clause-added : goal.returns-clause-added
 returns-clause-added g c tells store named =
@@ -149,7 +150,8 @@ returns-clause-kept g c tells =
 
 -- what is blamed is wrong with the list
 list_read : (s a : State) (fault : TakeFault) → a ≡ after_get s → BlamesList a format.index_file fault → BlamesList s format.index_file fault
-list_read s a fault is why = blames_before s a format.index_file fault (reads_harm_none s a format.index_file (reads_same 1 s a (reads_one 1 s a (omega arith) is))) why
+list_read s a fault is why = blames_before s a format.index_file fault (reads_harm_none s a format.index_file (reads_same 1 s a (reads_one 1 s a (omega arith)
+    is))) why
 
 pub returns-in_err-meta-clause-damaged : goal.returns-in_err-meta-clause-damaged
 returns-in_err-meta-clause-damaged g c tells =
@@ -168,7 +170,8 @@ returns-in_err-id-clause-damaged g c tells =
     let a = g.S.Reads.state c.get.new.self in
     let m = g.S.Reads.state c.add_heads.new.space in
     take_has (BlamesList s format.index_file) c.from_residual-in_err-id.result c.in_err-id.field-0.0 c.from_residual-in_err-id.ensures.1
-    (list_read s a c.in_err-id.field-0.0 c.get.ensures.state (blames_before a m format.index_file c.in_err-id.field-0.0 (c.in_ok-rec.ensures.kept tells).keeps.harmless (c.in_err-id.ensures.damaged tells)))
+    (list_read s a c.in_err-id.field-0.0 c.get.ensures.state (blames_before a m format.index_file c.in_err-id.field-0.0
+    (c.in_ok-rec.ensures.kept tells).keeps.harmless (c.in_err-id.ensures.damaged tells)))
 
 pub returns-in_err-set_number-clause-damaged : goal.returns-in_err-set_number-clause-damaged
 returns-in_err-set_number-clause-damaged g c tells =
@@ -208,7 +211,8 @@ returns-clause-counted g c tells =
     let id = c.in_ok-id.id in
     let is : w ≡ after_set t (meta_key_of format.index_file) 4 format.meta_definition id = c.in_ok-set_number.ensures.ok tells
     ∙ ap (λ (k : Key). after_set t k 4 format.meta_definition id) c.meta_key-2.ensures in
-    let counted = counts_read s a t 13 c.get.ensures.state (counts_then a m t 12 1 13 refl (c.in_ok-rec.ensures.counted tells) (c.in_ok-id.ensures.counted tells)) in
+    let counted = counts_read s a t 13 c.get.ensures.state (counts_then a m t 12 1 13 refl (c.in_ok-rec.ensures.counted tells)
+    (c.in_ok-id.ensures.counted tells)) in
     record {
       live = ap (λ (z : State). (meta_of z format.index_file).live) is ∙ first_live t id ∙ counted.live;
       shape = g.met.S.Reads.onward_shape _ _ c.in_ok-set_number.ensures.onward ∙ counted.shape;
@@ -357,7 +361,8 @@ returns-in_err-id-clause-mishap g c tells store left =
     let m = g.S.Reads.state c.add_heads.new.space in
     let heads = c.in_ok-rec.ensures.added tells (subst KeepsStore (sym c.get.ensures.state) store) in
     take_has IsMishap c.from_residual-in_err-id.result c.in_err-id.field-0.0 c.from_residual-in_err-id.ensures.1
-    (c.in_err-id.ensures.mishap tells heads.kept (counts_left a m 12 1 13 (c.in_ok-rec.ensures.counted tells) (omega arith) (left_read s a 13 c.get.ensures.state left)))
+    (c.in_err-id.ensures.mishap tells heads.kept (counts_left a m 12 1 13 (c.in_ok-rec.ensures.counted tells) (omega arith)
+    (left_read s a 13 c.get.ensures.state left)))
 
 pub returns-in_err-id-clause-still : goal.returns-in_err-id-clause-still
 returns-in_err-id-clause-still g c tells =
@@ -382,4 +387,5 @@ returns-clause-heads g c = c.in_ok-rec.ensures.heads
 pub returns-clause-cause : goal.returns-clause-cause
 returns-clause-cause g c =
     take_ok_cause _ _ _
-    (later_on (later_on (later_on c.in_ok-meta.ensures.cause.later c.in_ok-rec.ensures.cause.later) c.in_ok-id.ensures.cause.later) c.in_ok-set_number.ensures.cause.later)
+    (later_on (later_on (later_on c.in_ok-meta.ensures.cause.later c.in_ok-rec.ensures.cause.later) c.in_ok-id.ensures.cause.later)
+    c.in_ok-set_number.ensures.cause.later)

@@ -39,7 +39,8 @@ returns-in-Ok-None-clause-entered g c tells wanted free ix can unwanted =
     let none = subst (IsBucketSought s.records ix.definitions c.args.label c.args.key c.hash_of-hash.result) c.in-Ok-None.field-0-is
     (c.in-Ok-None.ensures.found tells wanted ix) in
     subst (λ (r : Records). AreIndexed r (with_entry wanted (entry_of c.args.label c.args.key c.args.node c.args.value.now))) (sym (same_records s now same))
-    (subst (λ (h : ℕ). AreIndexed s.records (with_entry wanted (record { label = c.args.label; key = c.args.key; node = c.args.node; hash = h }))) c.hash_of-hash.ensures
+    (subst (λ (h : ℕ). AreIndexed s.records (with_entry wanted (record { label = c.args.label; key = c.args.key; node = c.args.node; hash = h })))
+    c.hash_of-hash.ensures
     (unlisted_entered s.records wanted ix c.args.label c.args.key content none))
 
 pub returns-clause-entered : goal.returns-clause-entered
@@ -56,7 +57,8 @@ returns-clause-entered g c tells wanted free ix can unwanted =
     let hashed : (h : ℕ) → Entry = λ h. record { label = c.args.label; key = c.args.key; node = c.args.node; hash = h } in
     on_ok c.add_entry.result
     (λ made. subst (λ (h : ℕ). AreIndexed t.records (with_entry wanted (hashed h))) c.hash_of-hash.ensures
-    (entered_in s.records wanted ix c.args.label c.args.key content bucket found t.records (subst (λ (r : Records). IsMade r t.records bucket content) records made)
+    (entered_in s.records wanted ix c.args.label c.args.key content bucket found t.records (subst (λ (r : Records). IsMade r t.records bucket content)
+    records made)
     (ap (λ (h : ℕ). wanted (hashed h)) c.hash_of-hash.ensures ∙ unwanted)))
     (c.add_entry.ensures.made tells free (head-reread s now bucket same found.is.head) (can_after s now free same can))
 

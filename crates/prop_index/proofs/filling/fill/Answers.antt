@@ -42,7 +42,16 @@ loop-content-init g c =
       kept = λ tells heads. (keeps_none s format.index_file, λ b lt some. absurd (some (nil_at b lt)));
       long = length-replicate 180 format.nil;
       keys = λ b lt some. absurd (some (nil_at b lt));
-      touched = ([], omega arith, (λ b lt some. absurd (some (nil_at b lt))), record { writes = record { each = λ q w. inl w }; stays = λ told. record { each = λ q. inl refl } });
+      touched = (
+        [],
+        omega arith,
+        (λ b lt some. absurd (some (nil_at b lt))),
+        record {
+          writes = record { each = λ q w. inl w };
+          stays = λ told.
+              record { each = λ q. inl refl };
+        },
+      );
       counted = λ tells. record { live = omega arith; shape = refl };
       onward = g.met.S.Reads.stays_onward _;
       later = omega arith;
@@ -83,7 +92,8 @@ loop-content-preserved g c =
           let can = store_takes m was.0.kept in
           let made = c.in_ok-firsts.ensures.made tells (free_list m was.0.kept).0 head begins can in
           let nodes_same : high m.records format.nodes_file ≡ high s.records format.nodes_file
-          = ap (λ r. (metas.meta_of r).high) (was.0.others (meta_key_of format.nodes_file) (λ e. omega arith) (λ e. let f = ap (λ (q : Key). q.id) e in omega (arith, f))) in
+          = ap (λ r. (metas.meta_of r).high) (was.0.others (meta_key_of format.nodes_file) (λ e. omega arith) (λ e. let f = ap (λ (q : Key). q.id) e in omega
+          (arith, f))) in
           let known : content.node < high m.records format.nodes_file = let a =
           fillable.low content (Contains-get_or contents i (record { node = 0; hash = 0 }) test) in omega (arith, a, nodes_same) in
           let kept = c.in_ok-firsts.ensures.keeps tells was.0.kept head begins place known in
@@ -92,28 +102,36 @@ loop-content-preserved g c =
           let others = fs.elsewhere_of g.S.Reads.tells m t (front_ids id slot.id first) tells c.in_ok-firsts.ensures.touched in
           let apart = fs.ascending_apart contents i content fillable.ascend test (λ d. get_or_default contents i d (record { node = 0; hash = 0 }) test) in (
             subst (IsFilled s t wanted ix label key) (sym (take_more contents i (record { node = 0; hash = 0 }) test))
-                (fs.filled-more s m wanted ix label key c.args.definition.now empty (take i contents) was.0 content bucket id_is place_is first_is t id made apart live shape others kept),
+                (fs.filled-more s m wanted ix label key c.args.definition.now empty (take i contents) was.0 content bucket id_is place_is first_is t id made
+                apart live shape others kept),
             (λ b lt. ⊎_elim
                 (λ (e : b ≡ k). ap (λ z. get_or (set firsts k id) z 0) e ∙ get_or-set_same firsts k id 0 long
-                ∙ sym (fs.first_new s m wanted ix label key c.args.definition.now empty (take i contents) was.0 content bucket id_is place_is first_is t id made apart live shape others kept)
+                ∙ sym (fs.first_new s m wanted ix label key c.args.definition.now empty (take i contents) was.0 content bucket id_is place_is first_is t id made
+                apart live shape others kept)
                 ∙ ap (first_entry t.records c.args.definition.now.id) (sym (e ∙ k_is)))
                 (λ (ne : b ≢ k). get_or-set_other firsts k b id 0 ne ∙ was.1 b lt
-                ∙ sym (fs.first_same s m wanted ix label key c.args.definition.now empty (take i contents) was.0 content bucket id_is place_is first_is t id made apart live shape others kept b lt (λ q. ne (q ∙ sym k_is))))
+                ∙ sym (fs.first_same s m wanted ix label key c.args.definition.now empty (take i contents) was.0 content bucket id_is place_is first_is t id
+                made apart live shape others kept b lt (λ q. ne (q ∙ sym k_is))))
                 (nat_cases b k)),
           );
       kept = λ tells heads.
           let was = old.kept tells heads in
-          let put = c.in_ok-firsts.ensures.kept tells (was.0.used slot.id (subst (λ x. kind_at s.records format.index_file x ≢ format.free_kind) (sym c.slot_of.ensures.is.id_is) (heads (k / 15) (omega arith)))) (was.1 k k_low) (let at = c.slot_of.ensures.is.place_is in omega arith) in (
+          let put = c.in_ok-firsts.ensures.kept tells (was.0.used slot.id (subst (λ x. kind_at s.records format.index_file x ≢ format.free_kind)
+          (sym c.slot_of.ensures.is.id_is) (heads (k / 15) (omega arith)))) (was.1 k k_low) (let at = c.slot_of.ensures.is.place_is in omega arith) in (
             keeps_then s m t format.index_file was.0 put.keeps,
             λ b lt some. ⊎_elim
-                (λ (e : b ≡ k). subst (λ x. kind_at t.records format.index_file x ≢ format.free_kind) (sym (ap (λ z. get_or (set firsts k id) z 0) e ∙ get_or-set_same firsts k id 0 long)) put.used)
-                (λ (ne : b ≢ k). let same = get_or-set_other firsts k b id 0 ne in subst (λ x. kind_at t.records format.index_file x ≢ format.free_kind) (sym same) (put.keeps.used _ (was.1 b lt (λ q. some (same ∙ q)))))
+                (λ (e : b ≡ k). subst (λ x. kind_at t.records format.index_file x ≢ format.free_kind) (sym (ap (λ z. get_or (set firsts k id) z 0) e
+                ∙ get_or-set_same firsts k id 0 long)) put.used)
+                (λ (ne : b ≢ k). let same = get_or-set_other firsts k b id 0 ne in subst (λ x. kind_at t.records format.index_file x ≢ format.free_kind)
+                (sym same) (put.keeps.used _ (was.1 b lt (λ q. some (same ∙ q)))))
                 (nat_cases b k),
           );
       long = length-set firsts k id ∙ old.long;
       keys = λ b lt some. ⊎_elim
-          (λ (e : b ≡ k). subst (λ x. IsKey (key_in format.index_file x)) (sym (ap (λ z. get_or (set firsts k id) z 0) e ∙ get_or-set_same firsts k id 0 long)) c.in_ok-firsts.ensures.key)
-          (λ (ne : b ≢ k). let same = get_or-set_other firsts k b id 0 ne in subst (λ x. IsKey (key_in format.index_file x)) (sym same) (old.keys b lt (λ q. some (same ∙ q))))
+          (λ (e : b ≡ k). subst (λ x. IsKey (key_in format.index_file x)) (sym (ap (λ z. get_or (set firsts k id) z 0) e ∙ get_or-set_same firsts k id 0 long))
+          c.in_ok-firsts.ensures.key)
+          (λ (ne : b ≢ k). let same = get_or-set_other firsts k b id 0 ne in subst (λ x. IsKey (key_in format.index_file x)) (sym same)
+          (old.keys b lt (λ q. some (same ∙ q))))
           (nat_cases b k);
       touched =
           let was = old.touched in (
@@ -146,7 +164,8 @@ returns-in_err-firsts-clause-touches g c =
       ids = front.id ∷ was.0;
       few = omega arith;
       only = beside_more (head_ids 12 rec) was.0 front.id c.slot_of.result.id (get_or c.loop-content.firsts k 0) s m t
-          (subst (λ x. In x (head_ids 12 rec)) (sym c.slot_of.ensures.is.id_is) (head-in 12 rec (k / 15) (let l = c.bucket_of-number.ensures.low in omega arith))) (was.2 k c.bucket_of-number.ensures.low) was.3 front.only;
+          (subst (λ x. In x (head_ids 12 rec)) (sym c.slot_of.ensures.is.id_is) (head-in 12 rec (k / 15) (let l = c.bucket_of-number.ensures.low in omega
+          arith))) (was.2 k c.bucket_of-number.ensures.low) was.3 front.only;
     }
 
 pub returns-in_err-firsts-clause-mishap : goal.returns-in_err-firsts-clause-mishap
@@ -158,7 +177,8 @@ returns-in_err-firsts-clause-mishap g c tells wanted ix label key empty fillable
     let live = was.live in
     let room = ap (λ z. room_of z format.index_file) was.shape in
     let p = err_from_is_err_and c.from_residual.result c.from_residual.ensures.1 in
-    rw (p.1, p.2) (fs.index_mishap m c.in_err-firsts.field-0.0 (c.in_err-firsts.ensures.full tells) (c.in_err-firsts.ensures.sound tells (free_list m was.kept).0 (store_takes m was.kept)) (omega (arith, left, live, few, room, test)))
+    rw (p.1, p.2) (fs.index_mishap m c.in_err-firsts.field-0.0 (c.in_err-firsts.ensures.full tells) (c.in_err-firsts.ensures.sound tells
+    (free_list m was.kept).0 (store_takes m was.kept)) (omega (arith, left, live, few, room, test)))
 
 pub returns-clause-filled : goal.returns-clause-filled
 returns-clause-filled g c tells wanted ix label key empty fillable store =
@@ -173,14 +193,16 @@ returns-in_err-firsts-clause-roomy g c tells left =
     let m = g.S.Reads.state c.loop-content.space in
     let test = c.loop-content-test.true in
     take_has IsNotFull c.from_residual.result c.in_err-firsts.field-0.0 c.from_residual.ensures.1
-    (full_roomy m c.in_err-firsts.field-0.0 (c.in_err-firsts.ensures.full tells) (counts_left s m c.loop-content.content-index 1 (length c.args.contents.now) (c.loop-content.invariant.counted tells) (omega (arith, test)) left))
+    (full_roomy m c.in_err-firsts.field-0.0 (c.in_err-firsts.ensures.full tells) (counts_left s m c.loop-content.content-index 1 (length c.args.contents.now)
+    (c.loop-content.invariant.counted tells) (omega (arith, test)) left))
 
 pub returns-in_err-firsts-clause-damaged : goal.returns-in_err-firsts-clause-damaged
 returns-in_err-firsts-clause-damaged g c tells heads =
     let s = g.S.Reads.state c.args.space.now in
     let m = g.S.Reads.state c.loop-content.space in
     take_has (BlamesList s format.index_file) c.from_residual.result c.in_err-firsts.field-0.0 c.from_residual.ensures.1
-    (blames_before s m format.index_file c.in_err-firsts.field-0.0 (c.loop-content.invariant.kept tells heads).0.harmless (c.in_err-firsts.ensures.damaged tells))
+    (blames_before s m format.index_file c.in_err-firsts.field-0.0 (c.loop-content.invariant.kept tells heads).0.harmless
+    (c.in_err-firsts.ensures.damaged tells))
 
 pub returns-in_err-firsts-clause-still : goal.returns-in_err-firsts-clause-still
 returns-in_err-firsts-clause-still g c tells =

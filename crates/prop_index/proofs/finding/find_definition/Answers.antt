@@ -34,7 +34,8 @@ loop-init g c =
     = λ tells. c.number-at.ensures ∙ ap (λ (r : Rec). field 4 r format.meta_definition)
     (c.in_ok-get_into.ensures.got tells ∙ ap (λ k. s.records k) c.meta_key.ensures) in
     record {
-      told = λ tells ds are. search_begins _ _ ds c.number-at.result (subst (λ (n : ℕ). IsWalk (next_definition s.records) n ds) (sym (first_is tells)) are.walk);
+      told = λ tells ds are. search_begins _ _ ds c.number-at.result (subst (λ (n : ℕ). IsWalk (next_definition s.records) n ds) (sym (first_is tells))
+          are.walk);
       named_is = inr (refl, refl);
       at = λ tells. definition_begins s c.number-at.result (first_is tells);
       others = λ tells. others_begin s.records c.args.label c.args.key c.number-at.result (first_is tells);
@@ -53,7 +54,8 @@ returns-in_err-record_at-clause-listed g c tells ds are =
     let here = search_here _ _ ds c.loop.at c.loop.counter (c.loop.invariant.told tells ds are) c.if-at.false in
     same_has (BlamesMark s) c.from_residual-in_err-record_at.result c.in_err-record_at.field-0.0 c.from_residual-in_err-record_at.ensures.1
     (definition_marks s ds are c.loop.at here.0 c.loop.named c.in_err-record_at.field-0.0
-    (read_fault_same s now c.loop.at format.definition c.loop.named (reads_same _ s now c.loop.invariant.reads) c.in_err-record_at.field-0.0 (c.in_err-record_at.ensures.damaged tells)))
+    (read_fault_same s now c.loop.at format.definition c.loop.named (reads_same _ s now c.loop.invariant.reads) c.in_err-record_at.field-0.0
+    (c.in_err-record_at.ensures.damaged tells)))
 
 pub returns-in_err-record_at-clause-cost : goal.returns-in_err-record_at-clause-cost
 returns-in_err-record_at-clause-cost g c tells ds are =
@@ -77,7 +79,11 @@ returns-then-is_of_pair-clause-defined g c tells =
       rec_is = rec_is;
       leads = (c.loop.invariant.at tells).leads c.if-at.false;
       used = ap (λ (r : Records). kind_at r format.index_file c.loop.at) (sym same) ∙ c.in_ok-record_at.ensures.used tells;
-      pair = (ap (λ (r : Rec). field 4 r format.definition_label) (sym rec_is) ∙ says.0, ap (λ (r : Rec). field 4 r format.definition_key) (sym rec_is) ∙ says.1);
+      pair = (
+        ap (λ (r : Rec). field 4 r format.definition_label) (sym rec_is) ∙ says.0,
+        ap (λ (r : Rec). field 4 r format.definition_key) (sym rec_is)
+            ∙ says.1,
+      );
     }
 
 pub returns-then-is_of_pair-clause-cost : goal.returns-then-is_of_pair-clause-cost
@@ -100,14 +106,19 @@ loop-preserved g c =
     let used : g.R.Reads.tells → kind_at s.records format.index_file c.loop.at ≡ format.definition
     = λ tells. ap (λ (r : Records). kind_at r format.index_file c.loop.at) (sym same) ∙ c.in_ok-record_at.ensures.used tells in
     let other : g.R.Reads.tells → ¬ IsPair s.records c.args.label c.args.key c.loop.at
-    = λ tells pair. true≢false (sym (c.is_of_pair.ensures.1 (ap (λ (r : Rec). field 4 r format.definition_label) (rec_is tells) ∙ pair.0, ap (λ (r : Rec). field 4 r format.definition_key) (rec_is tells) ∙ pair.1)) ∙ c.if-is_of_pair.false) in
+    = λ tells pair. true≢false (sym (c.is_of_pair.ensures.1 (
+      ap (λ (r : Rec). field 4 r format.definition_label) (rec_is tells) ∙ pair.0,
+      ap
+          (λ (r : Rec). field 4 r format.definition_key) (rec_is tells) ∙ pair.1,
+    )) ∙ c.if-is_of_pair.false) in
     record {
       told = λ tells ds are. search_on _ _ ds c.loop.at c.loop.counter (c.loop.invariant.told tells ds are) c.number-at-in-loop.result c.if-at.false
           (next_is tells) (other tells);
       named_is = subst IsOfIndexes (sym c.out_of_range-named.ensures) (inl refl);
       at = λ tells. subst (IsDefinitionAt s c.number-at-in-loop.result) (sym c.out_of_range-named.ensures)
           (definition_goes_on s c.loop.at c.loop.named (c.loop.invariant.at tells) c.if-at.false c.number-at-in-loop.result (used tells) (next_is tells));
-      others = λ tells. others_go_on s.records c.args.label c.args.key c.loop.at c.number-at-in-loop.result c.loop.counter (c.loop.invariant.others tells) c.if-at.false
+      others = λ tells. others_go_on s.records c.args.label c.args.key c.loop.at c.number-at-in-loop.result c.loop.counter (c.loop.invariant.others tells)
+          c.if-at.false
           (used tells) (next_is tells) (other tells);
       reads = reads_then _ 1 _ _ _ _ (omega arith) c.loop.invariant.reads c.in_ok-record_at.ensures.at_most;
       onward = g.met.R.Reads.further_onward _ _ _ c.loop.invariant.onward c.in_ok-record_at.ensures.onward;
@@ -120,7 +131,8 @@ returns-in_err-record_at-clause-damaged g c tells =
     let now = g.R.Reads.state c.loop.space in
     same_has (BlamesBroken s.records s.shape) c.from_residual-in_err-record_at.result c.in_err-record_at.field-0.0 c.from_residual-in_err-record_at.ensures.1
     (definition_blames s c.loop.at c.loop.named (c.loop.invariant.at tells) c.if-at.false c.in_err-record_at.field-0.0
-    (read_fault_same s now c.loop.at format.definition c.loop.named (reads_same _ s now c.loop.invariant.reads) c.in_err-record_at.field-0.0 (c.in_err-record_at.ensures.damaged tells)))
+    (read_fault_same s now c.loop.at format.definition c.loop.named (reads_same _ s now c.loop.invariant.reads) c.in_err-record_at.field-0.0
+    (c.in_err-record_at.ensures.damaged tells)))
 
 pub returns-then-at-2-clause-cost : goal.returns-then-at-2-clause-cost
 returns-then-at-2-clause-cost g c tells ds are =
@@ -148,7 +160,8 @@ returns-then-at-clause-defined g c tells = others_end (g.R.Reads.state c.args.sp
     c.loop.counter (c.loop.invariant.others tells) (omega arith) c.if-at.true
 
 pub returns-clause-defined : goal.returns-clause-defined
-returns-clause-defined g c tells = others_end (g.R.Reads.state c.args.space.now).records c.args.label c.args.key c.loop.at c.loop.counter (c.loop.invariant.others tells)
+returns-clause-defined g c tells = others_end (g.R.Reads.state c.args.space.now).records c.args.label c.args.key c.loop.at c.loop.counter
+    (c.loop.invariant.others tells)
     (omega arith) c.if-at-2.false
 
 pub returns-in_err-record_at-clause-onward : goal.returns-in_err-record_at-clause-onward

@@ -62,7 +62,8 @@ returns-in_err-add_node-clause-cost g c tells xs are =
     ∙ ap (λ (r : Records). index_rec r c.loop.at) (sym (same_records now then (reads_same 1 now then c.in_ok-record_at.ensures.at_most))) in
     gather_cost _ _ _ _ _ xs _ _ _ (gather_on s now _ _ _ xs c.loop.at c.loop.counter _ (c.loop.invariant.told tells xs are) after _ _ c.if-at.false refl refl
     (reads_then 1 _ _ now then after (omega arith) c.in_ok-record_at.ensures.at_most
-    (subst (λ (r : Records). ReadsAtMost (55 * cond (is_hashed r c.args.sought.hash c.loop.at) 1 0) then after) gone (c.in_err-add_node.ensures.cost c.loop.at rec_then))))
+    (subst (λ (r : Records). ReadsAtMost (55 * cond (is_hashed r c.args.sought.hash c.loop.at) 1 0) then after) gone (c.in_err-add_node.ensures.cost c.loop.at
+    rec_then))))
 
 pub returns-in_err-record_at-clause-sound : goal.returns-in_err-record_at-clause-sound
 returns-in_err-record_at-clause-sound g c tells xs are readable =
@@ -87,7 +88,8 @@ returns-in_err-add_node-clause-sound g c tells xs are readable =
     let p = err_from_is_err_and c.from_residual-in_err-add_node.result c.from_residual-in_err-add_node.ensures.1 in
     let gone = same_records s then same_now in
     rw (p.1, p.2) (c.in_err-add_node.ensures.sound tells c.loop.at rec_is
-    (λ e. node_after s then _ same_now (subst (λ (r : Records). IsListedNode s (entry_node r c.loop.at)) (sym gone) (readable.nodes c.loop.at here.0 (ap (λ (r : Records). entry_hash r c.loop.at) (sym gone) ∙ e)))))
+    (λ e. node_after s then _ same_now (subst (λ (r : Records). IsListedNode s (entry_node r c.loop.at)) (sym gone) (readable.nodes c.loop.at here.0
+    (ap (λ (r : Records). entry_hash r c.loop.at) (sym gone) ∙ e)))))
 
 pub returns-in_err-record_at-clause-same : goal.returns-in_err-record_at-clause-same
 returns-in_err-record_at-clause-same g c =
@@ -123,10 +125,12 @@ loop-preserved g c =
           let rec_then : c.record_at.new.rec ≡ index_rec then.records c.loop.at = rec_is ∙ ap (λ (r : Records). index_rec r c.loop.at) (sym gone) in
           gather_on s now _ _ _ xs c.loop.at c.loop.counter _ told after c.number-at.result _ c.if-at.false
           (c.number-at.ensures ∙ ap (λ (r : Rec). field 4 r format.indexed_next) rec_is)
-          (subst (λ (r : Records). c.add_node.new.nodes.items ≡ c.loop.nodes.items ++ cond (is_picked r c.args.sought.key c.args.sought.hash c.args.value.now c.loop.at) (entry_node r c.loop.at ∷ []) []) gone
+          (subst (λ (r : Records). c.add_node.new.nodes.items ≡ c.loop.nodes.items ++ cond (is_picked r c.args.sought.key c.args.sought.hash c.args.value.now
+          c.loop.at) (entry_node r c.loop.at ∷ []) []) gone
           (c.in_ok-add_node.ensures.added tells c.loop.at rec_then))
           (reads_then 1 _ _ now then after (omega arith) c.in_ok-record_at.ensures.at_most
-          (subst (λ (r : Records). ReadsAtMost (55 * cond (is_hashed r c.args.sought.hash c.loop.at) 1 0) then after) gone (c.in_ok-add_node.ensures.cost c.loop.at rec_then)));
+          (subst (λ (r : Records). ReadsAtMost (55 * cond (is_hashed r c.args.sought.hash c.loop.at) 1 0) then after) gone
+          (c.in_ok-add_node.ensures.cost c.loop.at rec_then)));
       at = λ tells d b h.
           let was = same_records s now c.loop.invariant.same in
           let rec_is : c.record_at.new.rec ≡ index_rec s.records c.loop.at = c.in_ok-record_at.ensures.got tells
@@ -163,13 +167,15 @@ returns-in_err-add_node-clause-damaged g c tells d b h =
     } in
     same_has (BlamesBroken s.records s.shape) c.from_residual-in_err-add_node.result c.in_err-add_node.field-0.0 c.from_residual-in_err-add_node.ensures.1
     (blames_before s then c.in_err-add_node.field-0.0 same
-    (c.in_err-add_node.ensures.damaged tells d b c.loop.counter (subst (λ (r : Records). IsEntryMet r d b c.loop.counter c.loop.at c.record_at.new.rec) (sym (same_records s then same)) met)))
+    (c.in_err-add_node.ensures.damaged tells d b c.loop.counter (subst (λ (r : Records). IsEntryMet r d b c.loop.counter c.loop.at c.record_at.new.rec)
+    (sym (same_records s then same)) met)))
 
 pub returns-then-at-2-clause-damaged : goal.returns-then-at-2-clause-damaged
 returns-then-at-2-clause-damaged g c tells d b h =
     let s = g.R.Reads.state c.args.space.now in
     let late : high s.records format.index_file ≤ c.loop.counter = subst (λ (m : Meta). m.high ≤ c.loop.counter) c.meta-end.ensures (omega arith) in
-    subst (BlamesBroken s.records s.shape) (sym c.damaged.ensures) (late_breaks s d b c.loop.counter c.loop.at c.loop.named (c.loop.invariant.at tells d b h) c.if-at-2.true late)
+    subst (BlamesBroken s.records s.shape) (sym c.damaged.ensures) (late_breaks s d b c.loop.counter c.loop.at c.loop.named (c.loop.invariant.at tells d b h)
+    c.if-at-2.true late)
 
 pub returns-in_err-record_at-clause-onward : goal.returns-in_err-record_at-clause-onward
 returns-in_err-record_at-clause-onward g c =

@@ -157,7 +157,8 @@ returns-in_err-bucket-clause-damaged g c tells =
     let definition : Definition = record { id = c.in-Some.id; rec = c.find_definition.new.rec } in
     let pair = subst (IsDefined s.records c.args.label c.args.key c.find_definition.new.rec) c.in-Some.is (c.in_ok-id.ensures.defined tells) in
     same_has (BlamesBroken s.records s.shape) c.from_residual-in_err-bucket.result c.in_err-bucket.field-0.0 c.from_residual-in_err-bucket.ensures.1
-    (blames_before s now c.in_err-bucket.field-0.0 same (c.in_err-bucket.ensures.damaged tells (pair.rec_is ∙ ap (λ (r : Records). index_rec r definition.id) (sym records))
+    (blames_before s now c.in_err-bucket.field-0.0 same (c.in_err-bucket.ensures.damaged tells (pair.rec_is ∙ ap (λ (r : Records). index_rec r definition.id)
+    (sym records))
     (subst (λ (r : Records). LeadsToDefinition r definition.id) (sym records) pair.leads)
     (ap (λ (r : Records). kind_at r format.index_file definition.id) records ∙ pair.used)))
 

@@ -41,7 +41,8 @@ returns-in_err-record_at-clause-names g c tells =
     let s = g.R.Reads.state c.args.space.now in
     let fault = c.in_err-record_at.field-0.0 in
     same_has NamesIndexes c.from_residual.result fault c.from_residual.ensures.1
-    (read_names s c.slot_of-slot.result.id format.heads c.out_of_range.result fault (subst IsOfIndexes (sym c.out_of_range.ensures) (inl refl)) (c.in_err-record_at.ensures.damaged tells))
+    (read_names s c.slot_of-slot.result.id format.heads c.out_of_range.result fault (subst IsOfIndexes (sym c.out_of_range.ensures) (inl refl))
+    (c.in_err-record_at.ensures.damaged tells))
 
 pub returns-in_err-record_at-clause-is : goal.returns-in_err-record_at-clause-is
 returns-in_err-record_at-clause-is g c _ _ = never_ok c.from_residual.result _ _ c.from_residual.ensures.1

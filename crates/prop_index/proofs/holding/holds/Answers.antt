@@ -59,14 +59,16 @@ returns-in_err-held-clause-sound g c tells listed =
     let now = g.R.Reads.state c.get_into.new.self in
     let gone : now.records ≡ (g.R.Reads.state c.args.space.now).records = ap (λ (z : State). z.records) c.get_into.ensures.state in
     let p = err_from_is_err_and c.from_residual-in_err-held.result c.from_residual-in_err-held.ensures.1 in
-    rw (p.1, p.2) (c.in_err-held.ensures.sound tells listed.properties (subst (λ (o : Owner). HasProperties now.records o listed.properties) (sym c.in_ok-owner.ensures.is)
+    rw (p.1, p.2) (c.in_err-held.ensures.sound tells listed.properties (subst (λ (o : Owner). HasProperties now.records o listed.properties)
+    (sym c.in_ok-owner.ensures.is)
     (subst (λ (r : Records). HasProperties r (node_owner c.args.node) listed.properties) (sym gone) listed.has)))
 
 pub returns-in_err-owner-clause-damaged : goal.returns-in_err-owner-clause-damaged
 returns-in_err-owner-clause-damaged g c tells d b count rec met node_is =
     let s = g.R.Reads.state c.args.space.now in
     same_has (BlamesBroken s.records s.shape) c.from_residual.result (Damaged c.in_err-owner.field-0.0) c.from_residual.ensures.1
-    (entry_owner_blames s d b count c.args.entry rec met c.args.node node_is c.out_of_range.result c.out_of_range.ensures c.in_err-owner.field-0.0 c.in_err-owner.ensures.damaged)
+    (entry_owner_blames s d b count c.args.entry rec met c.args.node node_is c.out_of_range.result c.out_of_range.ensures c.in_err-owner.field-0.0
+    c.in_err-owner.ensures.damaged)
 
 pub returns-in_err-get_into-clause-damaged : goal.returns-in_err-get_into-clause-damaged
 returns-in_err-get_into-clause-damaged g c tells d b count rec met node_is =
@@ -91,10 +93,12 @@ returns-in_err-held-clause-damaged g c tells d b count rec met node_is =
     ∙ ap (λ (o : Owner). s.records o.key) c.in_ok-owner.ensures.is in
     let low : c.args.node < high s.records format.nodes_file = c.in_ok-owner.ensures.low in
     let used : kind_at s.records format.nodes_file c.args.node ≢ format.free_kind = λ e.
-    c.if-byte-eq-FREE.false (c.byte.ensures ∙ ap (λ (r : Rec). field 1 r format.kind) rec_is ∙ sym (kind_low (high s.records format.nodes_file) (rec_at s.records format.nodes_file c.args.node) c.args.node low) ∙ e) in
+    c.if-byte-eq-FREE.false (c.byte.ensures ∙ ap (λ (r : Rec). field 1 r format.kind) rec_is ∙ sym (kind_low (high s.records format.nodes_file)
+    (rec_at s.records format.nodes_file c.args.node) c.args.node low) ∙ e) in
     same_has (BlamesBroken s.records s.shape) c.from_residual-in_err-held.result c.in_err-held.field-0.0 c.from_residual-in_err-held.ensures.1
     (blames_before s now c.in_err-held.field-0.0 (reads_same 1 s now (reads_one 1 s now (omega arith) c.get_into.ensures.state))
-    (any_read now.records now.shape c.in_err-held.field-0.0 (c.in_err-held.ensures.damaged tells (subst (λ (o : Owner). IsInUse now.records o) (sym c.in_ok-owner.ensures.is) (subst (λ (r : Records). IsInUse r (node_owner c.args.node)) (sym gone) used)))))
+    (any_read now.records now.shape c.in_err-held.field-0.0 (c.in_err-held.ensures.damaged tells (subst (λ (o : Owner). IsInUse now.records o)
+    (sym c.in_ok-owner.ensures.is) (subst (λ (r : Records). IsInUse r (node_owner c.args.node)) (sym gone) used)))))
 
 pub returns-in_err-owner-clause-met : goal.returns-in_err-owner-clause-met
 returns-in_err-owner-clause-met g c _ = never_ok c.from_residual.result _ _ c.from_residual.ensures.1

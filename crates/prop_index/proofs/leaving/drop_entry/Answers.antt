@@ -43,7 +43,8 @@ pub returns-in_default-clause-dropped : goal.returns-in_default-clause-dropped
 returns-in_default-clause-dropped g c tells xs free head chain can =
     let s = g.S.Reads.state c.args.space.now in
     let now = g.S.Reads.state c.tested_row.new.space in
-    NoneThere (subst (IsEntrySought s.records xs c.args.content) c.in_default.is (c.in_ok-row.ensures.found tells xs (chain-entries s c.args.bucket.first xs chain)))
+    NoneThere (subst (IsEntrySought s.records xs c.args.content) c.in_default.is (c.in_ok-row.ensures.found tells xs (chain-entries s c.args.bucket.first xs
+    chain)))
     (same_records s now c.in_ok-row.ensures.same)
 
 pub returns-clause-dropped : goal.returns-clause-dropped
@@ -63,7 +64,8 @@ returns-clause-dropped g c tells xs free head chain can =
     let after_is : c.number-after.result ≡ next_entry now.records x
     = c.number-after.ensures ∙ ap (λ (r : Rec). field 4 r format.indexed_next) row.rec_is ∙ ap (λ (r : Records). next_entry r x) (sym records) in
     OneGone x row.member row.says (subst (λ (r : Records). IsEntryGone r t.records x bucket.slot.id bucket.slot.place) records
-    (entry_unlinked now bucket.slot bucket.first x xs free (chain-reread s now bucket.first xs same chain) (head-reread s now bucket same head).heads row.member (can_after s now free same can)
+    (entry_unlinked now bucket.slot bucket.first x xs free (chain-reread s now bucket.first xs same chain) (head-reread s now bucket same head).heads row.member
+    (can_after s now free same can)
     key.id t (c.in_ok-unlink.ensures.ok tells ∙ (λ i. unlinked_entry now bucket.slot x (before_is i) (after_is i)))))
 
 pub returns-in_default-clause-keeps : goal.returns-in_default-clause-keeps
@@ -162,7 +164,8 @@ returns-clause-graph g c tells xs free head chain place can =
 pub returns-in_default-clause-gone : goal.returns-in_default-clause-gone
 returns-in_default-clause-gone g c tells xs chain x member says =
     let s = g.S.Reads.state c.args.space.now in
-    absurd (subst (IsEntrySought s.records xs c.args.content) c.in_default.is (c.in_ok-row.ensures.found tells xs (chain-entries s c.args.bucket.first xs chain)) x member says)
+    absurd (subst (IsEntrySought s.records xs c.args.content) c.in_default.is (c.in_ok-row.ensures.found tells xs (chain-entries s c.args.bucket.first xs
+    chain)) x member says)
 
 pub returns-clause-gone : goal.returns-clause-gone
 returns-clause-gone g c tells xs chain x member says =
@@ -289,12 +292,14 @@ returns-in_err-unlink-clause-unwritten g c =
 
 pub unlink-requires-clause-before : goal.unlink-requires-clause-before
 unlink-requires-clause-before g c some =
-    let key = subst (λ (o : Option EntryRow). IfSome o (λ r. field 4 r.rec format.indexed_previous ≢ format.nil → IsKey (key_in format.index_file (field 4 r.rec format.indexed_previous)))) c.in-Some.is c.in_ok-row.ensures.before in
+    let key = subst (λ (o : Option EntryRow). IfSome o (λ r. field 4 r.rec format.indexed_previous ≢ format.nil → IsKey (key_in format.index_file
+    (field 4 r.rec format.indexed_previous)))) c.in-Some.is c.in_ok-row.ensures.before in
     subst (λ z. IsKey (key_in format.index_file z)) (sym c.number-before.ensures) (key (λ none. some (c.number-before.ensures ∙ none)))
 
 pub unlink-requires-clause-after : goal.unlink-requires-clause-after
 unlink-requires-clause-after g c some =
-    let key = subst (λ (o : Option EntryRow). IfSome o (λ r. field 4 r.rec format.indexed_next ≢ format.nil → IsKey (key_in format.index_file (field 4 r.rec format.indexed_next)))) c.in-Some.is c.in_ok-row.ensures.after in
+    let key = subst (λ (o : Option EntryRow). IfSome o (λ r. field 4 r.rec format.indexed_next ≢ format.nil → IsKey (key_in format.index_file
+    (field 4 r.rec format.indexed_next)))) c.in-Some.is c.in_ok-row.ensures.after in
     subst (λ z. IsKey (key_in format.index_file z)) (sym c.number-after.ensures) (key (λ none. some (c.number-after.ensures ∙ none)))
 
 pub returns-in_err-row-clause-names : goal.returns-in_err-row-clause-names
@@ -330,7 +335,8 @@ returns-clause-spares g c tells d b h head place =
     let row = c.in-Some.row in
     let is = c.in-Some.is in
     let at = place.is in
-    let key : IsKey (key_in format.index_file row.id) = subst (λ (o : Option EntryRow). IfSome o (λ r. IsKey (key_in format.index_file r.id))) is c.in_ok-row.ensures.key in
+    let key : IsKey (key_in format.index_file row.id) = subst (λ (o : Option EntryRow). IfSome o (λ r. IsKey (key_in format.index_file r.id)))
+    is c.in_ok-row.ensures.key in
     let read = subst (λ (o : Option EntryRow). IfSome o (IsEntryRow s.records)) is (c.in_ok-row.ensures.row tells) in
     let between = subst (λ (o : Option EntryRow). IfSome o (IsBetween s)) is (c.in_ok-row.ensures.between tells d b h) in
     let kinds : (x kind : ℕ) → kind_at s.records format.index_file x ≡ kind → kind_at now.records format.index_file x ≡ kind
@@ -340,7 +346,8 @@ returns-clause-spares g c tells d b h head place =
     spares_then s now t (spares_none s now same)
     (gone_spares now t c.args.bucket.slot row.id c.number-before.result c.number-after.result (c.in_ok-unlink.ensures.ok tells) key.id
     (kinds row.id format.indexed read.used) (kinds c.args.bucket.slot.id format.heads head.heads)
-    (λ some. kinds c.number-before.result format.indexed (ap (kind_at s.records format.index_file) before_is ∙ between.before (λ none. some (before_is ∙ none))))
+    (λ some. kinds c.number-before.result format.indexed (ap (kind_at s.records format.index_file) before_is ∙ between.before
+    (λ none. some (before_is ∙ none))))
     (λ some. kinds c.number-after.result format.indexed (ap (kind_at s.records format.index_file) after_is ∙ between.after (λ none. some (after_is ∙ none))))
     (λ e. between.other (sym before_is ∙ e)) (λ e. between.another (sym after_is ∙ e))
     (subst (λ (z : State). IsLinkBelow (meta_of z format.index_file).free (meta_of z format.index_file).high) (sym same) between.free) (omega (arith, at)))

@@ -70,7 +70,11 @@ loop-preserved g c =
     let next_is : g.R.Reads.tells → c.number-at.result ≡ next_entry s.records c.loop.at = λ tells. c.number-at.ensures
     ∙ ap (λ (r : Rec). field 4 r format.indexed_next) (rec_is tells) in
     let other : g.R.Reads.tells → ¬ SaysContent s.records c.args.content c.loop.at
-    = λ tells says. true≢false (sym (c.is_of.ensures.1 (ap (λ (r : Rec). field 4 r format.indexed_node) (rec_is tells) ∙ says.0, ap (λ (r : Rec). field 8 r format.indexed_hash) (rec_is tells) ∙ says.1)) ∙ c.if-is_of.false) in
+    = λ tells says. true≢false (sym (c.is_of.ensures.1 (
+      ap (λ (r : Rec). field 4 r format.indexed_node) (rec_is tells) ∙ says.0,
+      ap
+          (λ (r : Rec). field 8 r format.indexed_hash) (rec_is tells) ∙ says.1,
+    )) ∙ c.if-is_of.false) in
     record {
       told = λ tells xs are.
           search_on _ _ xs c.loop.at c.loop.counter (c.loop.invariant.told tells xs are) c.number-at.result c.if-at.false (next_is tells)
@@ -110,7 +114,8 @@ pub returns-in_err-record_at-clause-names : goal.returns-in_err-record_at-clause
 returns-in_err-record_at-clause-names g c tells is =
     let now = g.R.Reads.state c.loop.space in
     same_has NamesIndexes c.from_residual.result c.in_err-record_at.field-0.0 c.from_residual.ensures.1
-    (read_names now c.loop.at format.indexed c.loop.named c.in_err-record_at.field-0.0 (c.loop.invariant.named_is is) (c.in_err-record_at.ensures.damaged tells))
+    (read_names now c.loop.at format.indexed c.loop.named c.in_err-record_at.field-0.0 (c.loop.invariant.named_is is) (c.in_err-record_at.ensures.damaged
+    tells))
 
 pub returns-then-at-2-clause-names : goal.returns-then-at-2-clause-names
 returns-then-at-2-clause-names g c tells is = subst NamesIndexes (sym c.damaged.ensures) (inl refl)
@@ -188,7 +193,8 @@ returns-in_err-record_at-clause-wrong g c tells file d b h =
     let s = g.R.Reads.state c.args.space.now in
     let now = g.R.Reads.state c.loop.space in
     same_has (BlamesBucket s d b) c.from_residual.result c.in_err-record_at.field-0.0 c.from_residual.ensures.1
-    (entry_fault s d b c.loop.counter c.loop.at c.loop.named (c.loop.invariant.at tells d b h) c.if-at.false (c.loop.invariant.named_file file) c.in_err-record_at.field-0.0
+    (entry_fault s d b c.loop.counter c.loop.at c.loop.named (c.loop.invariant.at tells d b h) c.if-at.false (c.loop.invariant.named_file file)
+    c.in_err-record_at.field-0.0
     (read_fault_same s now c.loop.at format.indexed c.loop.named c.loop.invariant.same c.in_err-record_at.field-0.0 (c.in_err-record_at.ensures.damaged tells)))
 
 pub returns-then-at-2-clause-wrong : goal.returns-then-at-2-clause-wrong

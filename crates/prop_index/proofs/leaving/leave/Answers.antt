@@ -10,7 +10,8 @@ use Rattle.prop_index.proofs.leaving.leave.Goals as goal
 pub returns-in-Err-clause-sound : goal.returns-in-Err-clause-sound
 returns-in-Err-clause-sound g c tells wanted free ix can =
     let s = g.S.Reads.state c.args.space.now in
-    let told : NotDamaged {T = ℕ} (Err c.in-Err.fault) = index_sound s wanted ix (can_ranged s free can) c.args.label c.args.key c.in-Err.fault (c.in-Err.ensures.wrong tells) in
+    let told : NotDamaged {T = ℕ} (Err c.in-Err.fault) = index_sound s wanted ix (can_ranged s free can) c.args.label c.args.key c.in-Err.fault
+    (c.in-Err.ensures.wrong tells) in
     subst (λ (f : Fault). NotDamaged {T = ℕ} (Err f)) (sym (c.name_index.ensures.passed told)) told
 
 pub returns-in-Err-clause-listed : goal.returns-in-Err-clause-listed
@@ -39,7 +40,8 @@ returns-in-Err-clause-names g c tells = c.name_index.ensures.names tells (c.in-E
 
 pub returns-in-Err-clause-unwritten : goal.returns-in-Err-clause-unwritten
 returns-in-Err-clause-unwritten g c =
-    unwritten_handed ℕ (g.S.Reads.state c.args.space.now) (g.S.Reads.state c.leave_bucket.new.space) (g.S.Reads.state c.name_index.new.space) c.in-Err.fault c.name_index.result c.in-Err.ensures.unwritten c.name_index.ensures.passed c.name_index.ensures.same
+    unwritten_handed ℕ (g.S.Reads.state c.args.space.now) (g.S.Reads.state c.leave_bucket.new.space) (g.S.Reads.state c.name_index.new.space) c.in-Err.fault
+    c.name_index.result c.in-Err.ensures.unwritten c.name_index.ensures.passed c.name_index.ensures.same
 
 pub returns-in-Err-clause-touches : goal.returns-in-Err-clause-touches
 returns-in-Err-clause-touches g c = index_then 3 0 3 _ _ _ (omega arith) c.in-Err.ensures.touches (index_same 0 _ _ c.name_index.ensures.same)
@@ -48,4 +50,5 @@ pub returns-in-Err-clause-onward : goal.returns-in-Err-clause-onward
 returns-in-Err-clause-onward g c = g.met.S.Reads.further_onward _ _ _ c.in-Err.ensures.onward c.name_index.ensures.onward
 
 pub returns-in-Err-clause-cause : goal.returns-in-Err-clause-cause
-returns-in-Err-clause-cause g c = named_cause _ _ _ c.in-Err.fault c.name_index.result c.in-Err.ensures.cause c.name_index.ensures.later c.name_index.ensures.disk
+returns-in-Err-clause-cause g c = named_cause _ _ _ c.in-Err.fault c.name_index.result c.in-Err.ensures.cause c.name_index.ensures.later
+    c.name_index.ensures.disk

@@ -42,7 +42,8 @@ returns-in_default-clause-left g c tells wanted free ix can =
     let none = subst (IsBucketSought s.records ix.definitions c.args.label c.args.key c.hash_of-hash.result) c.in_default.is
     (c.in_ok-bucket.ensures.found tells wanted ix) in
     subst (λ (r : Records). AreIndexed r (without_entry wanted (entry_of c.args.label c.args.key c.args.node c.args.value.now))) (sym (same_records s now same))
-    (subst (λ (h : ℕ). AreIndexed s.records (without_entry wanted (record { label = c.args.label; key = c.args.key; node = c.args.node; hash = h }))) c.hash_of-hash.ensures
+    (subst (λ (h : ℕ). AreIndexed s.records (without_entry wanted (record { label = c.args.label; key = c.args.key; node = c.args.node; hash = h })))
+    c.hash_of-hash.ensures
     (unlisted_left s.records wanted ix c.args.label c.args.key content none))
 
 pub returns-clause-left : goal.returns-clause-left
@@ -58,8 +59,10 @@ returns-clause-left g c tells wanted free ix can =
     (c.in_ok-bucket.ensures.found tells wanted ix) in
     let xs = ix.lists found.definition (bucket_of content.hash) in
     on_ok c.drop_entry.result
-    (λ dropped. subst (λ (h : ℕ). AreIndexed t.records (without_entry wanted (record { label = c.args.label; key = c.args.key; node = c.args.node; hash = h }))) c.hash_of-hash.ensures
-    (left_in s.records wanted ix c.args.label c.args.key content bucket found t.records (subst (λ (r : Records). IsDropped r t.records xs bucket.slot content) records dropped)))
+    (λ dropped. subst (λ (h : ℕ). AreIndexed t.records (without_entry wanted (record { label = c.args.label; key = c.args.key; node = c.args.node; hash = h })))
+    c.hash_of-hash.ensures
+    (left_in s.records wanted ix c.args.label c.args.key content bucket found t.records (subst (λ (r : Records). IsDropped r t.records xs bucket.slot content)
+    records dropped)))
     (c.drop_entry.ensures.dropped tells xs free (head-reread s now bucket same found.is.head)
     (chain-reread s now bucket.first xs same (bucket-chain s.records wanted ix c.args.label c.args.key content.hash bucket found))
     (can_after s now free same can))
@@ -154,7 +157,8 @@ returns-clause-graph g c tells wanted free ix can =
 pub returns-in_default-clause-gone : goal.returns-in_default-clause-gone
 returns-in_default-clause-gone g c tells wanted ix d listed pair there =
     let s = g.S.Reads.state c.args.space.now in
-    absurd (subst (IsBucketSought s.records ix.definitions c.args.label c.args.key c.hash_of-hash.result) c.in_default.is (c.in_ok-bucket.ensures.found tells wanted ix) d listed pair)
+    absurd (subst (IsBucketSought s.records ix.definitions c.args.label c.args.key c.hash_of-hash.result) c.in_default.is (c.in_ok-bucket.ensures.found tells
+    wanted ix) d listed pair)
 
 pub returns-clause-gone : goal.returns-clause-gone
 returns-clause-gone g c tells wanted ix d listed pair there =
@@ -172,7 +176,8 @@ returns-clause-gone g c tells wanted ix d listed pair there =
     let has = ix.all found.definition one found.listed (sym found.pair.0) (sym found.pair.1) is in
     let says : SaysContent s.records content has.id = (ap (λ (e : Entry). e.node) has.is, ap (λ (e : Entry). e.hash) has.is) in
     on_ok c.drop_entry.result (λ less. less ∙ ap (λ (z : State). (meta_of z format.index_file).live - 1) same)
-    (c.drop_entry.ensures.gone tells xs (chain-reread s now bucket.first xs same (bucket-chain s.records wanted ix c.args.label c.args.key c.hash_of-hash.result bucket found))
+    (c.drop_entry.ensures.gone tells xs (chain-reread s now bucket.first xs same (bucket-chain s.records wanted ix c.args.label c.args.key c.hash_of-hash.result
+    bucket found))
     has.id has.member (subst (λ (r : Records). SaysContent r content has.id) (sym (same_records s now same)) says))
 
 pub returns-in_default-clause-unlisted : goal.returns-in_default-clause-unlisted
@@ -203,7 +208,8 @@ returns-clause-absent g c tells wanted ix unwanted =
     (c.in_ok-bucket.ensures.found tells wanted ix) in
     let xs = ix.lists found.definition (bucket_of content.hash) in
     on_ok c.drop_entry.result (λ stays. same_then s now t same stays)
-    (c.drop_entry.ensures.absent tells xs (chain-reread s now bucket.first xs same (bucket-chain s.records wanted ix c.args.label c.args.key content.hash bucket found))
+    (c.drop_entry.ensures.absent tells xs (chain-reread s now bucket.first xs same (bucket-chain s.records wanted ix c.args.label c.args.key content.hash bucket
+    found))
     (subst (λ (r : Records). IsNoneOf r xs content) (sym (same_records s now same))
     (none_wanted s.records wanted ix c.args.label c.args.key content bucket found (ap (λ (h : ℕ). wanted (hashed h)) c.hash_of-hash.ensures ∙ unwanted))))
 
@@ -264,8 +270,10 @@ returns-clause-wrong g c tells =
     let same : SameButReads s now = reads_same 18 s now c.in_ok-bucket.ensures.at_most in
     let number = bucket_of c.hash_of-hash.result in
     let met = subst (IfBucketMet s.records c.args.label c.args.key number) c.in-Some.is (c.in_ok-bucket.ensures.met tells) in
-    if_err c.drop_entry.result (λ fault is. bucket_index s c.args.label c.args.key number c.in-Some.bucket met fault (bucket_before s now met.definition number fault same is))
-    (c.drop_entry.ensures.wrong tells met.definition number (entry_reread s now met.definition number 0 c.in-Some.bucket.first _ same (entry_begins s c.args.label c.args.key number c.in-Some.bucket met)))
+    if_err c.drop_entry.result (λ fault is. bucket_index s c.args.label c.args.key number c.in-Some.bucket met fault (bucket_before s now met.definition number
+    fault same is))
+    (c.drop_entry.ensures.wrong tells met.definition number (entry_reread s now met.definition number 0 c.in-Some.bucket.first _ same
+    (entry_begins s c.args.label c.args.key number c.in-Some.bucket met)))
 
 pub returns-in_err-bucket-clause-other : goal.returns-in_err-bucket-clause-other
 returns-in_err-bucket-clause-other g c tells =
@@ -281,7 +289,8 @@ returns-clause-other g c tells =
     let number = bucket_of c.hash_of-hash.result in
     let met = subst (IfBucketMet s.records c.args.label c.args.key number) c.in-Some.is (c.in_ok-bucket.ensures.met tells) in
     if_err c.drop_entry.result (λ fault is. other_before s now fault same (bucket_other now met.definition number fault is))
-    (c.drop_entry.ensures.wrong tells met.definition number (entry_reread s now met.definition number 0 c.in-Some.bucket.first _ same (entry_begins s c.args.label c.args.key number c.in-Some.bucket met)))
+    (c.drop_entry.ensures.wrong tells met.definition number (entry_reread s now met.definition number 0 c.in-Some.bucket.first _ same
+    (entry_begins s c.args.label c.args.key number c.in-Some.bucket met)))
 
 pub returns-in_err-bucket-clause-spares : goal.returns-in_err-bucket-clause-spares
 returns-in_err-bucket-clause-spares g c _ = never_ok c.from_residual.result _ _ c.from_residual.ensures.1
@@ -299,14 +308,16 @@ returns-clause-spares g c tells =
     let bucket = c.in-Some.bucket in
     let met = subst (IfBucketMet s.records c.args.label c.args.key number) c.in-Some.is (c.in_ok-bucket.ensures.met tells) in
     on_ok c.drop_entry.result (spares_then s now t (spares_none s now same))
-    (c.drop_entry.ensures.spares tells met.definition number (entry_reread s now met.definition number 0 bucket.first _ same (entry_begins s c.args.label c.args.key number bucket met))
+    (c.drop_entry.ensures.spares tells met.definition number (entry_reread s now met.definition number 0 bucket.first _ same
+    (entry_begins s c.args.label c.args.key number bucket met))
     (head-reread s now bucket same met.is.head) (head-place s.records met.definition _ bucket met.is))
 
 -- ---- what is written where a record is blamed
 
 pub returns-in_err-bucket-clause-unwritten : goal.returns-in_err-bucket-clause-unwritten
 returns-in_err-bucket-clause-unwritten g c =
-    on_damage c.from_residual.result _ (reads_same 18 (g.S.Reads.state c.args.space.now) (g.S.Reads.state c.find_bucket.new.space) c.find_bucket.ensures.at_most)
+    on_damage c.from_residual.result _ (reads_same 18 (g.S.Reads.state c.args.space.now) (g.S.Reads.state c.find_bucket.new.space)
+    c.find_bucket.ensures.at_most)
 
 pub returns-clause-unwritten : goal.returns-clause-unwritten
 returns-clause-unwritten g c =

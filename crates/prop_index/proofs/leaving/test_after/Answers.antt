@@ -38,7 +38,8 @@ pub returns-in_err-record_at-clause-names : goal.returns-in_err-record_at-clause
 returns-in_err-record_at-clause-names g c tells =
     let s = g.R.Reads.state c.args.space.now in
     same_has NamesIndexes c.from_residual.result c.in_err-record_at.field-0.0 c.from_residual.ensures.1
-    (read_names s c.args.after format.indexed c.out_of_range-named.result c.in_err-record_at.field-0.0 (subst IsOfIndexes (sym c.out_of_range-named.ensures) (inl refl)) (c.in_err-record_at.ensures.damaged tells))
+    (read_names s c.args.after format.indexed c.out_of_range-named.result c.in_err-record_at.field-0.0 (subst IsOfIndexes (sym c.out_of_range-named.ensures)
+    (inl refl)) (c.in_err-record_at.ensures.damaged tells))
 
 pub returns-then-back-id-clause-names : goal.returns-then-back-id-clause-names
 returns-then-back-id-clause-names g c tells = subst NamesIndexes (sym c.damaged.ensures) (inl refl)

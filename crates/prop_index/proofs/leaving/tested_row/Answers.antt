@@ -65,7 +65,8 @@ pub returns-in_err-row-clause-wrong : goal.returns-in_err-row-clause-wrong
 returns-in_err-row-clause-wrong g c tells d b h =
     let s = g.R.Reads.state c.args.space.now in
     same_has (BlamesBucket s d b) c.from_residual.result c.in_err-row.field-0.0 c.from_residual.ensures.1
-    (c.in_err-row.ensures.wrong tells (ap (λ z. z.file) c.out_of_range-named.ensures) d b (subst (IsEntryAt s d b 0 c.args.bucket.first) (sym c.out_of_range-named.ensures) h))
+    (c.in_err-row.ensures.wrong tells (ap (λ z. z.file) c.out_of_range-named.ensures) d b (subst (IsEntryAt s d b 0 c.args.bucket.first)
+    (sym c.out_of_range-named.ensures) h))
 
 pub returns-in_err-test_free-clause-wrong : goal.returns-in_err-test_free-clause-wrong
 returns-in_err-test_free-clause-wrong g c tells d b h =
@@ -177,10 +178,12 @@ returns-in_err-test_after-clause-names g c tells =
     (c.in_err-test_after.ensures.names tells)
 
 pub returns-in_err-test_after-clause-same : goal.returns-in_err-test_after-clause-same
-returns-in_err-test_after-clause-same g c = same_then (g.R.Reads.state c.args.space.now) (g.R.Reads.state c.find_entry.new.space) (g.R.Reads.state c.test_after.new.space) c.in_ok-row.ensures.same c.in_err-test_after.ensures.same
+returns-in_err-test_after-clause-same g c = same_then (g.R.Reads.state c.args.space.now) (g.R.Reads.state c.find_entry.new.space)
+    (g.R.Reads.state c.test_after.new.space) c.in_ok-row.ensures.same c.in_err-test_after.ensures.same
 
 pub returns-clause-same : goal.returns-clause-same
-returns-clause-same g c = same_then (g.R.Reads.state c.args.space.now) (g.R.Reads.state c.find_entry.new.space) (g.R.Reads.state c.test_after.new.space) c.in_ok-row.ensures.same c.in_ok-test_after.ensures.same
+returns-clause-same g c = same_then (g.R.Reads.state c.args.space.now) (g.R.Reads.state c.find_entry.new.space) (g.R.Reads.state c.test_after.new.space)
+    c.in_ok-row.ensures.same c.in_ok-test_after.ensures.same
 
 pub returns-in_err-row-clause-cause : goal.returns-in_err-row-clause-cause
 returns-in_err-row-clause-cause g c =
@@ -210,7 +213,8 @@ returns-clause-onward g c = g.met.R.Reads.further_onward _ _ _ c.in_ok-row.ensur
 
 pub returns-clause-before : goal.returns-clause-before
 returns-clause-before g c some =
-    let key = subst (λ (o : Option EntryRow). IfSome o (λ r. r.before ≢ format.nil → IsKey (key_in format.index_file r.before))) c.in-Some.is c.in_ok-row.ensures.before in
+    let key = subst (λ (o : Option EntryRow). IfSome o (λ r. r.before ≢ format.nil → IsKey (key_in format.index_file r.before))) c.in-Some.is
+    c.in_ok-row.ensures.before in
     let is = sym c.number-before.ensures ∙ c.if-before-row.false in
     subst (λ z. IsKey (key_in format.index_file z)) (sym is) (key (λ none. some (is ∙ none)))
 

@@ -39,7 +39,8 @@ returns-clause-made g c tells free head right can =
     let node_fits : content.node < 2 ^ 32 = search rules in
     let hash_fits : content.hash < 2 ^ 64 = search rules in
     subst (λ (z : State). IsEntryMade s z.records id bucket.slot.id bucket.slot.place content.node content.hash) (sym (c.in_ok-link.ensures.ok tells))
-    (made s u bucket.slot bucket.first id content free taken (below_taken s u.records id free taken can.low) (c.in_ok-id.ensures.fresh tells) c.in_ok-id.ensures.key.id
+    (made s u bucket.slot bucket.first id content free taken (below_taken s u.records id free taken can.low) (c.in_ok-id.ensures.fresh tells)
+    c.in_ok-id.ensures.key.id
     head.heads head.first_is right node_fits hash_fits)
 
 pub returns-clause-keeps : goal.returns-clause-keeps
@@ -74,13 +75,25 @@ returns-clause-touched g c = meta_then (front_ids c.in_ok-id.id c.args.bucket.sl
     (record { writes = c.in_ok-id.ensures.writes; stays = c.in_ok-id.ensures.stays }) c.in_ok-link.ensures.touches
 
 pub returns-clause-touches : goal.returns-clause-touches
-returns-clause-touches g c = record { id = c.in_ok-id.id; only = meta_then (front_ids c.in_ok-id.id c.args.bucket.slot.id c.args.bucket.first) _ _ _ (record { writes = c.in_ok-id.ensures.writes; stays = c.in_ok-id.ensures.stays }) c.in_ok-link.ensures.touches }
+returns-clause-touches g c = record {
+  id = c.in_ok-id.id;
+  only = meta_then (front_ids c.in_ok-id.id c.args.bucket.slot.id c.args.bucket.first) _ _ _
+      (record { writes = c.in_ok-id.ensures.writes; stays = c.in_ok-id.ensures.stays }) c.in_ok-link.ensures.touches;
+}
 
 pub returns-in_err-link-clause-touches : goal.returns-in_err-link-clause-touches
-returns-in_err-link-clause-touches g c = record { id = c.in_ok-id.id; only = meta_then (front_ids c.in_ok-id.id c.args.bucket.slot.id c.args.bucket.first) _ _ _ (record { writes = c.in_ok-id.ensures.writes; stays = c.in_ok-id.ensures.stays }) c.in_err-link.ensures.touches }
+returns-in_err-link-clause-touches g c = record {
+  id = c.in_ok-id.id;
+  only = meta_then (front_ids c.in_ok-id.id c.args.bucket.slot.id c.args.bucket.first) _ _ _
+      (record { writes = c.in_ok-id.ensures.writes; stays = c.in_ok-id.ensures.stays }) c.in_err-link.ensures.touches;
+}
 
 pub returns-in_err-id-clause-touches : goal.returns-in_err-id-clause-touches
-returns-in_err-id-clause-touches g c = record { id = 0; only = meta_only (front_ids 0 c.args.bucket.slot.id c.args.bucket.first) _ _ (record { writes = c.in_err-id.ensures.writes; stays = c.in_err-id.ensures.stays }) }
+returns-in_err-id-clause-touches g c = record {
+  id = 0;
+  only = meta_only (front_ids 0 c.args.bucket.slot.id c.args.bucket.first) _ _
+      (record { writes = c.in_err-id.ensures.writes; stays = c.in_err-id.ensures.stays });
+}
 
 pub returns-in_err-id-clause-full : goal.returns-in_err-id-clause-full
 returns-in_err-id-clause-full g c tells =

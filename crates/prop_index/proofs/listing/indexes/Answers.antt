@@ -77,7 +77,11 @@ loop-preserved g c =
     let next_is : g.R.Reads.tells → c.number-at-in-loop.result ≡ next_definition s.records c.loop.at
     = λ tells. c.number-at-in-loop.ensures ∙ ap (λ (r : Rec). field 4 r format.definition_next) (rec_is tells) in
     let pair_is : g.R.Reads.tells → record { label = c.number-label.result; key = c.number-key.result } ≡ pair_of s.records c.loop.at
-    = λ tells. λ i. record { label = (c.number-label.ensures ∙ ap (λ (r : Rec). field 4 r format.definition_label) (rec_is tells)) i; key = (c.number-key.ensures ∙ ap (λ (r : Rec). field 4 r format.definition_key) (rec_is tells)) i } in
+    = λ tells. λ i. record {
+      label = (c.number-label.ensures ∙ ap (λ (r : Rec). field 4 r format.definition_label) (rec_is tells)) i;
+      key =
+          (c.number-key.ensures ∙ ap (λ (r : Rec). field 4 r format.definition_key) (rec_is tells)) i;
+    } in
     record {
       told = λ tells ds are.
           let told = c.loop.invariant.told tells ds are in (
@@ -121,7 +125,8 @@ returns-in_err-record_at-clause-damaged g c tells =
     let now = g.R.Reads.state c.loop.space in
     same_has (BlamesBroken s.records s.shape) c.from_residual-in_err-record_at.result c.in_err-record_at.field-0.0 c.from_residual-in_err-record_at.ensures.1
     (definition_blames s c.loop.at c.loop.named (c.loop.invariant.at tells) c.if-at.false c.in_err-record_at.field-0.0
-    (read_fault_same s now c.loop.at format.definition c.loop.named (reads_same _ s now c.loop.invariant.reads) c.in_err-record_at.field-0.0 (c.in_err-record_at.ensures.damaged tells)))
+    (read_fault_same s now c.loop.at format.definition c.loop.named (reads_same _ s now c.loop.invariant.reads) c.in_err-record_at.field-0.0
+    (c.in_err-record_at.ensures.damaged tells)))
 
 pub returns-then-at-2-clause-damaged : goal.returns-then-at-2-clause-damaged
 returns-then-at-2-clause-damaged g c tells =

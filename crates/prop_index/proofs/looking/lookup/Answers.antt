@@ -90,7 +90,8 @@ returns-clause-found g c tells store =
 pub returns-clause-graph : goal.returns-clause-graph
 returns-clause-graph g c tells store numbered =
     let s = g.R.Reads.state c.args.space.now in
-    returns-clause-found g c tells store ∙ sym (graph_found s.records s.shape store.store c.args.label c.args.key c.args.value.now numbered.label_low numbered.key_low)
+    returns-clause-found g c tells store ∙ sym (graph_found s.records s.shape store.store c.args.label c.args.key c.args.value.now numbered.label_low
+    numbered.key_low)
 
 pub returns-clause-cost : goal.returns-clause-cost
 returns-clause-cost g c tells store =
@@ -175,13 +176,15 @@ returns-in_err-nodes-clause-damaged g c tells =
     let at = subst (IsEntryAt now met.definition number 0 bucket.first) (sym c.out_of_range-named.ensures)
     (entry_reread s now met.definition number 0 bucket.first _ same (entry_begins s c.args.label c.args.key number bucket met)) in
     let p = err_from_is_err_and c.from_residual-in_err-nodes.result c.from_residual-in_err-nodes.ensures.1 in
-    rw (p.1, p.2) (read_lookup s.records s.shape c.in_err-nodes.field-0.0 (blames_before s now c.in_err-nodes.field-0.0 same (c.in_err-nodes.ensures.damaged tells met.definition number at)))
+    rw (p.1, p.2) (read_lookup s.records s.shape c.in_err-nodes.field-0.0 (blames_before s now c.in_err-nodes.field-0.0 same
+    (c.in_err-nodes.ensures.damaged tells met.definition number at)))
 
 pub returns-in_err-put_in_order-clause-damaged : goal.returns-in_err-put_in_order-clause-damaged
 returns-in_err-put_in_order-clause-damaged g c tells =
     let s = g.R.Reads.state c.args.space.now in
     let p = err_from_is_err_and c.from_residual-in_err-put_in_order.result c.from_residual-in_err-put_in_order.ensures.1 in
-    rw (p.1, p.2) (read_lookup s.records s.shape c.in_err-put_in_order.field-0.0 (subst (blaming.BlamesBroken s.records s.shape) (sym c.in_err-put_in_order.ensures.memory) tt))
+    rw (p.1, p.2) (read_lookup s.records s.shape c.in_err-put_in_order.field-0.0 (subst (blaming.BlamesBroken s.records s.shape)
+    (sym c.in_err-put_in_order.ensures.memory) tt))
 
 pub returns-in_err-bucket-clause-caused : goal.returns-in_err-bucket-clause-caused
 returns-in_err-bucket-clause-caused g c tells =

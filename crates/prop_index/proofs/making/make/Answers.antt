@@ -36,13 +36,16 @@ pub returns-in_err-test_pair-clause-refused : goal.returns-in_err-test_pair-clau
 returns-in_err-test_pair-clause-refused g c tells was named =
     let s = g.S.Reads.state c.args.space.now in
     let p = err_from_is_err_and c.from_residual.result c.from_residual.ensures.1 in
-    rw (p.1, p.2) (pair_refusal s was c.args.label c.args.key c.in_err-test_pair.field-0.0 (c.in_err-test_pair.ensures.refused tells (wanted_in s.records) was.indexes (store_room s was.store)))
+    rw (p.1, p.2) (pair_refusal s was c.args.label c.args.key c.in_err-test_pair.field-0.0 (c.in_err-test_pair.ensures.refused tells (wanted_in s.records)
+    was.indexes (store_room s was.store)))
 
 pub returns-in_err-test_pair-clause-touches : goal.returns-in_err-test_pair-clause-touches
-returns-in_err-test_pair-clause-touches g c tells = index_same _ _ _ (reads_same 17 (g.S.Reads.state c.args.space.now) (g.S.Reads.state c.test_pair.new.space) c.test_pair.ensures.reads)
+returns-in_err-test_pair-clause-touches g c tells = index_same _ _ _ (reads_same 17 (g.S.Reads.state c.args.space.now) (g.S.Reads.state c.test_pair.new.space)
+    c.test_pair.ensures.reads)
 
 pub returns-in_err-test_pair-clause-at_most : goal.returns-in_err-test_pair-clause-at_most
-returns-in_err-test_pair-clause-at_most g c = index_same _ _ _ (reads_same 17 (g.S.Reads.state c.args.space.now) (g.S.Reads.state c.test_pair.new.space) c.test_pair.ensures.reads)
+returns-in_err-test_pair-clause-at_most g c = index_same _ _ _ (reads_same 17 (g.S.Reads.state c.args.space.now) (g.S.Reads.state c.test_pair.new.space)
+    c.test_pair.ensures.reads)
 
 pub returns-in_err-contents-clause-refused : goal.returns-in_err-contents-clause-refused
 returns-in_err-contents-clause-refused g c tells was named =
@@ -108,7 +111,8 @@ returns-then-not-has_room-clause-refused g c tells was named =
       may,
       omega (arith, found, few),
       ap (λ m. m.live) c.meta-live.ensures ∙ ap (λ (r : Records). (metas.meta_of (r (meta_key_of format.index_file))).live) (same_records s b same_b),
-      (λ left. true≢false (sym (c.has_room.ensures.1 (subst (λ n. HasLeft b (13 + n)) (sym same_count) (left_reread s b (13 + count_of s.records c.args.label c.args.key) same_b left))) ∙ c.if-not-has_room.true)),
+      (λ left. true≢false (sym (c.has_room.ensures.1 (subst (λ n. HasLeft b (13 + n)) (sym same_count)
+          (left_reread s b (13 + count_of s.records c.args.label c.args.key) same_b left))) ∙ c.if-not-has_room.true)),
     )
 
 pub returns-in-Ok-clause-made : goal.returns-in-Ok-clause-made
@@ -199,7 +203,8 @@ returns-clause-refused g c tells was named =
     let room = left_before s b (13 + c.len-count.result) same_b (c.has_room.ensures.0 c.if-not-has_room.false) in
     subst (IsMakeRefusal s was c.args.label c.args.key) (sym c.of_take.ensures)
     (mishap_refusal s was c.args.label c.args.key c.in-Err.fault
-    (mishap_reread s b c.args.label c.args.key c.deref.result.now c.in-Err.fault same_b (λ w. c.in-Err.ensures.mishap tells w (names_after s b c.args.label c.args.key same_b named)) was may (c.deref.ensures.value ∙ items_are) (subst (λ n. HasLeft s (13 + n)) len room)))
+    (mishap_reread s b c.args.label c.args.key c.deref.result.now c.in-Err.fault same_b (λ w. c.in-Err.ensures.mishap tells w
+    (names_after s b c.args.label c.args.key same_b named)) was may (c.deref.ensures.value ∙ items_are) (subst (λ n. HasLeft s (13 + n)) len room)))
 
 pub returns-in_err-test_pair-clause-caused : goal.returns-in_err-test_pair-clause-caused
 returns-in_err-test_pair-clause-caused g c tells =
@@ -229,7 +234,8 @@ returns-then-not-has_room-clause-caused g c tells =
     omega (arith, e, o) in
     let same_count : c.len-count.result ≡ count_of s.records c.args.label c.args.key = len ∙ found in (
       ap (λ m. m.live) c.meta-live.ensures ∙ ap (λ (r : Records). (metas.meta_of (r (meta_key_of format.index_file))).live) (same_records s b same_b),
-      (λ left. true≢false (sym (c.has_room.ensures.1 (subst (λ n. HasLeft b (13 + n)) (sym same_count) (left_reread s b (13 + count_of s.records c.args.label c.args.key) same_b left))) ∙ c.if-not-has_room.true)),
+      (λ left. true≢false (sym (c.has_room.ensures.1 (subst (λ n. HasLeft b (13 + n)) (sym same_count)
+          (left_reread s b (13 + count_of s.records c.args.label c.args.key) same_b left))) ∙ c.if-not-has_room.true)),
     )
 
 pub returns-clause-caused : goal.returns-clause-caused
@@ -238,7 +244,8 @@ returns-clause-caused g c tells =
     let len : c.len-count.result ≡ length c.deref.result.now = let e = c.len-count.ensures in let o = c.in_ok-contents.contents.ok.0 in let v =
     ap length c.deref.ensures.value in omega (arith, e, o, v) in
     subst (IsMakeCause s c.args.label c.args.key) (sym c.of_take.ensures)
-    (roomy_cause s c.args.label c.args.key c.in-Err.fault (c.in-Err.ensures.roomy tells (subst (λ n. HasLeft (g.S.Reads.state c.collect.new.space) (13 + n)) len (c.has_room.ensures.0 c.if-not-has_room.false))))
+    (roomy_cause s c.args.label c.args.key c.in-Err.fault (c.in-Err.ensures.roomy tells (subst (λ n. HasLeft (g.S.Reads.state c.collect.new.space) (13 + n)) len
+    (c.has_room.ensures.0 c.if-not-has_room.false))))
 
 pub returns-in_err-test_pair-clause-still : goal.returns-in_err-test_pair-clause-still
 returns-in_err-test_pair-clause-still g c tells =
@@ -280,7 +287,8 @@ returns-clause-damaged g c tells =
     let a = g.S.Reads.state c.test_pair.new.space in
     let b = g.S.Reads.state c.collect.new.space in
     let same : SameButReads s b = same_then s a b (reads_same 17 s a c.test_pair.ensures.reads) c.collect.ensures.same in
-    subst (BlamesBroken s.records s.shape) (sym c.of_take.ensures) (make_before s b (of_take c.in-Err.fault) same (take_make b.records b.shape c.in-Err.fault (any_list b c.in-Err.fault (c.in-Err.ensures.damaged tells))))
+    subst (BlamesBroken s.records s.shape) (sym c.of_take.ensures) (make_before s b (of_take c.in-Err.fault) same (take_make b.records b.shape c.in-Err.fault
+    (any_list b c.in-Err.fault (c.in-Err.ensures.damaged tells))))
 
 pub returns-in-Ok-clause-written : goal.returns-in-Ok-clause-written
 returns-in-Ok-clause-written g c =
@@ -355,7 +363,8 @@ returns-clause-unwritten g c tells =
     let len : c.len-count.result ≡ length c.deref.result.now = let e = c.len-count.ensures in let o = c.in_ok-contents.contents.ok.0 in let v =
     ap length c.deref.ensures.value in omega (arith, e, o, v) in
     subst (IsUnwrittenFull s t) (sym c.of_take.ensures)
-    (roomy_unwritten s t c.in-Err.fault (c.in-Err.ensures.roomy tells (subst (λ n. HasLeft (g.S.Reads.state c.collect.new.space) (13 + n)) len (c.has_room.ensures.0 c.if-not-has_room.false))))
+    (roomy_unwritten s t c.in-Err.fault (c.in-Err.ensures.roomy tells (subst (λ n. HasLeft (g.S.Reads.state c.collect.new.space) (13 + n)) len
+    (c.has_room.ensures.0 c.if-not-has_room.false))))
 
 pub returns-in_err-test_pair-clause-made : goal.returns-in_err-test_pair-clause-made
 returns-in_err-test_pair-clause-made g c _ _ _ = never_ok c.from_residual.result _ _ c.from_residual.ensures.1

@@ -32,7 +32,8 @@ returns-clause-written g c tells was named may contents_are =
     on_ok c.fill.result
     (λ filled. index_written s m c.args.label c.args.key definition was may added t
     (subst (IsFilled m t (before s m c.args.label c.args.key definition was may added) ix c.args.label c.args.key) contents_are filled))
-    (c.fill.ensures.filled tells (before s m c.args.label c.args.key definition was may added) ix c.args.label c.args.key (empty_index s m c.args.label c.args.key definition was may added) fillable added.kept)
+    (c.fill.ensures.filled tells (before s m c.args.label c.args.key definition was may added) ix c.args.label c.args.key
+    (empty_index s m c.args.label c.args.key definition was may added) fillable added.kept)
 
 pub returns-in_err-definition-clause-mishap : goal.returns-in_err-definition-clause-mishap
 returns-in_err-definition-clause-mishap g c tells was named may contents_are left =
@@ -70,7 +71,8 @@ pub returns-clause-roomy : goal.returns-clause-roomy
 returns-clause-roomy g c tells left =
     let s = g.S.Reads.state c.args.space.now in
     let m = g.S.Reads.state c.define.new.space in
-    c.fill.ensures.roomy tells (counts_left s m 13 (length c.args.contents.now) (13 + length c.args.contents.now) (c.in_ok-definition.ensures.counted tells) (omega arith) left)
+    c.fill.ensures.roomy tells (counts_left s m 13 (length c.args.contents.now) (13 + length c.args.contents.now) (c.in_ok-definition.ensures.counted tells)
+    (omega arith) left)
 
 pub returns-in_err-definition-clause-written : goal.returns-in_err-definition-clause-written
 returns-in_err-definition-clause-written g c _ _ _ _ _ = never_ok c.from_residual.result _ _ c.from_residual.ensures.1

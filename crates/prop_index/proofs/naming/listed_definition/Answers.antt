@@ -58,13 +58,16 @@ returns-in_err-test_definitions-clause-names g c tells =
 
 pub returns-in_err-found-clause-names : goal.returns-in_err-found-clause-names
 returns-in_err-found-clause-names g c tells =
-    same_has NamesIndexes c.from_residual-in_err-found.result c.in_err-found.field-0.0 c.from_residual-in_err-found.ensures.1 (c.in_err-found.ensures.names tells)
+    same_has NamesIndexes c.from_residual-in_err-found.result c.in_err-found.field-0.0 c.from_residual-in_err-found.ensures.1
+    (c.in_err-found.ensures.names tells)
 
 pub returns-in_err-found-clause-same : goal.returns-in_err-found-clause-same
-returns-in_err-found-clause-same g c = same_then (g.R.Reads.state c.args.space.now) (g.R.Reads.state c.test_definitions.new.space) (g.R.Reads.state c.find_definition.new.space) c.in_ok-test_definitions.ensures.same (reads_same 17 _ _ c.in_err-found.ensures.at_most)
+returns-in_err-found-clause-same g c = same_then (g.R.Reads.state c.args.space.now) (g.R.Reads.state c.test_definitions.new.space)
+    (g.R.Reads.state c.find_definition.new.space) c.in_ok-test_definitions.ensures.same (reads_same 17 _ _ c.in_err-found.ensures.at_most)
 
 pub returns-clause-same : goal.returns-clause-same
-returns-clause-same g c = same_then (g.R.Reads.state c.args.space.now) (g.R.Reads.state c.test_definitions.new.space) (g.R.Reads.state c.find_definition.new.space) c.in_ok-test_definitions.ensures.same (reads_same 17 _ _ c.in_ok-found.ensures.at_most)
+returns-clause-same g c = same_then (g.R.Reads.state c.args.space.now) (g.R.Reads.state c.test_definitions.new.space)
+    (g.R.Reads.state c.find_definition.new.space) c.in_ok-test_definitions.ensures.same (reads_same 17 _ _ c.in_ok-found.ensures.at_most)
 
 pub returns-in_err-test_definitions-clause-list : goal.returns-in_err-test_definitions-clause-list
 returns-in_err-test_definitions-clause-list g c _ = never_ok c.from_residual.result _ _ c.from_residual.ensures.1
@@ -80,7 +83,8 @@ returns-in_err-found-clause-defined g c _ = never_ok c.from_residual-in_err-foun
 
 pub returns-in_err-test_definitions-clause-cause : goal.returns-in_err-test_definitions-clause-cause
 returns-in_err-test_definitions-clause-cause g c =
-    cause_passed _ _ _ c.from_residual.result c.in_err-test_definitions.field-0.0 (omega arith) c.in_err-test_definitions.ensures.cause c.from_residual.ensures.1
+    cause_passed _ _ _ c.from_residual.result c.in_err-test_definitions.field-0.0 (omega arith) c.in_err-test_definitions.ensures.cause
+    c.from_residual.ensures.1
 
 pub returns-in_err-found-clause-cause : goal.returns-in_err-found-clause-cause
 returns-in_err-found-clause-cause g c =

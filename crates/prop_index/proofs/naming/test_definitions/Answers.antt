@@ -14,7 +14,8 @@ use Rattle.prop_index.proofs.naming.test_definitions.Goals as goal
 pub returns-in-None-clause-list : goal.returns-in-None-clause-list
 returns-in-None-clause-list g c tells =
     let s = g.R.Reads.state c.args.space.now in
-    all_defined s.records format.nil format.nil (subst (IsDefined s.records format.nil format.nil c.find_definition.new.rec) c.in-None.is (c.in_ok-unnamed.ensures.defined tells))
+    all_defined s.records format.nil format.nil (subst (IsDefined s.records format.nil format.nil c.find_definition.new.rec) c.in-None.is
+    (c.in_ok-unnamed.ensures.defined tells))
 
 pub returns-in_err-unnamed-clause-list : goal.returns-in_err-unnamed-clause-list
 returns-in_err-unnamed-clause-list g c _ = never_ok c.from_residual.result _ _ c.from_residual.ensures.1
@@ -34,7 +35,8 @@ returns-in-Some-clause-named g c tells ds are =
 pub returns-in_err-unnamed-clause-damaged : goal.returns-in_err-unnamed-clause-damaged
 returns-in_err-unnamed-clause-damaged g c tells =
     let s = g.R.Reads.state c.args.space.now in
-    same_has (BlamesBroken s.records s.shape) c.from_residual.result c.in_err-unnamed.field-0.0 c.from_residual.ensures.1 (c.in_err-unnamed.ensures.damaged tells)
+    same_has (BlamesBroken s.records s.shape) c.from_residual.result c.in_err-unnamed.field-0.0 c.from_residual.ensures.1
+    (c.in_err-unnamed.ensures.damaged tells)
 
 pub returns-in-Some-clause-damaged : goal.returns-in-Some-clause-damaged
 returns-in-Some-clause-damaged g c tells =

@@ -19,7 +19,8 @@ returns-in-Err-clause-named g c tells ds are =
     let now = g.R.Reads.state c.tested_bucket.new.space in
     let same = c.in-Err.ensures.same in
     definition_before s now c.name_index.result same
-    (c.name_index.ensures.named tells (index_before now s c.args.label c.args.key c.in-Err.fault (same_back s now same) (c.in-Err.ensures.wrong tells)) ds (definitions_after s now ds same are))
+    (c.name_index.ensures.named tells (index_before now s c.args.label c.args.key c.in-Err.fault (same_back s now same) (c.in-Err.ensures.wrong tells)) ds
+    (definitions_after s now ds same are))
 
 pub returns-in-Err-clause-damaged : goal.returns-in-Err-clause-damaged
 returns-in-Err-clause-damaged g c tells =
@@ -34,10 +35,12 @@ pub returns-in-Err-clause-names : goal.returns-in-Err-clause-names
 returns-in-Err-clause-names g c tells = c.name_index.ensures.names tells (c.in-Err.ensures.names tells)
 
 pub returns-in-Err-clause-same : goal.returns-in-Err-clause-same
-returns-in-Err-clause-same g c = same_then (g.R.Reads.state c.args.space.now) (g.R.Reads.state c.tested_bucket.new.space) (g.R.Reads.state c.name_index.new.space) c.in-Err.ensures.same c.name_index.ensures.same
+returns-in-Err-clause-same g c = same_then (g.R.Reads.state c.args.space.now) (g.R.Reads.state c.tested_bucket.new.space)
+    (g.R.Reads.state c.name_index.new.space) c.in-Err.ensures.same c.name_index.ensures.same
 
 pub returns-in-Err-clause-onward : goal.returns-in-Err-clause-onward
 returns-in-Err-clause-onward g c = g.met.R.Reads.further_onward _ _ _ c.in-Err.ensures.onward c.name_index.ensures.onward
 
 pub returns-in-Err-clause-cause : goal.returns-in-Err-clause-cause
-returns-in-Err-clause-cause g c = named_cause _ _ _ c.in-Err.fault c.name_index.result c.in-Err.ensures.cause c.name_index.ensures.later c.name_index.ensures.disk
+returns-in-Err-clause-cause g c = named_cause _ _ _ c.in-Err.fault c.name_index.result c.in-Err.ensures.cause c.name_index.ensures.later
+    c.name_index.ensures.disk

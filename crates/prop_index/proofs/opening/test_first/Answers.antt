@@ -22,7 +22,8 @@ returns-clause-wrong g c tells d b h =
     let s = g.R.Reads.state c.args.space.now in
     let first = c.args.bucket.first in
     if_err c.record_at.result
-    (λ fault why. entry_fault s d b 0 first _ h c.if-bucket-eq-NIL.false refl fault (subst (λ named. IsReadFault s first format.indexed named fault) c.out_of_range-named.ensures why))
+    (λ fault why. entry_fault s d b 0 first _ h c.if-bucket-eq-NIL.false refl fault (subst (λ named. IsReadFault s first format.indexed named fault)
+    c.out_of_range-named.ensures why))
     (c.record_at.ensures.damaged tells)
 
 pub returns-clause-same : goal.returns-clause-same

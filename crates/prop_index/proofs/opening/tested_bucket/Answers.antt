@@ -99,10 +99,12 @@ pub returns-in_default-clause-same : goal.returns-in_default-clause-same
 returns-in_default-clause-same g c = reads_same 18 _ _ c.in_ok-bucket.ensures.at_most
 
 pub returns-in_err-test_first-clause-same : goal.returns-in_err-test_first-clause-same
-returns-in_err-test_first-clause-same g c = same_then (g.R.Reads.state c.args.space.now) (g.R.Reads.state c.find_bucket.new.space) (g.R.Reads.state c.test_first.new.space) (reads_same 18 _ _ c.in_ok-bucket.ensures.at_most) c.in_err-test_first.ensures.same
+returns-in_err-test_first-clause-same g c = same_then (g.R.Reads.state c.args.space.now) (g.R.Reads.state c.find_bucket.new.space)
+    (g.R.Reads.state c.test_first.new.space) (reads_same 18 _ _ c.in_ok-bucket.ensures.at_most) c.in_err-test_first.ensures.same
 
 pub returns-clause-same : goal.returns-clause-same
-returns-clause-same g c = same_then (g.R.Reads.state c.args.space.now) (g.R.Reads.state c.find_bucket.new.space) (g.R.Reads.state c.test_first.new.space) (reads_same 18 _ _ c.in_ok-bucket.ensures.at_most) c.in_ok-test_first.ensures.same
+returns-clause-same g c = same_then (g.R.Reads.state c.args.space.now) (g.R.Reads.state c.find_bucket.new.space) (g.R.Reads.state c.test_first.new.space)
+    (reads_same 18 _ _ c.in_ok-bucket.ensures.at_most) c.in_ok-test_first.ensures.same
 
 pub returns-in_err-bucket-clause-found : goal.returns-in_err-bucket-clause-found
 returns-in_err-bucket-clause-found g c _ _ _ = never_ok c.from_residual.result _ _ c.from_residual.ensures.1

@@ -42,7 +42,8 @@ returns-then-byte-kind-clause-damaged g c tells =
     let low : c.args.id < high s.records format.index_file = subst (λ (m : Meta). c.args.id < m.high) c.meta.ensures c.if-id-meta.false in
     let got : c.get_into.new.rec ≡ index_rec s.records c.args.id = c.in_ok-get_into.ensures.got tells in
     let other : kind_at s.records format.index_file c.args.id ≢ c.args.kind = λ e. c.if-byte-kind.true
-    (c.byte.ensures ∙ ap (λ (r : Rec). field 1 r format.kind) got ∙ sym (kind_low (high s.records format.index_file) (index_rec s.records c.args.id) c.args.id low) ∙ e) in
+    (c.byte.ensures ∙ ap (λ (r : Rec). field 1 r format.kind) got ∙ sym (kind_low (high s.records format.index_file) (index_rec s.records c.args.id)
+    c.args.id low) ∙ e) in
     subst (IsReadFault s c.args.id c.args.kind c.args.named) (sym c.damaged-then-byte-kind.ensures) (OtherKind low other)
 
 pub returns-then-byte-kind-clause-at_most : goal.returns-then-byte-kind-clause-at_most

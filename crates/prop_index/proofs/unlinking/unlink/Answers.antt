@@ -11,16 +11,19 @@ returns-in_err-give-clause-touches g c = index_given 3 _ _ c.args.id (omega arit
 
 pub returns-in_err-back-clause-touches : goal.returns-in_err-back-clause-touches
 returns-in_err-back-clause-touches g c =
-    index_then 1 1 3 _ _ _ (omega arith) (index_given 1 _ _ c.args.id (omega arith) (record { writes = c.in_ok-give.ensures.writes; stays = c.in_ok-give.ensures.stays })) c.in_err-back.ensures.touches
+    index_then 1 1 3 _ _ _ (omega arith) (index_given 1 _ _ c.args.id (omega arith)
+    (record { writes = c.in_ok-give.ensures.writes; stays = c.in_ok-give.ensures.stays })) c.in_err-back.ensures.touches
 
 pub returns-in_err-lead-clause-touches : goal.returns-in_err-lead-clause-touches
 returns-in_err-lead-clause-touches g c =
-    index_then 2 1 3 _ _ _ (omega arith) (index_then 1 1 2 _ _ _ (omega arith) (index_given 1 _ _ c.args.id (omega arith) (record { writes = c.in_ok-give.ensures.writes; stays = c.in_ok-give.ensures.stays }))
+    index_then 2 1 3 _ _ _ (omega arith) (index_then 1 1 2 _ _ _ (omega arith) (index_given 1 _ _ c.args.id (omega arith)
+    (record { writes = c.in_ok-give.ensures.writes; stays = c.in_ok-give.ensures.stays }))
     c.in_ok-back.ensures.touches) c.in_err-lead.ensures.touches
 
 pub returns-clause-touches : goal.returns-clause-touches
 returns-clause-touches g c =
-    index_then 2 1 3 _ _ _ (omega arith) (index_then 1 1 2 _ _ _ (omega arith) (index_given 1 _ _ c.args.id (omega arith) (record { writes = c.in_ok-give.ensures.writes; stays = c.in_ok-give.ensures.stays }))
+    index_then 2 1 3 _ _ _ (omega arith) (index_then 1 1 2 _ _ _ (omega arith) (index_given 1 _ _ c.args.id (omega arith)
+    (record { writes = c.in_ok-give.ensures.writes; stays = c.in_ok-give.ensures.stays }))
     c.in_ok-back.ensures.touches) c.in_ok-lead.ensures.touches
 
 pub returns-in_err-give-clause-ok : goal.returns-in_err-give-clause-ok

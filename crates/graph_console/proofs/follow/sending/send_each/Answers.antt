@@ -29,7 +29,8 @@ lines-preserved g c = λ reads has.
     let fits : length pairs ≤ most_shipped = let counted = c.len-else-len-eq0.ensures.value in let other = c.if-len-gt-MOST_SHIPPED.false in
     grind (arith, nat_tests) in
     subst (λ (sent : List (List ℕ)). HasSentTurns g.D.Disk options (c.lines._line + 1) c.note.new.self sent now) (sym c.in_ok-add.ensures)
-    (sent_more g.D.Disk options c.lines._line c.lines.sampler c.note.new.self c.lines.shipments (shared_view c.lines.session) now c.taken.result.now pairs reads (omega arith)
+    (sent_more g.D.Disk options c.lines._line c.lines.sampler c.note.new.self c.lines.shipments (shared_view c.lines.session) now c.taken.result.now pairs reads
+    (omega arith)
     (c.sends_what_it_commits.ensures.goes_on reads (shape_of (sample_config options))) (c.lines.invariant reads has) answers adds some fits)
 
 pub returns : goal.returns
@@ -37,4 +38,5 @@ returns g c = λ reads has.
     let all : c.lines._line ≡ c.args.options.count = omega arith in
     subst (λ (x : ℕ). SendsSample g.D.Disk.tells_reads c.args.options x c.lines.shipments) (sym c.into_generator.ensures)
     (sends_sample g.D.Disk c.args.options c.lines.sampler c.lines.shipments (shared_view c.lines.session)
-    (subst (λ (turns : ℕ). HasSentTurns g.D.Disk c.args.options turns c.lines.sampler c.lines.shipments (shared_view c.lines.session)) all (c.lines.invariant reads has)))
+    (subst (λ (turns : ℕ). HasSentTurns g.D.Disk c.args.options turns c.lines.sampler c.lines.shipments (shared_view c.lines.session)) all
+    (c.lines.invariant reads has)))

@@ -26,5 +26,6 @@ returns-in-Ok g c =
     let asked = subst (λ (config : Config). OpensSession g.D.Disk config c.args.disk.now now) c.config_of.ensures opens in
     IfOk-weaker c.send_each-sent.result _ _
     (λ sent h reads zeros. h reads
-    (c.sends_what_it_commits.ensures.begins reads (sample_config options) c.args.disk.now now (sample_allowed options (let few = c.requires in omega arith)) zeros asked))
+    (c.sends_what_it_commits.ensures.begins reads (sample_config options) c.args.disk.now now (sample_allowed options (let few = c.requires in omega arith))
+    zeros asked))
     c.send_each-sent.ensures

@@ -21,7 +21,8 @@ lines-preserved g c = record {
         asks.2 ∙ ap (λ (taken : List ℕ). taken ++ asks.0) so_far.1 ∙ append_assoc (g.K.Sink.taken c.args.output.now) so_far.0 asks.0,
         subst (λ (asked : List (List ℕ)). SampledTo g.D.Disk options asked (shared_view c.ask_aloud.new.session) (so_far.0 ++ asks.0))
             (last_lines_more c.lines.index c.lines-test.true c.last_line.result.now c.last_line.ensures)
-            (sampled_on (take c.lines.index last_lines) c.last_line.result.now asks.0 so_far.0 (shared_view c.lines.session) (shared_view c.ask_aloud.new.session) so_far.2 asks.1),
+            (sampled_on (take c.lines.index last_lines) c.last_line.result.now asks.0 so_far.0 (shared_view c.lines.session)
+            (shared_view c.ask_aloud.new.session) so_far.2 asks.1),
       );
   later = omega (arith, c.lines.invariant.later, c.in_default.ensures.later);
 }
@@ -45,5 +46,6 @@ returns-clause-samples g c = λ options s k.
       so_far.0,
       so_far.1,
       ends_sample (shared_view c.lines.session) so_far.0
-          (subst (λ (asked : List (List ℕ)). SampledTo g.D.Disk options asked (shared_view c.lines.session) so_far.0) (last_lines_all c.lines.index at_end) so_far.2),
+          (subst (λ (asked : List (List ℕ)). SampledTo g.D.Disk options asked (shared_view c.lines.session) so_far.0) (last_lines_all c.lines.index at_end)
+          so_far.2),
     )

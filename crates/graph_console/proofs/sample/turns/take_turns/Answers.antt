@@ -17,10 +17,14 @@ turns-preserved g c = λ is_at.
     c.taken.result.now (c.turns.invariant is_at)
     (λ state at.
     subst (λ (text : List ℕ). AnswersWell g.D.Disk (turn c.turns.sampler).line text state (shared_view c.ask.new.session)) (sym c.taken.ensures)
-    (subst (λ (line : List ℕ). AnswersWell g.D.Disk line c.in_ok-reply.reply.taken state (shared_view c.ask.new.session)) line_is (c.in_ok-reply.ensures state at)))
+    (subst (λ (line : List ℕ). AnswersWell g.D.Disk line c.in_ok-reply.reply.taken state (shared_view c.ask.new.session)) line_is
+    (c.in_ok-reply.ensures state at)))
     (subst (λ (after : SampleState). Adds c.taken.result.now after c.note.new.self) c.next_line-line.ensures.after c.in_ok-note.ensures)
 
 pub returns : goal.returns
 returns g c = λ is_at.
-    let all : c.turns._turn ≡ c.args.options.count = omega arith in
-    (c.turns.sampler, subst (λ (turns : ℕ). TookTurns g.D.Disk c.args.options turns c.turns.sampler (shared_view c.turns.session)) all (c.turns.invariant is_at))
+    let all : c.turns._turn ≡ c.args.options.count = omega arith in (
+      c.turns.sampler,
+      subst (λ (turns : ℕ). TookTurns g.D.Disk c.args.options turns c.turns.sampler (shared_view c.turns.session)) all
+          (c.turns.invariant is_at),
+    )

@@ -21,7 +21,8 @@ returns-in-Ok-clause-gives g c =
     (λ told store. met.missing told store.store)
     (λ told store.
     ap (λ (edges : ℕ). one_line (degree_text edges))
-    (met.rows told store.store ∙ rows-degree s.records s.shape store.store (option_list c.number_in.result) c.args.label.now (c.number_in.ensures.stands s.records s.shape store) c.args.direction c.args.id))
+    (met.rows told store.store ∙ rows-degree s.records s.shape store.store (option_list c.number_in.result) c.args.label.now
+    (c.number_in.ensures.stands s.records s.shape store) c.args.direction c.args.id))
     (rw (c.as_bytes.ensures, c.degree-in-Ok.ensures) at c.give_line.ensures)
 
 pub returns-in-Err-clause-gives : goal.returns-in-Err-clause-gives

@@ -60,7 +60,8 @@ each-preserved g c =
       has = subst (λ (lines : List (List ℕ)). HasLines g.K.Sink c.args.mark.now c.args.output.now c.add_index.new.output c.add_index.new.self lines)
           (sym (lines-next names count pairs c.each.from place c.in-Some.ensures))
           (lines-add c.each.invariant.has (place_line names count place) c.add_index.new.self c.add_index.new.output
-          (subst (λ (text : List ℕ). AddsLine g.K.Sink (text_line text) c.each.lines c.add_index.new.self c.each.output c.add_index.new.output Go) line (rw c.in-Go.is at c.add_index.ensures)));
+          (subst (λ (text : List ℕ). AddsLine g.K.Sink (text_line text) c.each.lines c.add_index.new.self c.each.output c.add_index.new.output Go) line
+          (rw c.in-Go.is at c.add_index.ensures)));
       low = omega (arith, low);
     }
 
@@ -73,9 +74,11 @@ returns-in_default-add_index g c =
     let low = taken-below count pairs place c.in-Some.ensures.1 in
     let line = placed names count place c.text-label.result.now c.text-key.result.now c.text-label.ensures.is c.text-key.ensures.is in
     lines-stop_in c.each.invariant.has (index_lines names count pairs) end_text (place_line names count place)
-    (subst (λ (lines : List (List ℕ)). AreFirst lines (index_lines names count pairs)) (lines-next names count pairs c.each.from place c.in-Some.ensures) (lines-begin names count pairs (place + 1) (omega (arith, low))))
+    (subst (λ (lines : List (List ℕ)). AreFirst lines (index_lines names count pairs)) (lines-next names count pairs c.each.from place c.in-Some.ensures)
+    (lines-begin names count pairs (place + 1) (omega (arith, low))))
     c.add_index.new.self c.add_index.new.output c.add_index.result
-    (subst (λ (text : List ℕ). AddsLine g.K.Sink (text_line text) c.each.lines c.add_index.new.self c.each.output c.add_index.new.output c.add_index.result) line c.add_index.ensures) c.in_default-add_index.not-Go
+    (subst (λ (text : List ℕ). AddsLine g.K.Sink (text_line text) c.each.lines c.add_index.new.self c.each.output c.add_index.new.output c.add_index.result)
+    line c.add_index.ensures) c.in_default-add_index.not-Go
 
 pub returns : goal.returns
 returns g c =

@@ -29,7 +29,8 @@ returns-in_default g c =
     let long = length-take-le c.args.count names c.requires in
     let low : c.loop-id.id < length all = omega (arith, long, c.loop-id-test.true) in
     listing-stop name_text [] all c.loop-id.invariant [] low c.add_name.new.self c.add_name.new.output end_text c.add_name.result
-    (subst (λ (text : List ℕ). AddsLine g.K.Sink (text_line (name_text text)) c.loop-id.lines c.add_name.new.self c.loop-id.output c.add_name.new.output c.add_name.result)
+    (subst (λ (text : List ℕ). AddsLine g.K.Sink (text_line (name_text text)) c.loop-id.lines c.add_name.new.self c.loop-id.output c.add_name.new.output
+    c.add_name.result)
     (sym (name-taken names c.args.count c.loop-id.id c.text.result.now c.loop-id-test.true c.text.ensures.is)) c.add_name.ensures) c.in_default.not-Go
 
 pub returns : goal.returns

@@ -81,7 +81,8 @@ returns-in-Damaged-clause-gives g c =
 pub returns-in-PastCount-clause-gives : goal.returns-in-PastCount-clause-gives
 returns-in-PastCount-clause-gives g c =
     running-fault g.met.R.Reads.further_onward c.loop.invariant.running c.next.ensures.read PastCount
-    (shows-past g.met.R.Reads.further_onward c.loop.invariant.running (λ told-now store-now. c.in-PastCount.ensures.past told-now store-now c.loop.invariant.running.goes refl))
+    (shows-past g.met.R.Reads.further_onward c.loop.invariant.running (λ told-now store-now. c.in-PastCount.ensures.past told-now store-now
+    c.loop.invariant.running.goes refl))
     (λ blames. absurd (blames refl)) (λ told. tt) c.finish-in-PastCount.new.output c.finish-in-PastCount.result
     (rw c.past_count.ensures at c.finish-in-PastCount.ensures)
 

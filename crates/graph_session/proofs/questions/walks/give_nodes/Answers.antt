@@ -17,7 +17,8 @@ pub returns-in_default : goal.returns-in_default
 returns-in_default g c =
     let walk = c.args.walk.now in
     gives-walk c.args.mark.now walk (omega arith)
-    (lines-stop_in (lines-none c.args.mark.now c.args.output.now) (edge_count_lines walk ++ map node_line walk) end_text (path_text (length walk - 1)) (map node_line walk, refl) c.add.new.self c.add.new.output c.add.result
+    (lines-stop_in (lines-none c.args.mark.now c.args.output.now) (edge_count_lines walk ++ map node_line walk) end_text (path_text (length walk - 1))
+    (map node_line walk, refl) c.add.new.self c.add.new.output c.add.result
     (rw (c.new-lines.ensures, c.as_bytes.ensures, c.path.ensures) at c.add.ensures) c.in_default.not-Go)
 
 pub loop-id-preserved : goal.loop-id-preserved
@@ -30,10 +31,12 @@ pub returns-in_default-add_result : goal.returns-in_default-add_result
 returns-in_default-add_result g c =
     let walk = c.args.walk.now in
     gives-walk c.args.mark.now walk (omega arith)
-    (listing-stop node_line (edge_count_lines walk) walk c.loop-id.invariant 0 c.loop-id-test.true c.add_result.new.self c.add_result.new.output end_text c.add_result.result c.add_result.ensures c.in_default-add_result.not-Go)
+    (listing-stop node_line (edge_count_lines walk) walk c.loop-id.invariant 0 c.loop-id-test.true c.add_result.new.self c.add_result.new.output end_text
+    c.add_result.result c.add_result.ensures c.in_default-add_result.not-Go)
 
 pub returns : goal.returns
 returns g c =
     let walk = c.args.walk.now in
     gives-walk c.args.mark.now walk (omega arith)
-    (listing-end node_line (edge_count_lines walk) walk c.loop-id.invariant c.loop-id.auto.id-index-end c.loop-id-test.false end_text c.finish.new.output c.finish.result (rw c.end_of_results.ensures at c.finish.ensures))
+    (listing-end node_line (edge_count_lines walk) walk c.loop-id.invariant c.loop-id.auto.id-index-end c.loop-id-test.false end_text c.finish.new.output
+    c.finish.result (rw c.end_of_results.ensures at c.finish.ensures))

@@ -12,7 +12,8 @@ returns-in_default g c =
     let is : item ≡ get_or items c.loop-item.item-index item = cc in
     let lt : c.loop-item.item-index < length items = omega (arith, ap (λ (list : List Item). length list) c.deref-item-items.ensures.value) in
     listing-stop item_line [] items c.loop-item.invariant item lt c.add_result.new.self c.add_result.new.output end_text c.add_result.result
-    (subst (λ (i : Item). AddsLine g.K.Sink (result_text i) c.loop-item.lines c.add_result.new.self c.loop-item.output c.add_result.new.output c.add_result.result) is c.add_result.ensures) c.in_default.not-Go
+    (subst (λ (i : Item). AddsLine g.K.Sink (result_text i) c.loop-item.lines c.add_result.new.self c.loop-item.output c.add_result.new.output
+    c.add_result.result) is c.add_result.ensures) c.in_default.not-Go
 
 pub returns : goal.returns
 returns g c =

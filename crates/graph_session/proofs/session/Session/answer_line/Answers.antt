@@ -40,9 +40,12 @@ returns-in-Ok-clause-careful g c = λ spells. c.answer.ensures.careful (sym (c.i
 pub returns-in-Err-clause-answers : goal.returns-in-Err-clause-answers
 returns-in-Err-clause-answers g c =
     taps-refused c.args.tap.now c.args.tap.now (takes-nothing c.args.tap.now c.requires.room) (fault-unconfirmed c.in-Err.fault)
-    (fault-with g.D.Disk g.met.D.Disk.only_now g.K.Sink c.args.line.now c.in-Err.fault c.in-Err.ensures.none (λ e. c.in-Err.ensures.memory (ap Err e)) c.in-Err.ensures.fault
-    (subst (λ (mark : List ℕ). Gives g.K.Sink (marked_text mark (reply_of (told_of c.in-Err.fault))) c.args.output.now c.give_answer.new.output c.give_answer.result)
+    (fault-with g.D.Disk g.met.D.Disk.only_now g.K.Sink c.args.line.now c.in-Err.fault c.in-Err.ensures.none (λ e. c.in-Err.ensures.memory (ap Err e))
+    c.in-Err.ensures.fault
+    (subst (λ (mark : List ℕ). Gives g.K.Sink (marked_text mark (reply_of (told_of c.in-Err.fault))) c.args.output.now c.give_answer.new.output
+    c.give_answer.result)
     (marked c.args.line.now c.named_session.ensures c.mark_of-mark.ensures c.as_bytes-in-Err.ensures) (rw c.answer_of.ensures at c.give_answer.ensures)))
 
 pub returns-in-Err-clause-careful : goal.returns-in-Err-clause-careful
-returns-in-Err-clause-careful g c = λ spells. absurd (spells-none c.args.line.now c.in-Err.fault c.in-Err.ensures.none (λ e. c.in-Err.ensures.memory (ap Err e)) commands.Reopen tt spells)
+returns-in-Err-clause-careful g c = λ spells. absurd (spells-none c.args.line.now c.in-Err.fault c.in-Err.ensures.none (λ e. c.in-Err.ensures.memory (ap Err e))
+    commands.Reopen tt spells)

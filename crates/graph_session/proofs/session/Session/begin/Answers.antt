@@ -19,7 +19,11 @@ returns-then-in_transaction-clause-settles g c = refused-begin {g = g.D.Disk} g.
     (sym c.if-in_transaction.ensures.is)
 
 pub returns-clause-keeps : goal.returns-clause-keeps
-returns-clause-keeps g c = record { held = refl; weighed = λ none weighed opened. subst (λ (written : Pairs). AreWeighed written start_weight) (sym c.begin.ensures.own) weighed-start }
+returns-clause-keeps g c = record {
+  held = refl;
+  weighed = λ none weighed opened. subst (λ (written : Pairs). AreWeighed written start_weight)
+      (sym c.begin.ensures.own) weighed-start;
+}
 
 pub returns-then-in_transaction-clause-keeps : goal.returns-then-in_transaction-clause-keeps
 returns-then-in_transaction-clause-keeps g c = record { held = refl; weighed = λ none weighed. weighed }

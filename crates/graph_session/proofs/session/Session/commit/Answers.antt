@@ -52,7 +52,8 @@ returns-then-not-in_transaction-clause-taps g c = takes-weaker c.args.tap.now c.
 pub returns-in-Ok-clause-taps : goal.returns-in-Ok-clause-taps
 returns-in-Ok-clause-taps g c =
     let done = c.in-Ok.ensures in
-    takes-weaker c.args.tap.now c.fill.new.tap (λ pairs has. taps-ended tt (inl refl) pairs (λ commits. has.is) (λ change. absurd (commit-still change)) (tapped-written (view c.args.self.now) _ pairs has done.same.shape done.done.space)) c.fill.ensures
+    takes-weaker c.args.tap.now c.fill.new.tap (λ pairs has. taps-ended tt (inl refl) pairs (λ commits. has.is) (λ change. absurd (commit-still change))
+    (tapped-written (view c.args.self.now) _ pairs has done.same.shape done.done.space)) c.fill.ensures
 
 pub returns-in-Err-clause-taps : goal.returns-in-Err-clause-taps
 returns-in-Err-clause-taps g c = takes-weaker c.args.tap.now c.forget.new.tap (taps-unconfirmed (λ confirms. confirms))

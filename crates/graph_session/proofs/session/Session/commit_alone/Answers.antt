@@ -38,13 +38,28 @@ returns-in-Err-clause-tries g c =
       writes = refl;
       ended = done.ended;
       held = done.held;
-      ends = inr (refl, records-failed c.args.self.now _ (record { same = done.same; in_transaction = done.closed; own = done.own; draft = done.draft }) refl refl done.cause.failed done.failed);
+      ends = inr (
+        refl,
+        records-failed c.args.self.now _ (record { same = done.same; in_transaction = done.closed; own = done.own; draft = done.draft })
+            refl refl done.cause.failed done.failed,
+      );
     }
 
 pub returns-in-Ok-clause-taps : goal.returns-in-Ok-clause-taps
 returns-in-Ok-clause-taps g c =
     let done = c.in-Ok.ensures in
-    inl (refl, takes-weaker c.args.tap.now c.fill.new.tap (λ pairs has. (has.is, tapped-written (view c.args.self.now) _ pairs has done.same.shape done.done.space)) c.fill.ensures)
+    inl (
+      refl,
+      takes-weaker c.args.tap.now c.fill.new.tap (λ pairs has. (
+        has.is,
+        tapped-written (view c.args.self.now) _ pairs has done.same.shape
+            done.done.space,
+      )) c.fill.ensures,
+    )
 
 pub returns-in-Err-clause-taps : goal.returns-in-Err-clause-taps
-returns-in-Err-clause-taps g c = inr (refl, takes-then (HasWritten (view c.args.self.now).console) IsEmpty c.args.tap.now c.fill.new.tap c.forget.new.tap c.fill.ensures c.forget.ensures)
+returns-in-Err-clause-taps g c = inr (
+  refl,
+  takes-then (HasWritten (view c.args.self.now).console) IsEmpty c.args.tap.now c.fill.new.tap c.forget.new.tap
+      c.fill.ensures c.forget.ensures,
+)

@@ -16,7 +16,8 @@ pub returns-in-Node-clause-drafts : goal.returns-in-Node-clause-drafts
 returns-in-Node-clause-drafts g c =
     let met = c.add_node.ensures in
     rw (c.in-Node.is, c.drafted_node.ensures)
-    (drafts-call (λ (added : Added). answers.NodeMade added.id) (λ (added : Added). added.weight) (commands.Node c.in-Node.label.now c.in-Node.pairs.now) (λ added. (added.id, refl)) (returns-in-Node-clause-only g c) c.add_node.result (λ told. met.made told) met.light met.writes
+    (drafts-call (λ (added : Added). answers.NodeMade added.id) (λ (added : Added). added.weight) (commands.Node c.in-Node.label.now c.in-Node.pairs.now)
+    (λ added. (added.id, refl)) (returns-in-Node-clause-only g c) c.add_node.result (λ told. met.made told) met.light met.writes
     (λ told has. met.refused told has) (λ told. met.damaged told) (λ made is told. tt) met.cause)
 
 pub returns-in-Edge-clause-only : goal.returns-in-Edge-clause-only
@@ -28,7 +29,8 @@ pub returns-in-Edge-clause-drafts : goal.returns-in-Edge-clause-drafts
 returns-in-Edge-clause-drafts g c =
     let met = c.add_edge.ensures in
     rw (c.in-Edge.is, c.drafted_edge.ensures)
-    (drafts-call (λ (added : Added). answers.EdgeMade added.id) (λ (added : Added). added.weight) (commands.Edge c.in-Edge.from c.in-Edge.label.now c.in-Edge.to c.in-Edge.pairs.now) (λ added. (added.id, refl)) (returns-in-Edge-clause-only g c) c.add_edge.result (λ told. met.made told) met.light met.writes
+    (drafts-call (λ (added : Added). answers.EdgeMade added.id) (λ (added : Added). added.weight) (commands.Edge c.in-Edge.from c.in-Edge.label.now c.in-Edge.to
+    c.in-Edge.pairs.now) (λ added. (added.id, refl)) (returns-in-Edge-clause-only g c) c.add_edge.result (λ told. met.made told) met.light met.writes
     (λ told has. met.refused told has) (λ told. met.damaged told) (λ made is told. tt) met.cause)
 
 pub returns-in-Set-clause-only : goal.returns-in-Set-clause-only
@@ -40,19 +42,29 @@ pub returns-in-Set-clause-drafts : goal.returns-in-Set-clause-drafts
 returns-in-Set-clause-drafts g c =
     let met = c.set.ensures in
     rw (c.in-Set.is, c.drafted_done.ensures)
-    (drafts-call (λ (weight : ℕ). answers.Done) (λ (weight : ℕ). weight) (commands.Set c.in-Set.target c.in-Set.key.now c.in-Set.value.now) (λ weight. refl) (returns-in-Set-clause-only g c) c.set.result (λ told. met.made told) met.light met.writes
+    (drafts-call (λ (weight : ℕ). answers.Done) (λ (weight : ℕ). weight) (commands.Set c.in-Set.target c.in-Set.key.now c.in-Set.value.now) (λ weight. refl)
+    (returns-in-Set-clause-only g c) c.set.result (λ told. met.made told) met.light met.writes
     (λ told has. met.refused told has) (λ told. met.damaged told) (λ made is told. tt) met.cause)
 
 pub returns-in-Unset-clause-only : goal.returns-in-Unset-clause-only
 returns-in-Unset-clause-only g c =
     let met = c.unset.ensures in
-    record { base = met.onward; weight = refl; health = refl; snaps = refl; brought = ([], sym (append-nil c.args.self.now.names.names)); later = met.cause.later }
+    record {
+      base = met.onward;
+      weight = refl;
+      health = refl;
+      snaps = refl;
+      brought = ([], sym (append-nil c.args.self.now.names.names));
+      later =
+          met.cause.later;
+    }
 
 pub returns-in-Unset-clause-drafts : goal.returns-in-Unset-clause-drafts
 returns-in-Unset-clause-drafts g c =
     let met = c.unset.ensures in
     rw (c.in-Unset.is, c.drafted_done-in-Unset.ensures)
-    (drafts-call (λ (weight : ℕ). answers.Done) (λ (weight : ℕ). weight) (commands.Unset c.in-Unset.target c.in-Unset.key.now) (λ weight. refl) (returns-in-Unset-clause-only g c) c.unset.result (λ told. met.made told) met.light met.writes
+    (drafts-call (λ (weight : ℕ). answers.Done) (λ (weight : ℕ). weight) (commands.Unset c.in-Unset.target c.in-Unset.key.now) (λ weight. refl)
+    (returns-in-Unset-clause-only g c) c.unset.result (λ told. met.made told) met.light met.writes
     (λ told has. met.refused told has) (λ told. met.damaged told) (λ made is told. tt) met.cause)
 
 pub returns-in-Delete-clause-only : goal.returns-in-Delete-clause-only
@@ -70,9 +82,11 @@ pub returns-in-Index-clause-drafts : goal.returns-in-Index-clause-drafts
 returns-in-Index-clause-drafts g c =
     let met = c.index.ensures in
     rw (c.in-Index.is, c.drafted_done-in-Index.ensures)
-    (drafts-call (λ (weight : ℕ). answers.Done) (λ (weight : ℕ). weight) (commands.Index c.in-Index.label.now c.in-Index.key.now) (λ weight. refl) (returns-in-Index-clause-only g c) c.index.result (λ told. met.made told) met.light met.writes
+    (drafts-call (λ (weight : ℕ). answers.Done) (λ (weight : ℕ). weight) (commands.Index c.in-Index.label.now c.in-Index.key.now) (λ weight. refl)
+    (returns-in-Index-clause-only g c) c.index.result (λ told. met.made told) met.light met.writes
     (λ told has. met.refused told has)
-    (λ told. index-blames c.in-Index.label.now c.in-Index.key.now (state_of c.args.self.now.store) (state_of c.index.new.space) c.args.self.now.names.names c.index.new.names.names c.index.result (met.damaged told)) (λ made is told. tt) met.cause)
+    (λ told. index-blames c.in-Index.label.now c.in-Index.key.now (state_of c.args.self.now.store) (state_of c.index.new.space) c.args.self.now.names.names
+    c.index.new.names.names c.index.result (met.damaged told)) (λ made is told. tt) met.cause)
 
 pub returns-in-Mutate-clause-only : goal.returns-in-Mutate-clause-only
 returns-in-Mutate-clause-only g c = c.draft_mutation.ensures.only

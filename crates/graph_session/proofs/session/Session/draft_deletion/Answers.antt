@@ -10,24 +10,43 @@ use Rattle.graph_session.proofs.session.Session.draft_deletion.Goals as goal
 pub returns-in-Node-clause-only : goal.returns-in-Node-clause-only
 returns-in-Node-clause-only g c =
     let met = c.delete_node.ensures in
-    record { base = met.onward; weight = refl; health = refl; snaps = refl; brought = ([], sym (append-nil c.args.self.now.names.names)); later = met.cause.later }
+    record {
+      base = met.onward;
+      weight = refl;
+      health = refl;
+      snaps = refl;
+      brought = ([], sym (append-nil c.args.self.now.names.names));
+      later =
+          met.cause.later;
+    }
 
 pub returns-in-Node-clause-drafts : goal.returns-in-Node-clause-drafts
 returns-in-Node-clause-drafts g c =
     let met = c.delete_node.ensures in
     rw (c.in-Node.is, c.drafted_done.ensures)
-    (drafts-call (λ (weight : ℕ). answers.Done) (λ (weight : ℕ). weight) (commands.Delete (targets.Node c.in-Node.id)) (λ weight. refl) (returns-in-Node-clause-only g c) c.delete_node.result (λ told. met.made told) met.light met.writes
+    (drafts-call (λ (weight : ℕ). answers.Done) (λ (weight : ℕ). weight) (commands.Delete (targets.Node c.in-Node.id)) (λ weight. refl)
+    (returns-in-Node-clause-only g c) c.delete_node.result (λ told. met.made told) met.light met.writes
     (λ told has. met.refused told has) (λ told. met.found told)
-    (λ made is told. deletion-left c.in-Node.id (drafted c.args.self.now.store) (drafted c.delete_node.new.space) c.delete_node.result (met.lone told) (met.gone told) made is) met.cause)
+    (λ made is told. deletion-left c.in-Node.id (drafted c.args.self.now.store) (drafted c.delete_node.new.space) c.delete_node.result (met.lone told)
+    (met.gone told) made is) met.cause)
 
 pub returns-in-Edge-clause-only : goal.returns-in-Edge-clause-only
 returns-in-Edge-clause-only g c =
     let met = c.delete_edge.ensures in
-    record { base = met.onward; weight = refl; health = refl; snaps = refl; brought = ([], sym (append-nil c.args.self.now.names.names)); later = met.cause.later }
+    record {
+      base = met.onward;
+      weight = refl;
+      health = refl;
+      snaps = refl;
+      brought = ([], sym (append-nil c.args.self.now.names.names));
+      later =
+          met.cause.later;
+    }
 
 pub returns-in-Edge-clause-drafts : goal.returns-in-Edge-clause-drafts
 returns-in-Edge-clause-drafts g c =
     let met = c.delete_edge.ensures in
     rw (c.in-Edge.is, c.drafted_done-in-Edge.ensures)
-    (drafts-call (λ (weight : ℕ). answers.Done) (λ (weight : ℕ). weight) (commands.Delete (targets.Edge c.in-Edge.id)) (λ weight. refl) (returns-in-Edge-clause-only g c) c.delete_edge.result (λ told. met.made told) met.light met.writes
+    (drafts-call (λ (weight : ℕ). answers.Done) (λ (weight : ℕ). weight) (commands.Delete (targets.Edge c.in-Edge.id)) (λ weight. refl)
+    (returns-in-Edge-clause-only g c) c.delete_edge.result (λ told. met.made told) met.light met.writes
     (λ told has. met.refused told has) (λ told. met.damaged told) (λ made is told. tt) met.cause)

@@ -46,10 +46,13 @@ returns-in-Err-clause-drafts g c =
     (λ told. inr (record {
       items = c.in_ok-items.items.items;
       caused =
-          subst (λ (known : List (List ℕ)). IsListCaused (changes_of c.args.mutation.now c.in_ok-items.items.items) (state_of left) known c.mutate.new.names.names c.in-Err.fault)
+          subst (λ (known : List (List ℕ)). IsListCaused (changes_of c.args.mutation.now c.in_ok-items.items.items) (state_of left)
+          known c.mutate.new.names.names c.in-Err.fault)
           read.names (met.still told);
       deletions = met.blamed told;
-      lone = λ target drops one. deletion-blames (state_of old.store) (state_of mid.store) read.same target (state_of left) c.in-Err.fault (met.lone told target drops one);
+      lone = λ target drops one. deletion-blames (state_of old.store) (state_of mid.store) read.same target (state_of left) c.in-Err.fault
+          (met.lone told target drops one);
     }))
-    (λ e. Rose-from (g.D.Disk.faults old.store.base.disk.now) (g.D.Disk.faults mid.store.base.disk.now) (g.D.Disk.faults left.base.disk.now) read.only.later (met.cause.disk (ap Err e))) c.answer_of.result
+    (λ e. Rose-from (g.D.Disk.faults old.store.base.disk.now) (g.D.Disk.faults mid.store.base.disk.now) (g.D.Disk.faults left.base.disk.now) read.only.later
+    (met.cause.disk (ap Err e))) c.answer_of.result
     c.answer_of.ensures

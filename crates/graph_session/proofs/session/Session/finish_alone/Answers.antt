@@ -10,7 +10,11 @@ use Rattle.graph_session.proofs.session.Session.finish_alone.Goals as goal
 pub returns-in-Ok-keep-clause-finishes : goal.returns-in-Ok-keep-clause-finishes
 returns-in-Ok-keep-clause-finishes g c =
     let fits : start_weight + c.in-Ok.field-0.weight ≤ most_weight = omega arith in
-    rw c.in-Ok.is (inl (fits, tries-kept c.in-Ok-keep.ensures.same c.in-Ok-keep.ensures.working refl refl c.in-Ok-keep.ensures.own refl c.in-Ok.field-0.answer c.commit_alone.result c.commit_alone.ensures.tries))
+    rw c.in-Ok.is (inl (
+      fits,
+      tries-kept c.in-Ok-keep.ensures.same c.in-Ok-keep.ensures.working refl refl c.in-Ok-keep.ensures.own refl c.in-Ok.field-0.answer
+          c.commit_alone.result c.commit_alone.ensures.tries,
+    ))
 
 pub returns-in-Ok-keep-clause-taps : goal.returns-in-Ok-keep-clause-taps
 returns-in-Ok-keep-clause-taps g c =

@@ -86,7 +86,8 @@ returns-in-Ok-load-clause-stored g c = λ told.
     let opened = c.in-Ok.store in
     let loaded = c.load.new.space in
     subst (λ (records : Key → Rec). Redoes (d.reads loaded.base.disk.now) records) (sym (committed-read opened.base loaded.base c.load.ensures.onward))
-    (Redoes-kept (committed opened) (d.reads opened.base.disk.now) (d.reads loaded.base.disk.now) (c.in-Ok.ensures.stored.read told) c.load.ensures.onward.disk.keeps)
+    (Redoes-kept (committed opened) (d.reads opened.base.disk.now) (d.reads loaded.base.disk.now) (c.in-Ok.ensures.stored.read told)
+    c.load.ensures.onward.disk.keeps)
 
 -- these are the records of the store that was opened
 pub returns-in-Ok-load-clause-records : goal.returns-in-Ok-load-clause-records
@@ -94,4 +95,5 @@ returns-in-Ok-load-clause-records g c = λ told.
     let opened = c.in-Ok.store in
     let loaded = c.load.new.space in
     subst (λ (shape : Shape). Opens (g.D.Disk.reads c.args.disk.now) c.args.config shape (committed loaded)) (sym c.load.ensures.onward.shape)
-    (subst (λ (records : Key → Rec). Opens (g.D.Disk.reads c.args.disk.now) c.args.config opened.base.shape records) (sym (committed-read opened.base loaded.base c.load.ensures.onward)) (c.in-Ok.ensures.opened told))
+    (subst (λ (records : Key → Rec). Opens (g.D.Disk.reads c.args.disk.now) c.args.config opened.base.shape records)
+    (sym (committed-read opened.base loaded.base c.load.ensures.onward)) (c.in-Ok.ensures.opened told))

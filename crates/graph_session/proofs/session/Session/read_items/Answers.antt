@@ -29,7 +29,8 @@ named : (s : State) (names : _) → IsStore s names → IsNamedStore s.records s
 named s names has = record { store = has.store.store; indexes = has.store.indexes; more = []; named = has.names ∙ sym (append-nil (names_of s.records)) }
 
 pub returns-in-Ok-clause-items : goal.returns-in-Ok-clause-items
-returns-in-Ok-clause-items g c = λ told has. rw c.in-Some.is (c.in-Ok.ensures.items told (named (state_of c.args.self.now.store) c.args.self.now.names.names has))
+returns-in-Ok-clause-items g c = λ told has. rw c.in-Some.is (c.in-Ok.ensures.items told (named (state_of c.args.self.now.store) c.args.self.now.names.names
+    has))
 
 pub returns-in-None-clause-there : goal.returns-in-None-clause-there
 returns-in-None-clause-there g c = λ told has.

@@ -32,5 +32,6 @@ returns-clause-answers g c = λ line parsed.
     (c.in_default.ensures.live, inr (inr (asks, opened))) asks
     (opened-in s.snaps c.args.reader opened) refl read.base.disk
     (λ none. stays-over s.store c.read_store.new.store read.base (ap (λ (held : Held). held.pairs) read.draft ∙ none) s.health s.weight s.names.names)
-    (λ spared. ap (λ (store : Store _ _). let view : SharedView _ = record { session = seen_as store s.health s.weight s.names.names; held = s.snaps } in view) (c.read_store.ensures.idle spared))
+    (λ spared. ap (λ (store : Store _ _). let view : SharedView _ = record { session = seen_as store s.health s.weight s.names.names; held = s.snaps } in view)
+    (c.read_store.ensures.idle spared))
     c.read_store.ensures.gives

@@ -69,4 +69,8 @@ pub returns-in-Err-Disk-clause-keeps : goal.returns-in-Err-Disk-clause-keeps
 returns-in-Err-Disk-clause-keeps g c = record { held = refl; weighed = λ none weighed opened. absurd (true≢false (sym opened ∙ c.in-Err-Disk.ensures.closed)) }
 
 pub returns-in-Err-Damaged-clause-keeps : goal.returns-in-Err-Damaged-clause-keeps
-returns-in-Err-Damaged-clause-keeps g c = record { held = refl; weighed = λ none weighed opened. absurd (true≢false (sym opened ∙ c.in-Err-Damaged.ensures.closed)) }
+returns-in-Err-Damaged-clause-keeps g c = record {
+  held = refl;
+  weighed = λ none weighed opened. absurd
+      (true≢false (sym opened ∙ c.in-Err-Damaged.ensures.closed));
+}

@@ -19,7 +19,8 @@ use Rattle.graph_session.proofs.session.Session.serve_question.Goals as goal
 pub returns-in-Failed-clause-answers : goal.returns-in-Failed-clause-answers
 returns-in-Failed-clause-answers g c = λ line parsed.
     let question = c.args.question in
-    (failed-with g.D.Disk g.met.D.Disk.only_now g.K.Sink parsed c.if-session-ne-WRITER.false (question-loud question) c.in-Failed.is (question-apart question) (question-reopens question) c.give_answer.ensures).0
+    (failed-with g.D.Disk g.met.D.Disk.only_now g.K.Sink parsed c.if-session-ne-WRITER.false (question-loud question) c.in-Failed.is (question-apart question)
+    (question-reopens question) c.give_answer.ensures).0
 
 pub returns-in-Live-clause-answers : goal.returns-in-Live-clause-answers
 returns-in-Live-clause-answers g c = λ line parsed.
@@ -45,7 +46,8 @@ returns-in-Live-clause-answers g c = λ line parsed.
           );
       onward = record { disk_later = given.read.later };
     })
-    (keeps-read (shared_view s) (record { session = seen_as c.answer_question.new.space s.health s.weight s.names.names; held = s.snaps }) asks refl given.read.onward.in_transaction (ap (λ (held : Held). held.pairs) given.read.onward.own) refl)
+    (keeps-read (shared_view s) (record { session = seen_as c.answer_question.new.space s.health s.weight s.names.names; held = s.snaps })
+    asks refl given.read.onward.in_transaction (ap (λ (held : Held). held.pairs) given.read.onward.own) refl)
     (λ told _ _ records seen.
     let is : records ≡ seen_records (view s).console = subst (λ (session : ℕ). SeesRecords (shared_view s) session records) c.if-session-ne-WRITER.false seen in
     subst (λ (found : Records). Judges found (view s).console.shape command given.reply) (sym is) (given.judges told))

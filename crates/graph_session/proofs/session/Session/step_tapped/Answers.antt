@@ -13,7 +13,11 @@ tapped-line : {D K : Type 0} (disk : DiskGhosts D) (sink : SinkGhosts K) (line :
     (now : Option Held) → TapsAnswer disk sink line old new turn (Some was) now → now ≡ Some set
     → TapsLine disk sink line old new turn set.pairs
 tapped-line disk sink line old new turn was set now both is =
-    record { answers = both.0; taps = λ _. subst (λ (left : Option Held). Takes (Taps disk line old.session both.0.reply new.session) (Some was) left) is both.1 }
+    record {
+      answers = both.0;
+      taps = λ _. subst (λ (left : Option Held). Takes (Taps disk line old.session both.0.reply new.session) (Some was) left)
+          is both.1;
+    }
 
 pub returns-in-Some-clause-answers : goal.returns-in-Some-clause-answers
 returns-in-Some-clause-answers g c = tapped-line g.D.Disk g.K.Sink _ _ _ _ c.replace.result c.in-Some.set c.answer_line-turn.new.tap
