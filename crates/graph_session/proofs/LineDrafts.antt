@@ -32,7 +32,8 @@ use Rattle.change_parts.specs.Store.{IsStore, graph_in}
 use Rattle.change_parts.specs.declared.change_fault.ChangeFault.{ChangeFault}
 use Rattle.change_parts.specs.declared.change_fault.ChangeFault.TheVariants as faults
 use Rattle.change_parts.specs.Damage.{BlamesMaking}
-use Rattle.node_changes.specs.NodeDeleting.{HasDegree, IsUnused}
+use Rattle.change_parts.specs.Degrees.{HasDegree}
+use Rattle.node_changes.specs.NodeDeleting.{IsUnused}
 use Rattle.graph_session.specs.Answering.{reply_of}
 use Rattle.graph_session.specs.ChangeDamage.{Blames, BlamesMutation}
 use Rattle.graph_session.specs.ChangeLeft.{LeavesRecords}
