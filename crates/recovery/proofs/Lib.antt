@@ -1,3 +1,4 @@
+pub mod Causes
 pub mod EntrySteps
 pub mod LogSteps
 pub mod Metas

@@ -1,4 +1,4 @@
-use Rattle.std.proofs.Common.{subst, Result, Ok, Err, IfOk, IfErr}
+use Rattle.std.proofs.Common.{arith, subst, Result, Ok, Err, IfOk, IfErr}
 use Rattle.std.specs.Prelude.{OnOk}
 use Rattle.disk_model.specs.Contents.{Files}
 use Rattle.rec_bytes.specs.declared.key.Key.{Key}
@@ -12,6 +12,8 @@ use Rattle.recovery.specs.declared.recover_fault.RecoverFault.{RecoverFault}
 use Rattle.recovery.proofs.Metas.{same_content}
 use Rattle.recovery.proofs.StoreForms.{Redoes-metas, Refuses-records}
 use Rattle.rec_bytes.proofs.Causes.{never_ok}
+use Rattle.disk_model.proofs.Spans.{only_reads_on}
+use Rattle.recovery.proofs.Causes.{disk_cause, fault_cause}
 use Rattle.recovery.proofs.finding.find_store.Goals as goal
 
 on_ok_always : {T E P : Type 0} (result : Result T E) → P → OnOk result P
@@ -74,3 +76,32 @@ returns-in_err-logged-clause-intact g c _ = never_ok c.from_residual-in_err-logg
 
 pub returns-in_err-logged-clause-settled : goal.returns-in_err-logged-clause-settled
 returns-in_err-logged-clause-settled g c _ _ = never_ok c.from_residual-in_err-logged.result _ _ c.from_residual-in_err-logged.ensures.1
+
+pub returns-in_err-sync_files-clause-only_reads : goal.returns-in_err-sync_files-clause-only_reads
+returns-in_err-sync_files-clause-only_reads g c = c.sync_files.ensures.only_reads
+
+pub returns-in_err-sync_files-clause-cause : goal.returns-in_err-sync_files-clause-cause
+returns-in_err-sync_files-clause-cause g c =
+    disk_cause _ _ _ c.from_residual.result c.in_err-sync_files.field-0.0 (omega arith) c.in_err-sync_files.ensures.cause
+
+pub returns-in_err-logged-clause-only_reads : goal.returns-in_err-logged-clause-only_reads
+returns-in_err-logged-clause-only_reads g c =
+    only_reads_on g.D.Disk c.args.disk.now c.sync_files.new.disk c.find_metas.new.disk c.sync_files.ensures.only_reads c.find_metas.ensures.only_reads
+
+pub returns-in_err-logged-clause-cause : goal.returns-in_err-logged-clause-cause
+returns-in_err-logged-clause-cause g c =
+    fault_cause _ _ _ c.from_residual-in_err-logged.result c.in_err-logged.field-0.0 c.in_ok-sync_files.ensures.cause.later c.in_err-logged.ensures.cause
+    c.from_residual-in_err-logged.ensures.1
+
+pub returns-clause-allowed : goal.returns-clause-allowed
+returns-clause-allowed g c = c.found_of.ensures.allowed
+
+pub returns-clause-only_reads : goal.returns-clause-only_reads
+returns-clause-only_reads g c =
+    only_reads_on g.D.Disk c.args.disk.now c.sync_files.new.disk c.find_metas.new.disk c.sync_files.ensures.only_reads c.find_metas.ensures.only_reads
+
+pub returns-clause-cause : goal.returns-clause-cause
+returns-clause-cause g c =
+    let before = c.in_ok-sync_files.ensures.cause.later in
+    let later = c.in_ok-logged.ensures.cause.later in
+    record { later = omega (arith, before, later); disk = λ blamed. absurd (c.found_of.ensures.no_fault blamed) }

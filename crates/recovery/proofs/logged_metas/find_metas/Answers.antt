@@ -5,6 +5,7 @@ use Rattle.redo_log.specs.Entries.{entry_at, entry_bytes}
 use Rattle.redo_log.specs.declared.entry_answer.EntryAnswer.TheVariants.{End, Entry}
 use Rattle.record_file.specs.MetaFile.{AreMetasOf}
 use Rattle.rec_bytes.specs.Space.{laid_over}
+use Rattle.recovery.proofs.Causes.{disk_cause, ok_cause}
 use Rattle.recovery.proofs.LogSteps.{IsAtEntry-read}
 use Rattle.recovery.proofs.Metas.{HasEntries-read_to, IsReadTo-more, Tells-same, same_content}
 use Rattle.rec_bytes.proofs.Causes.{never_ok}
@@ -52,3 +53,53 @@ returns-in_err-metas-clause-found g c _ = never_ok c.from_residual.result _ _ c.
 pub returns-in_err-take_entry-in-Entry-clause-found : goal.returns-in_err-take_entry-in-Entry-clause-found
 returns-in_err-take_entry-in-Entry-clause-found g c _ =
     never_ok c.from_residual-in_err-take_entry-in-Entry.result _ _ c.from_residual-in_err-take_entry-in-Entry.ensures.1
+
+pub returns-in_err-metas-clause-only_reads : goal.returns-in_err-metas-clause-only_reads
+returns-in_err-metas-clause-only_reads g c = c.read.ensures.only_reads
+
+pub returns-in_err-metas-clause-cause : goal.returns-in_err-metas-clause-cause
+returns-in_err-metas-clause-cause g c = disk_cause _ _ _ c.from_residual.result c.in_err-metas.field-0.0 (omega arith) c.in_err-metas.ensures.cause
+
+pub returns-in_err-take_entry-in-Entry-clause-only_reads : goal.returns-in_err-take_entry-in-Entry-clause-only_reads
+returns-in_err-take_entry-in-Entry-clause-only_reads g c =
+    let disk = g.D.Disk in
+    only_reads_on disk c.args.disk.now c.entry_at.new.disk c.take_entry.new.disk
+    (only_reads_on disk c.args.disk.now c.loop-count.disk c.entry_at.new.disk c.loop-count.invariant.only_reads c.entry_at.ensures.only_reads)
+    c.take_entry.ensures.only_reads
+
+pub returns-in_err-take_entry-in-Entry-clause-cause : goal.returns-in_err-take_entry-in-Entry-clause-cause
+returns-in_err-take_entry-in-Entry-clause-cause g c =
+    let before = c.loop-count.invariant.later in
+    let later = c.entry_at.ensures.later in
+    disk_cause _ _ _ c.from_residual-in_err-take_entry-in-Entry.result c.in_err-take_entry-in-Entry.field-0.0 (omega (arith, before, later))
+    c.in_err-take_entry-in-Entry.ensures.cause
+
+pub returns-in-End-clause-refused : goal.returns-in-End-clause-refused
+returns-in-End-clause-refused g c reads = tt
+
+pub returns-in-End-clause-only_reads : goal.returns-in-End-clause-only_reads
+returns-in-End-clause-only_reads g c =
+    only_reads_on g.D.Disk c.args.disk.now c.loop-count.disk c.entry_at.new.disk c.loop-count.invariant.only_reads c.entry_at.ensures.only_reads
+
+pub returns-in-End-clause-cause : goal.returns-in-End-clause-cause
+returns-in-End-clause-cause g c =
+    let before = c.loop-count.invariant.later in
+    let later = c.entry_at.ensures.later in
+    ok_cause _ _ _ (omega (arith, before, later))
+
+pub returns-in-Disk-clause-found : goal.returns-in-Disk-clause-found
+returns-in-Disk-clause-found g c reads = tt
+
+pub returns-in-Disk-clause-refused : goal.returns-in-Disk-clause-refused
+returns-in-Disk-clause-refused g c reads = tt
+
+pub returns-in-Disk-clause-only_reads : goal.returns-in-Disk-clause-only_reads
+returns-in-Disk-clause-only_reads g c =
+    only_reads_on g.D.Disk c.args.disk.now c.loop-count.disk c.entry_at.new.disk c.loop-count.invariant.only_reads c.entry_at.ensures.only_reads
+
+pub returns-in-Damaged-clause-found : goal.returns-in-Damaged-clause-found
+returns-in-Damaged-clause-found g c reads = tt
+
+pub returns-in-Damaged-clause-only_reads : goal.returns-in-Damaged-clause-only_reads
+returns-in-Damaged-clause-only_reads g c =
+    only_reads_on g.D.Disk c.args.disk.now c.loop-count.disk c.entry_at.new.disk c.loop-count.invariant.only_reads c.entry_at.ensures.only_reads

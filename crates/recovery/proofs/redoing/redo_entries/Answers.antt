@@ -15,6 +15,8 @@ use Rattle.recovery.proofs.LogSteps.{IsAtEntry-read, IsNext-entry, IsRedoneTo, I
 use Rattle.recovery.proofs.LogSteps.{IsRedoneTo-read, IsTornInLogged-entry, SameButLogged-entry, SameButLogged-then}
 use Rattle.recovery.proofs.LogSteps.{none_damaged, none_stands}
 use Rattle.recovery.proofs.redoing.redo_entries.Given.{Over}
+use Rattle.rec_bytes.proofs.Causes.{never_ok}
+use Rattle.recovery.proofs.Causes.{fault_cause, ok_cause}
 use Rattle.recovery.proofs.redoing.redo_entries.Goals as goal
 
 -- with a read of the log and an entry redone
@@ -172,3 +174,56 @@ returns-in-End-clause-none g c reads none is_open =
     c.in-End.ensures.tells reads (c.loop-count.invariant.fresh reads none)
     (ap (λ place. g.D.Disk.reads c.loop-count.disk log_file place) (c.loop-count.invariant.first none) ∙ (c.loop-count.invariant.untouched none).keeps log_file
     0 ∙ is_open)
+
+pub returns-in_err-redo_entry-in-Entry-clause-redone : goal.returns-in_err-redo_entry-in-Entry-clause-redone
+returns-in_err-redo_entry-in-Entry-clause-redone g c _ _ _ _ = never_ok c.from_residual.result _ _ c.from_residual.ensures.1
+
+pub returns-in_err-redo_entry-in-Entry-clause-untouched : goal.returns-in_err-redo_entry-in-Entry-clause-untouched
+returns-in_err-redo_entry-in-Entry-clause-untouched g c = never_ok c.from_residual.result _ _ c.from_residual.ensures.1
+
+pub returns-in_err-redo_entry-in-Entry-clause-none : goal.returns-in_err-redo_entry-in-Entry-clause-none
+returns-in_err-redo_entry-in-Entry-clause-none g c _ = never_ok c.from_residual.result _ _ c.from_residual.ensures.1
+
+pub returns-in_err-redo_entry-in-Entry-clause-cause : goal.returns-in_err-redo_entry-in-Entry-clause-cause
+returns-in_err-redo_entry-in-Entry-clause-cause g c =
+    let before = c.loop-count.invariant.later in
+    let later = c.entry_at.ensures.later in
+    fault_cause _ _ _ c.from_residual.result c.in_err-redo_entry-in-Entry.field-0.0 (omega (arith, before, later)) c.in_err-redo_entry-in-Entry.ensures.cause
+    c.from_residual.ensures.1
+
+pub returns-in-End-clause-sound : goal.returns-in-End-clause-sound
+returns-in-End-clause-sound g c reads entries tail has = tt
+
+pub returns-in-End-clause-cause : goal.returns-in-End-clause-cause
+returns-in-End-clause-cause g c =
+    let before = c.loop-count.invariant.later in
+    let later = c.entry_at.ensures.later in
+    ok_cause _ _ _ (omega (arith, before, later))
+
+pub returns-in-Disk-clause-redone : goal.returns-in-Disk-clause-redone
+returns-in-Disk-clause-redone g c reads entries tail has = tt
+
+pub returns-in-Disk-clause-untouched : goal.returns-in-Disk-clause-untouched
+returns-in-Disk-clause-untouched g c = tt
+
+pub returns-in-Disk-clause-none : goal.returns-in-Disk-clause-none
+returns-in-Disk-clause-none g c reads = tt
+
+pub returns-in-Damaged-clause-redone : goal.returns-in-Damaged-clause-redone
+returns-in-Damaged-clause-redone g c reads entries tail has = tt
+
+pub returns-in-Damaged-clause-untouched : goal.returns-in-Damaged-clause-untouched
+returns-in-Damaged-clause-untouched g c = tt
+
+pub returns-in-Damaged-clause-none : goal.returns-in-Damaged-clause-none
+returns-in-Damaged-clause-none g c reads = tt
+
+pub returns-in-Disk-clause-sound : goal.returns-in-Disk-clause-sound
+returns-in-Disk-clause-sound g c reads entries tail has = refl
+
+pub returns-in-Damaged-clause-cause : goal.returns-in-Damaged-clause-cause
+returns-in-Damaged-clause-cause g c =
+    let before = c.loop-count.invariant.later in
+    let later = c.entry_at.ensures.later in
+    let is = c.damaged_entry.ensures in
+    record { later = omega (arith, before, later); disk = λ blamed. absurd (cc is) }

@@ -1,6 +1,6 @@
-use Rattle.std.proofs.Common.{◌∙◌, ◌+◌, arith}
+use Rattle.std.proofs.Common.{ℕ, ◌∙◌, ◌+◌, arith}
 use mathlib.Core.Bool.{false≢true}
-use Rattle.disk_model.specs.Contents.{Files}
+use Rattle.disk_model.specs.Contents.{Files, Same}
 use Rattle.disk_model.specs.Spans.{AtEachMoment, OnlyReads}
 use Rattle.disk_model.proofs.Spans.{Passes, at_each_moment_read}
 use Rattle.rec_bytes.specs.declared.key.Key.{Key}
@@ -10,9 +10,13 @@ use Rattle.rec_bytes.specs.Pairs.{Pairs}
 use Rattle.rec_bytes.specs.Space.{laid_over}
 use Rattle.redo_log.specs.Entries.{count_at, entry_at}
 use Rattle.redo_log.proofs.Entries.{length-writes_from}
-use Rattle.record_file.specs.Records.{IsTornInRecords, record_at}
-use Rattle.record_file.proofs.Written.{AreAmong, AreWritten-all, IsKey-get, torn_in_records_more, torn_in_records_none}
-use Rattle.recovery.proofs.EntrySteps.{IsPartWritten-more, IsPartWritten-none, IsPartWritten-read, IsPartWritten-torn, write_is}
+use Rattle.redo_log.specs.Reading.{IsPieceOf, Piece}
+use Rattle.record_file.specs.Records.{IsTornInRecords, SameButRecords, record_at}
+use Rattle.record_file.proofs.Written.{AreAmong, AreWritten-all, IsKey-get, SameButRecords-among, SameButRecords-same, SameButRecords-then}
+use Rattle.record_file.proofs.Written.{torn_in_records_more, torn_in_records_none}
+use Rattle.recovery.proofs.Causes.{disk_cause, ok_cause, only_disk}
+use Rattle.recovery.proofs.EntrySteps.{IsPartWritten, IsPartWritten-more, IsPartWritten-none, IsPartWritten-read, IsPartWritten-torn, IsPieceOf-same}
+use Rattle.recovery.proofs.EntrySteps.{write_is}
 use Rattle.recovery.proofs.redoing.redo_entry.Given.{Over}
 use Rattle.rec_bytes.proofs.Causes.{never_ok}
 use Rattle.recovery.proofs.redoing.redo_entry.Goals as goal
@@ -110,3 +114,114 @@ returns-in_err-put-clause-written g c _ _ = never_ok c.from_residual-in_err-put.
 
 pub returns-in_err-write-clause-written : goal.returns-in_err-write-clause-written
 returns-in_err-write-clause-written g c _ _ = never_ok c.from_residual-in_err-write.result _ _ c.from_residual-in_err-write.ensures.1
+
+-- ---- where a key was read, and none is written
+read_elsewhere : (first old read : Files) (piece : Piece) (place index : ℕ) (run : Pairs) → IsPartWritten first old piece place index run → Same old read
+    → SameButRecords (entry_at first place) first read
+read_elsewhere first old read piece place index run was kept =
+    SameButRecords-then (entry_at first place) first old read was.elsewhere (SameButRecords-same (entry_at first place) old read kept)
+
+pub returns-in_err-key-clause-elsewhere : goal.returns-in_err-key-clause-elsewhere
+returns-in_err-key-clause-elsewhere g c reads at =
+    read_elsewhere _ _ _ c.loop-index.reader c.args.place c.loop-index.index c.loop-index.run (c.loop-index.invariant.part reads at)
+    c.write_at.ensures.only_reads.keeps
+
+pub returns-then-not-is_valid-clause-elsewhere : goal.returns-then-not-is_valid-clause-elsewhere
+returns-then-not-is_valid-clause-elsewhere g c reads at =
+    read_elsewhere _ _ _ c.loop-index.reader c.args.place c.loop-index.index c.loop-index.run (c.loop-index.invariant.part reads at)
+    c.write_at.ensures.only_reads.keeps
+
+pub returns-in_err-key-clause-keeps : goal.returns-in_err-key-clause-keeps
+returns-in_err-key-clause-keeps g c reads at = c.write_at.ensures.keeps reads (c.loop-index.invariant.part reads at).kept
+
+pub returns-then-not-is_valid-clause-keeps : goal.returns-then-not-is_valid-clause-keeps
+returns-then-not-is_valid-clause-keeps g c reads at = c.write_at.ensures.keeps reads (c.loop-index.invariant.part reads at).kept
+
+pub returns-in_err-key-clause-crash : goal.returns-in_err-key-clause-crash
+returns-in_err-key-clause-crash g c reads images at =
+    at_each_moment_read g.D.Disk c.args.disk.now c.loop-index.disk c.write_at.new.disk _ g.met.D.Disk.counts_now images
+    (c.loop-index.invariant.crash reads images at) c.write_at.ensures.only_reads
+
+pub returns-then-not-is_valid-clause-crash : goal.returns-then-not-is_valid-clause-crash
+returns-then-not-is_valid-clause-crash g c reads images at =
+    at_each_moment_read g.D.Disk c.args.disk.now c.loop-index.disk c.write_at.new.disk _ g.met.D.Disk.counts_now images
+    (c.loop-index.invariant.crash reads images at) c.write_at.ensures.only_reads
+
+pub returns-in_err-key-clause-sound : goal.returns-in_err-key-clause-sound
+returns-in_err-key-clause-sound g c _ _ = only_disk c.from_residual.result c.from_residual.ensures.1
+
+pub returns-in_err-key-clause-cause : goal.returns-in_err-key-clause-cause
+returns-in_err-key-clause-cause g c =
+    disk_cause _ _ _ c.from_residual.result c.in_err-key.field-0.0 c.loop-index.invariant.later c.in_err-key.ensures.cause
+
+pub returns-then-not-is_valid-clause-written : goal.returns-then-not-is_valid-clause-written
+returns-then-not-is_valid-clause-written g c reads at = tt
+
+pub returns-then-not-is_valid-clause-cause : goal.returns-then-not-is_valid-clause-cause
+returns-then-not-is_valid-clause-cause g c =
+    let before = c.loop-index.invariant.later in
+    let later = c.write_at.ensures.cause.later in
+    let is = c.damaged_entry.ensures in
+    record { later = omega (arith, before, later); disk = λ blamed. absurd (cc is) }
+
+-- ---- where a record may be torn
+pub returns-in_err-put-clause-keeps : goal.returns-in_err-put-clause-keeps
+returns-in_err-put-clause-keeps g c reads at =
+    let disk = g.D.Disk in
+    let was = c.loop-index.invariant.part reads at in
+    IsPieceOf-same (disk.reads c.write_at.new.disk) (disk.reads c.put.new.disk) c.write_at.new.self (c.write_at.ensures.keeps reads was.kept)
+    (SameButRecords-among c.loop-index.run (entry_at (disk.reads c.args.disk.now) c.args.place) (disk.reads c.write_at.new.disk) (disk.reads c.put.new.disk)
+    was.among c.put.ensures.elsewhere).log
+
+pub returns-in_err-put-clause-sound : goal.returns-in_err-put-clause-sound
+returns-in_err-put-clause-sound g c _ _ = only_disk c.from_residual-in_err-put.result c.from_residual-in_err-put.ensures.1
+
+pub returns-in_err-put-clause-cause : goal.returns-in_err-put-clause-cause
+returns-in_err-put-clause-cause g c =
+    let before = c.loop-index.invariant.later in
+    let later = c.write_at.ensures.cause.later in
+    disk_cause _ _ _ c.from_residual-in_err-put.result c.in_err-put.field-0.0 (omega (arith, before, later)) c.in_err-put.ensures.cause
+
+-- ---- where the rest is written
+module _ (first old new : Files) (piece : Piece) (place index : ℕ) (run : Pairs) (was : IsPartWritten first old piece place index run)
+    (same : SameButRecords run old new) where
+  rest : SameButRecords (entry_at first place) old new
+  rest = SameButRecords-among run (entry_at first place) old new was.among same
+
+  rest_elsewhere : SameButRecords (entry_at first place) first new
+  rest_elsewhere = SameButRecords-then (entry_at first place) first old new was.elsewhere rest
+
+  rest_kept : IsPieceOf new piece
+  rest_kept = IsPieceOf-same old new piece was.kept rest.log
+
+pub returns-in_err-write-clause-elsewhere : goal.returns-in_err-write-clause-elsewhere
+returns-in_err-write-clause-elsewhere g c reads at =
+    rest_elsewhere _ _ _ c.loop-index.reader c.args.place c.loop-index.index c.loop-index.run (c.loop-index.invariant.part reads at) c.write.ensures.elsewhere
+
+pub returns-in_err-write-clause-keeps : goal.returns-in_err-write-clause-keeps
+returns-in_err-write-clause-keeps g c reads at =
+    rest_kept _ _ _ c.loop-index.reader c.args.place c.loop-index.index c.loop-index.run (c.loop-index.invariant.part reads at) c.write.ensures.elsewhere
+
+pub returns-in_err-write-clause-sound : goal.returns-in_err-write-clause-sound
+returns-in_err-write-clause-sound g c _ _ = only_disk c.from_residual-in_err-write.result c.from_residual-in_err-write.ensures.1
+
+pub returns-in_err-write-clause-cause : goal.returns-in_err-write-clause-cause
+returns-in_err-write-clause-cause g c =
+    disk_cause _ _ _ c.from_residual-in_err-write.result c.in_err-write.field-0.0 c.loop-index.invariant.later c.in_err-write.ensures.cause
+
+pub returns-clause-elsewhere : goal.returns-clause-elsewhere
+returns-clause-elsewhere g c reads at =
+    rest_elsewhere _ _ _ c.loop-index.reader c.args.place c.loop-index.index c.loop-index.run (c.loop-index.invariant.part reads at) c.write.ensures.elsewhere
+
+pub returns-clause-keeps : goal.returns-clause-keeps
+returns-clause-keeps g c reads at =
+    rest_kept _ _ _ c.loop-index.reader c.args.place c.loop-index.index c.loop-index.run (c.loop-index.invariant.part reads at) c.write.ensures.elsewhere
+
+pub returns-clause-sound : goal.returns-clause-sound
+returns-clause-sound g c reads at = tt
+
+pub returns-clause-cause : goal.returns-clause-cause
+returns-clause-cause g c =
+    let before = c.loop-index.invariant.later in
+    let later = c.write.ensures.cause.later in
+    ok_cause _ _ _ (omega (arith, before, later))
