@@ -15,6 +15,7 @@ pub mod Interned
 pub mod KeptIndexes
 pub mod KeptLinks
 pub mod LastPairs
+pub mod Late
 pub mod LineNames
 pub mod NameNumbers
 pub mod NewNames

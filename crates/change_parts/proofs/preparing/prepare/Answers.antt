@@ -1,5 +1,5 @@
 use Rattle.std.specs.Prelude.{Contains}
-use Rattle.std.proofs.Common.{◌≢◌, ◌++◌, ◌∷◌, Some, length, ◌∙◌, sym, ap, subst, append_assoc, inl, inr, arith, refl, rules}
+use Rattle.std.proofs.Common.{◌≡◌, ◌≢◌, ℕ, List, ◌++◌, ◌∷◌, [], Some, length, ◌∙◌, sym, ap, subst, append_assoc, append-nil, inl, inr, arith, refl, rules}
 use Rattle.plain_graph.specs.Graph.{UsesName}
 use Rattle.plain_graph.specs.Names.{IsShortName}
 use Rattle.plain_graph.specs.Properties.{keys_in}
@@ -8,13 +8,14 @@ use Rattle.plain_graph.specs.declared.command.Command.TheVariants as commands
 use Rattle.store_rules.specs.Writes.{WritesAtMost}
 use Rattle.change_parts.specs.Assigning.{HasPropertyRoom, IsReserveFault, assigned_blocks}
 use Rattle.change_parts.specs.Change.{IsCounted, IsRefusedBy}
-use Rattle.change_parts.specs.ChangeFault.{of_intern}
+use Rattle.change_parts.specs.ChangeFault.{LeavesSpace, of_intern}
 use Rattle.change_parts.specs.Preparing.{IsLineCause, line_reasons}
 use Rattle.change_parts.specs.Store.{IsMidway, KeepsElements, graph_in}
 use Rattle.change_parts.proofs.Counted.{assign_counted, count_full, reserve_counted}
-use Rattle.change_parts.proofs.Exits.{fault_exit}
+use Rattle.change_parts.proofs.Exits.{fault_exit, late_leaves}
 use Rattle.change_parts.proofs.Interned.{keeps_interned, keeps_then, metas_interned, metas_then, name_written, one_written}
 use Rattle.change_parts.proofs.Assigned.{blocks-assigned, length-assigned}
+use Rattle.change_parts.proofs.Late.{assign_late, intern_late, is_err, reserve_late}
 use Rattle.change_parts.proofs.LineNames.{held_name, name_long, name_prefix, uses_long, uses_once}
 use Rattle.change_parts.proofs.NewNames.{name_one}
 use Rattle.change_parts.proofs.Preparation.{assign_refused_by, label_refused, prepared_is, reserve_refused}
@@ -194,11 +195,29 @@ returns-clause-needs g c =
       ),
     )
 
+-- the names before, and the new ones
+longer : (g : Over) (c : In_ok-label g) (two : List (List ℕ)) (names : List (List ℕ)) → names ≡ c.intern.new.self.names ++ two
+    → (rest : List (List ℕ)) × (names ≡ c.args.names.now.names ++ rest)
+longer g c two names is =
+    let one = name_prefix c.args.names.now.names c.as_bytes.result.now c.intern.new.self.names c.in_ok-label.ensures.names in
+    (one.0 ++ two, is ∙ ap (λ l. l ++ two) one.1 ∙ append_assoc c.args.names.now.names one.0 two)
+
 pub returns-clause-prefix : goal.returns-clause-prefix
 returns-clause-prefix g c =
-    let one = name_prefix c.args.names.now.names c.as_bytes.result.now c.intern.new.self.names c.in_ok-label.ensures.names in
-    let two = c.assign_pairs.ensures.prefix in
-    (one.0 ++ two.0, two.1 ∙ ap (λ l. l ++ two.0) one.1 ∙ append_assoc c.args.names.now.names one.0 two.0)
+    longer g (goal.at.returns-clause-prefix g c).In_ok-label c.assign_pairs.ensures.prefix.0 c.assign_pairs.new.names.names c.assign_pairs.ensures.prefix.1
+
+pub returns-in_err-label-clause-prefix : goal.returns-in_err-label-clause-prefix
+returns-in_err-label-clause-prefix g c = ([], c.in_err-label.ensures.err ∙ sym (append-nil c.args.names.now.names))
+
+pub returns-in_err-assigned-clause-prefix : goal.returns-in_err-assigned-clause-prefix
+returns-in_err-assigned-clause-prefix g c =
+    longer g (goal.at.returns-in_err-assigned-clause-prefix g c).In_ok-label c.assign_pairs.ensures.prefix.0 c.assign_pairs.new.names.names
+    c.assign_pairs.ensures.prefix.1
+
+pub returns-in_err-blocks-clause-prefix : goal.returns-in_err-blocks-clause-prefix
+returns-in_err-blocks-clause-prefix g c =
+    longer g (goal.at.returns-in_err-blocks-clause-prefix g c).In_ok-label c.assign_pairs.ensures.prefix.0 c.assign_pairs.new.names.names
+    c.assign_pairs.ensures.prefix.1
 
 pub returns-clause-writes : goal.returns-clause-writes
 returns-clause-writes g c =
@@ -392,3 +411,71 @@ returns-in_err-blocks-clause-stays g c _ = never_ok c.from_residual-in_err-block
 
 pub returns-clause-cause : goal.returns-clause-cause
 returns-clause-cause g c = ok_cause _ _ _ _ (later_on c.in_ok-label.ensures.cause.later c.in_ok-assigned.ensures.cause.later)
+
+-- ---- exits by a fault are no answers, and leave any space
+pub returns-in_err-label-clause-names_full : goal.returns-in_err-label-clause-names_full
+returns-in_err-label-clause-names_full g c used uses many = is_err c.from_residual.result _ c.from_residual.ensures.1
+
+pub returns-in_err-assigned-clause-names_full : goal.returns-in_err-assigned-clause-names_full
+returns-in_err-assigned-clause-names_full g c used uses many = is_err c.from_residual-in_err-assigned.result _ c.from_residual-in_err-assigned.ensures.1
+
+pub returns-in_err-blocks-clause-names_full : goal.returns-in_err-blocks-clause-names_full
+returns-in_err-blocks-clause-names_full g c used uses many = is_err c.from_residual-in_err-blocks.result _ c.from_residual-in_err-blocks.ensures.1
+
+pub returns-in_err-label-clause-leaves : goal.returns-in_err-label-clause-leaves
+returns-in_err-label-clause-leaves g c =
+    let s = g.S.Reads.state c.args.space.now in
+    let t = g.S.Reads.state c.intern.new.space in
+    let fault = c.in_err-label.field-0.0 in
+    fault_exit of_intern (LeavesSpace s t) fault c.from_residual.result c.from_residual.ensures.1 (late_leaves s t (of_intern fault) (intern_late fault))
+
+pub returns-in_err-assigned-clause-leaves : goal.returns-in_err-assigned-clause-leaves
+returns-in_err-assigned-clause-leaves g c =
+    let s = g.S.Reads.state c.args.space.now in
+    let t = g.S.Reads.state c.assign_pairs.new.space in
+    let fault = c.in_err-assigned.field-0.0 in
+    fault_exit (λ f. f) (LeavesSpace s t) fault c.from_residual-in_err-assigned.result c.from_residual-in_err-assigned.ensures.1
+    (late_leaves s t fault (assign_late c.intern.new.self.names c.args.pairs.now fault c.in_err-assigned.ensures.refused))
+
+pub returns-in_err-blocks-clause-leaves : goal.returns-in_err-blocks-clause-leaves
+returns-in_err-blocks-clause-leaves g c =
+    let s = g.S.Reads.state c.args.space.now in
+    let t = g.S.Reads.state c.assign_pairs.new.space in
+    let fault = c.in_err-blocks.field-0.0 in
+    fault_exit (λ f. f) (LeavesSpace s t) fault c.from_residual-in_err-blocks.result c.from_residual-in_err-blocks.ensures.1
+    (late_leaves s t fault (reserve_late _ _ _ fault c.in_err-blocks.ensures.refused))
+
+-- ---- the space goes on
+pub returns-in_err-assigned-clause-onward : goal.returns-in_err-assigned-clause-onward
+returns-in_err-assigned-clause-onward g c =
+    g.met.S.Reads.further_onward c.args.space.now c.intern.new.space c.assign_pairs.new.space c.intern.ensures.onward c.assign_pairs.ensures.onward
+
+pub returns-in_err-blocks-clause-onward : goal.returns-in_err-blocks-clause-onward
+returns-in_err-blocks-clause-onward g c =
+    g.met.S.Reads.further_onward c.args.space.now c.intern.new.space c.assign_pairs.new.space c.intern.ensures.onward c.assign_pairs.ensures.onward
+
+pub returns-clause-onward : goal.returns-clause-onward
+returns-clause-onward g c =
+    g.met.S.Reads.further_onward c.args.space.now c.intern.new.space c.assign_pairs.new.space c.intern.ensures.onward c.assign_pairs.ensures.onward
+
+-- ---- an answer is no refusal
+pub returns-clause-refused : goal.returns-clause-refused
+returns-clause-refused g c tells store = tt
+
+pub returns-clause-caused : goal.returns-clause-caused
+returns-clause-caused g c tells = tt
+
+pub returns-clause-still : goal.returns-clause-still
+returns-clause-still g c tells = tt
+
+pub returns-clause-counts : goal.returns-clause-counts
+returns-clause-counts g c tells = tt
+
+pub returns-clause-leaves : goal.returns-clause-leaves
+returns-clause-leaves g c = tt
+
+pub returns-clause-placed : goal.returns-clause-placed
+returns-clause-placed g c = c.in_ok-assigned.ensures.assigned.placed
+
+pub returns-clause-few : goal.returns-clause-few
+returns-clause-few g c = c.in_ok-assigned.ensures.few
