@@ -1,8 +1,11 @@
 use Rattle.std.specs.FinMap as maps
 use Rattle.std.specs.Prelude.{Err, IfErr}
-use Rattle.std.proofs.Common.{◌≡◌, ◌≢◌, ⊎_elim, ℕ, ◌+◌, ◌-◌, ◌*◌, ◌<◌, ◌≤◌, List, [], ◌∷◌, length, map, ◌∙◌, sym, ap, subst, inl, inr, arith, refl, rules}
+use Rattle.std.proofs.Common.{◌≡◌, ◌≢◌, ⊎_elim, ℕ, ◌+◌, ◌-◌, ◌*◌, ◌<◌, ◌≤◌, List, [], ◌∷◌, length, map}
+use Rattle.std.proofs.Common.{◌∙◌, sym, ap, subst, append-nil, inl, inr, arith, refl, rules}
+use Rattle.std.proofs.lemmas.Bool.{false≢true}
 use Rattle.plain_graph.specs.Changes.{properties_weight}
-use Rattle.plain_graph.specs.Properties.{blocks_in, no_properties, with_pairs}
+use Rattle.plain_graph.specs.Graph.{UsesNames}
+use Rattle.plain_graph.specs.Properties.{blocks_in, keys_in, no_properties, with_pairs}
 use Rattle.plain_graph.specs.Refusals.{change_reasons}
 use Rattle.plain_graph.specs.Reply.{NodeMade}
 use Rattle.plain_graph.specs.declared.command.Command.TheVariants as commands
@@ -20,7 +23,7 @@ use Rattle.prop_index.specs.Listing.{pair_of}
 use Rattle.prop_store.specs.declared.owner.Owner.{Owner}
 use Rattle.change_parts.specs.Assigning.{CanPut, HasPropertyRoom, IsPutCause, PutsPairs, assigned_blocks, pairs_of}
 use Rattle.change_parts.specs.Change.{IsCounted, IsRefusal, MakesChange}
-use Rattle.change_parts.specs.ChangeFault.{IsOutside, LeavesSpace}
+use Rattle.change_parts.specs.ChangeFault.{IsOutside, LeavesSpace, MayComeLate}
 use Rattle.node_changes.specs.Entries.{AreKeysOnce, ArePairsOf, WeighsNode, indexed_of}
 use Rattle.change_parts.specs.GivenValues.{GivesValues, with_assigned}
 use Rattle.node_changes.specs.NodeAdding.{PutsNode}
@@ -31,8 +34,9 @@ use Rattle.change_parts.specs.Store.{IsMidway, IsStore, graph_in}
 use Rattle.change_parts.proofs.KeptIndexes.{midway}
 use Rattle.change_parts.proofs.Counted.{outside_counted, room_counted}
 use Rattle.change_parts.proofs.ElementRooms.{room_before, room_still}
-use Rattle.change_parts.proofs.Exits.{exit_is, failure_late, fault_exit, late_leaves}
+use Rattle.change_parts.proofs.Exits.{exit_is, failure_late, fault_exit, late_leaves, read_leaves}
 use Rattle.change_parts.proofs.KeptLinks.{kind_kept}
+use Rattle.change_parts.proofs.Late.{is_err}
 use Rattle.node_changes.proofs.NodeAdded.{can_put, full_fault, full_refused, line_refused, not_full, put_room, room_kept}
 use Rattle.change_parts.proofs.Reasons.{outside_refused}
 use Rattle.store_rules.proofs.WriteLaws.{beside_then, beside_written, more_written, none_written, then_written}
@@ -47,7 +51,7 @@ use Rattle.node_changes.proofs.EntriesFaults.{names_leave, other_leaves}
 use Rattle.change_parts.proofs.Adding.{index_beside, line_blamed, lists_before, lists_broken, names_harm_no_lists}
 use Rattle.change_parts.proofs.Adding.{no_lists_then, node_damage, node_harms_no_lists, room_blamed}
 use Rattle.change_parts.proofs.Broken.{blames_both, blames_more}
-use Rattle.change_parts.proofs.DiskCauses.{change_cause_passed, later_on}
+use Rattle.change_parts.proofs.DiskCauses.{change_cause_passed, later_on, room_refusal_cause}
 use Rattle.node_changes.proofs.IndexBeside.{index_written, kinds_beside, touched_beside}
 use Rattle.node_changes.proofs.NodeEntries.{added_made, entries, entries_refused, keys_once, listed, node_low, pairs_then, prepared_read, room_then}
 use Rattle.node_changes.proofs.NodeEntries.{whole_before}
@@ -1018,3 +1022,157 @@ pub returns-clause-cause : goal.returns-clause-cause
 returns-clause-cause g c =
     ok_cause _ _ _ _ (later_on (later_on (later_on (later_on c.in_ok-prepared.ensures.cause.later c.in_ok-listed.ensures.cause.later)
     c.in_ok-id.ensures.cause.later) c.in_ok-put_properties.ensures.cause.later) c.in_ok-enter_values.ensures.cause.later)
+
+-- ---- an exit by a fault is no answer
+pub returns-in_err-test_room-clause-names_full : goal.returns-in_err-test_room-clause-names_full
+returns-in_err-test_room-clause-names_full g c used uses many = is_err c.from_residual.result _ c.from_residual.ensures.1
+
+pub returns-in_err-prepared-clause-names_full : goal.returns-in_err-prepared-clause-names_full
+returns-in_err-prepared-clause-names_full g c used uses many = is_err c.from_residual-in_err-prepared.result _ c.from_residual-in_err-prepared.ensures.1
+
+pub returns-in_err-listed-clause-names_full : goal.returns-in_err-listed-clause-names_full
+returns-in_err-listed-clause-names_full g c used uses many = is_err c.from_residual-in_err-listed.result _ c.from_residual-in_err-listed.ensures.1
+
+pub returns-in_err-test_room-2-clause-names_full : goal.returns-in_err-test_room-2-clause-names_full
+returns-in_err-test_room-2-clause-names_full g c used uses many =
+    is_err c.from_residual-in_err-test_room-2.result _ c.from_residual-in_err-test_room-2.ensures.1
+
+pub returns-in_err-id-clause-names_full : goal.returns-in_err-id-clause-names_full
+returns-in_err-id-clause-names_full g c used uses many = is_err c.from_residual-in_err-id.result _ c.from_residual-in_err-id.ensures.1
+
+pub returns-in_err-put_properties-clause-names_full : goal.returns-in_err-put_properties-clause-names_full
+returns-in_err-put_properties-clause-names_full g c used uses many =
+    is_err c.from_residual-in_err-put_properties.result _ c.from_residual-in_err-put_properties.ensures.1
+
+pub returns-in_err-enter_values-clause-names_full : goal.returns-in_err-enter_values-clause-names_full
+returns-in_err-enter_values-clause-names_full g c used uses many =
+    is_err c.from_residual-in_err-enter_values.result _ c.from_residual-in_err-enter_values.ensures.1
+
+pub returns-clause-names_full : goal.returns-clause-names_full
+returns-clause-names_full g c used uses many =
+    absurd (false≢true (c.in_ok-prepared.ensures.names_full used (subst (λ l. UsesNames c.args.names.now.names (c.args.label.now ∷ keys_in l) used)
+    (sym c.as_slice-pairs.ensures) uses) many))
+
+-- ---- the names before, and the new ones
+pub returns-in_err-test_room-clause-prefix : goal.returns-in_err-test_room-clause-prefix
+returns-in_err-test_room-clause-prefix g c = ([], sym (append-nil c.args.names.now.names))
+
+pub returns-in_err-prepared-clause-prefix : goal.returns-in_err-prepared-clause-prefix
+returns-in_err-prepared-clause-prefix g c = c.prepare.ensures.prefix
+
+pub returns-in_err-listed-clause-prefix : goal.returns-in_err-listed-clause-prefix
+returns-in_err-listed-clause-prefix g c = c.prepare.ensures.prefix
+
+pub returns-in_err-test_room-2-clause-prefix : goal.returns-in_err-test_room-2-clause-prefix
+returns-in_err-test_room-2-clause-prefix g c = c.prepare.ensures.prefix
+
+pub returns-in_err-id-clause-prefix : goal.returns-in_err-id-clause-prefix
+returns-in_err-id-clause-prefix g c = c.prepare.ensures.prefix
+
+pub returns-in_err-put_properties-clause-prefix : goal.returns-in_err-put_properties-clause-prefix
+returns-in_err-put_properties-clause-prefix g c = c.prepare.ensures.prefix
+
+pub returns-in_err-enter_values-clause-prefix : goal.returns-in_err-enter_values-clause-prefix
+returns-in_err-enter_values-clause-prefix g c = c.prepare.ensures.prefix
+
+pub returns-clause-prefix : goal.returns-clause-prefix
+returns-clause-prefix g c = c.prepare.ensures.prefix
+
+-- ---- the space goes on
+to_listed : (g : Over) (c : After-listed_pairs g) → g.S.Reads.onward c.args.space.now c.listed_pairs.new.space
+to_listed g c =
+    g.met.S.Reads.further_onward c.args.space.now c.prepare.new.space c.listed_pairs.new.space c.prepare.ensures.onward c.listed_pairs.ensures.onward
+
+to_properties : (g : Over) (c : After-put_properties g) → g.S.Reads.onward c.args.space.now c.put_properties.new.space
+to_properties g c =
+    let on = g.met.S.Reads.further_onward in
+    on c.args.space.now c.put_node.new.space c.put_properties.new.space
+    (on c.args.space.now c.listed_pairs.new.space c.put_node.new.space (to_listed g (goal.at.After-put_properties g c).After-listed_pairs)
+    c.put_node.ensures.onward) c.put_properties.ensures.onward
+
+to_values : (g : Over) (c : After-enter_values g) → g.S.Reads.onward c.args.space.now c.enter_values.new.space
+to_values g c =
+    g.met.S.Reads.further_onward c.args.space.now c.put_properties.new.space c.enter_values.new.space
+    (to_properties g (goal.at.After-enter_values g c).After-put_properties) c.enter_values.ensures.onward
+
+pub returns-in_err-prepared-clause-onward : goal.returns-in_err-prepared-clause-onward
+returns-in_err-prepared-clause-onward g c = c.prepare.ensures.onward
+
+pub returns-in_err-listed-clause-onward : goal.returns-in_err-listed-clause-onward
+returns-in_err-listed-clause-onward g c = to_listed g (goal.at.returns-in_err-listed-clause-onward g c).After-listed_pairs
+
+pub returns-in_err-test_room-2-clause-onward : goal.returns-in_err-test_room-2-clause-onward
+returns-in_err-test_room-2-clause-onward g c = to_listed g (goal.at.returns-in_err-test_room-2-clause-onward g c).After-listed_pairs
+
+pub returns-in_err-id-clause-onward : goal.returns-in_err-id-clause-onward
+returns-in_err-id-clause-onward g c =
+    g.met.S.Reads.further_onward c.args.space.now c.listed_pairs.new.space c.put_node.new.space
+    (to_listed g (goal.at.returns-in_err-id-clause-onward g c).After-listed_pairs) c.put_node.ensures.onward
+
+pub returns-in_err-put_properties-clause-onward : goal.returns-in_err-put_properties-clause-onward
+returns-in_err-put_properties-clause-onward g c = to_properties g (goal.at.returns-in_err-put_properties-clause-onward g c).After-put_properties
+
+pub returns-in_err-enter_values-clause-onward : goal.returns-in_err-enter_values-clause-onward
+returns-in_err-enter_values-clause-onward g c = to_values g (goal.at.returns-in_err-enter_values-clause-onward g c).After-enter_values
+
+pub returns-clause-onward : goal.returns-clause-onward
+returns-clause-onward g c = to_values g (goal.at.returns-clause-onward g c).After-enter_values
+
+-- ---- what refusals leave, write and count
+pub returns-in_err-test_room-clause-leaves : goal.returns-in_err-test_room-clause-leaves
+returns-in_err-test_room-clause-leaves g c tells =
+    let s = g.S.Reads.state c.args.space.now in
+    let fault = c.in_err-test_room.field-0.0 in
+    fault_exit (λ f. f) (LeavesSpace s s) fault c.from_residual.result c.from_residual.ensures.1 (read_leaves s s refl fault)
+
+pub returns-in_err-prepared-clause-leaves : goal.returns-in_err-prepared-clause-leaves
+returns-in_err-prepared-clause-leaves g c tells =
+    let s = g.S.Reads.state c.args.space.now in
+    let t = g.S.Reads.state c.prepare.new.space in
+    fault_exit (λ f. f) (LeavesSpace s t) c.in_err-prepared.field-0.0 c.from_residual-in_err-prepared.result c.from_residual-in_err-prepared.ensures.1
+    c.in_err-prepared.ensures.leaves
+
+pub returns-in_err-test_room-2-clause-leaves : goal.returns-in_err-test_room-2-clause-leaves
+returns-in_err-test_room-2-clause-leaves g c tells =
+    let s = g.S.Reads.state c.args.space.now in
+    let t = g.S.Reads.state c.listed_pairs.new.space in
+    let fault = c.in_err-test_room-2.field-0.0 in
+    fault_exit (λ f. f) (LeavesSpace s t) fault c.from_residual-in_err-test_room-2.result c.from_residual-in_err-test_room-2.ensures.1
+    (late_leaves s t fault (subst MayComeLate (sym c.in_err-test_room-2.ensures.full.is) refl))
+
+pub returns-in_err-test_room-clause-refused_writes : goal.returns-in_err-test_room-clause-refused_writes
+returns-in_err-test_room-clause-refused_writes g c = on_any_err _ _ (more_written (omega arith) (none_written _ _ refl))
+
+pub returns-in_err-prepared-clause-refused_writes : goal.returns-in_err-prepared-clause-refused_writes
+returns-in_err-prepared-clause-refused_writes g c = on_any_err _ _ (more_written (omega arith) c.prepare.ensures.few_writes)
+
+pub returns-in_err-test_room-clause-cause : goal.returns-in_err-test_room-clause-cause
+returns-in_err-test_room-clause-cause g c =
+    room_refusal_cause _ _ c.from_residual.result c.in_err-test_room.field-0.0 c.in_err-test_room.ensures.full (omega arith) c.from_residual.ensures.1
+
+pub returns-in_err-test_room-2-clause-cause : goal.returns-in_err-test_room-2-clause-cause
+returns-in_err-test_room-2-clause-cause g c =
+    room_refusal_cause _ _ c.from_residual-in_err-test_room-2.result c.in_err-test_room-2.field-0.0 c.in_err-test_room-2.ensures.full
+    (later_on c.in_ok-prepared.ensures.cause.later c.in_ok-listed.ensures.cause.later) c.from_residual-in_err-test_room-2.ensures.1
+
+-- ---- an answer is no refusal
+pub returns-clause-refused : goal.returns-clause-refused
+returns-clause-refused g c tells whole = tt
+
+pub returns-clause-caused : goal.returns-clause-caused
+returns-clause-caused g c tells = tt
+
+pub returns-clause-still : goal.returns-clause-still
+returns-clause-still g c tells = tt
+
+pub returns-clause-damaged : goal.returns-clause-damaged
+returns-clause-damaged g c tells = tt
+
+pub returns-clause-counts : goal.returns-clause-counts
+returns-clause-counts g c tells whole = tt
+
+pub returns-clause-leaves : goal.returns-clause-leaves
+returns-clause-leaves g c tells = tt
+
+pub returns-clause-refused_writes : goal.returns-clause-refused_writes
+returns-clause-refused_writes g c = tt

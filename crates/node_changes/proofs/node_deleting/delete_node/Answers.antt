@@ -13,7 +13,7 @@ use Rattle.store_rules.specs.Views.{degree, key_in, kind_at}
 use Rattle.store_rules.specs.Writes.{WritesAtMost, WritesBeside}
 use Rattle.store_rules.proofs.GraphRows.{degree_in-degree}
 use Rattle.change_parts.specs.Change.{IsRefusal}
-use Rattle.change_parts.specs.ChangeFault.{of_fault, of_row, of_space}
+use Rattle.change_parts.specs.ChangeFault.{of_fault, of_row, of_space, LeavesSpace}
 use Rattle.node_changes.specs.NodeDeleting.{IsDeleteCause}
 use Rattle.change_parts.specs.Store.{IsStore, graph_in}
 use Rattle.change_parts.proofs.KeptIndexes.{midway}
@@ -28,12 +28,12 @@ use Rattle.node_changes.proofs.Broken.{node_cause}
 use Rattle.change_parts.specs.Causes.{IsCaused, IsStillCaused}
 use Rattle.change_parts.proofs.Causes.{any_blamed, broken_left, caused_left, failure_caused}
 use Rattle.change_parts.proofs.Adding.{space_blamed}
-use Rattle.change_parts.proofs.Exits.{fault_exit, fault_fails, row_fails, space_fails}
+use Rattle.change_parts.proofs.Exits.{fault_exit, fault_fails, row_fails, space_fails, failure_late, late_leaves}
 use Rattle.change_parts.proofs.Readings.{prop_refused}
 use Rattle.change_parts.proofs.Readings.{made_read}
 use Rattle.store_rules.proofs.WriteLaws.{among_metas, beside_then, beside_written, more_written, none_written, then_written, this_written}
 use Rattle.change_parts.proofs.Writes.{on_any_err, read_exit, touched_written}
-use Rattle.change_parts.proofs.DiskCauses.{change_cause_passed, fault_cause_passed, later_on, space_cause_passed}
+use Rattle.change_parts.proofs.DiskCauses.{change_cause_passed, fault_cause_passed, later_on, space_cause_passed, row_cause_passed}
 use Rattle.node_store.specs.Loading as nodes
 use Rattle.prop_index.specs.Listing.{pair_of}
 use Rattle.prop_index.specs.Reading.{KeepsStore}
@@ -751,3 +751,58 @@ returns-in_err-entries-clause-keeps g c tells = left_keeps g (goal.at.returns-in
 
 pub returns-clause-keeps : goal.returns-clause-keeps
 returns-clause-keeps g c tells = left_keeps g (goal.at.returns-clause-keeps g c).After-leave_values tells
+
+pub returns-in_err-node-clause-leaves : goal.returns-in_err-node-clause-leaves
+returns-in_err-node-clause-leaves g c =
+    let s = g.S.Reads.state c.args.space.now in
+    let t = g.S.Reads.state c.load.new.space in
+    fault_exit of_row (LeavesSpace s t) c.in_err-node.field-0.0 c.from_residual.result c.from_residual.ensures.1
+    (late_leaves s t (of_row c.in_err-node.field-0.0) (failure_late (of_row c.in_err-node.field-0.0) (row_fails c.in_err-node.field-0.0)))
+
+pub returns-in_err-held-clause-leaves : goal.returns-in_err-held-clause-leaves
+returns-in_err-held-clause-leaves g c =
+    let s = g.S.Reads.state c.args.space.now in
+    let t = g.S.Reads.state c.held_values.new.space in
+    fault_exit (λ f. f) (LeavesSpace s t) c.in_err-held.field-0.0 c.from_residual-in_err-held.result c.from_residual-in_err-held.ensures.1
+    (late_leaves s t c.in_err-held.field-0.0 (failure_late c.in_err-held.field-0.0 c.in_err-held.ensures.failure))
+
+pub returns-in_err-dropped-clause-leaves : goal.returns-in_err-dropped-clause-leaves
+returns-in_err-dropped-clause-leaves g c =
+    let s = g.S.Reads.state c.args.space.now in
+    let t = g.S.Reads.state c.drop_all.new.space in
+    fault_exit of_fault (LeavesSpace s t) c.in_err-dropped.field-0.0 c.from_residual-in_err-dropped.result c.from_residual-in_err-dropped.ensures.1
+    (late_leaves s t (of_fault c.in_err-dropped.field-0.0) (failure_late (of_fault c.in_err-dropped.field-0.0) (fault_fails c.in_err-dropped.field-0.0)))
+
+pub returns-in_err-give-clause-leaves : goal.returns-in_err-give-clause-leaves
+returns-in_err-give-clause-leaves g c =
+    let s = g.S.Reads.state c.args.space.now in
+    let t = g.S.Reads.state c.give.new.space in
+    fault_exit of_space (LeavesSpace s t) c.in_err-give.field-0.0 c.from_residual-in_err-give.result c.from_residual-in_err-give.ensures.1
+    (late_leaves s t (of_space c.in_err-give.field-0.0) (failure_late (of_space c.in_err-give.field-0.0) (space_fails c.in_err-give.field-0.0)))
+
+pub returns-in_err-entries-clause-leaves : goal.returns-in_err-entries-clause-leaves
+returns-in_err-entries-clause-leaves g c =
+    let s = g.S.Reads.state c.args.space.now in
+    let t = g.S.Reads.state c.leave_values.new.space in
+    fault_exit (λ f. f) (LeavesSpace s t) c.in_err-entries.field-0.0 c.from_residual-in_err-entries.result c.from_residual-in_err-entries.ensures.1
+    (late_leaves s t c.in_err-entries.field-0.0 (failure_late c.in_err-entries.field-0.0 c.in_err-entries.ensures.failure))
+
+pub returns-in_err-node-clause-cause : goal.returns-in_err-node-clause-cause
+returns-in_err-node-clause-cause g c =
+    row_cause_passed _ _ _ c.from_residual.result c.in_err-node.field-0.0 (omega arith) c.in_err-node.ensures.cause c.from_residual.ensures.1
+
+pub returns-in_err-held-clause-onward : goal.returns-in_err-held-clause-onward
+returns-in_err-held-clause-onward g c =
+    g.met.S.Reads.further_onward c.args.space.now c.load.new.space c.held_values.new.space c.load.ensures.onward c.held_values.ensures.onward
+
+pub returns-in_err-dropped-clause-onward : goal.returns-in_err-dropped-clause-onward
+returns-in_err-dropped-clause-onward g c =
+    g.met.S.Reads.further_onward c.args.space.now c.held_values.new.space c.drop_all.new.space
+    (g.met.S.Reads.further_onward c.args.space.now c.load.new.space c.held_values.new.space c.load.ensures.onward c.held_values.ensures.onward)
+    c.drop_all.ensures.onward
+
+pub returns-in_default-clause-onward : goal.returns-in_default-clause-onward
+returns-in_default-clause-onward g c = c.load.ensures.onward
+
+pub returns-then-node-ne0-clause-onward : goal.returns-then-node-ne0-clause-onward
+returns-then-node-ne0-clause-onward g c = c.load.ensures.onward

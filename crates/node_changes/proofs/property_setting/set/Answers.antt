@@ -1,6 +1,6 @@
 use Rattle.std.specs.Prelude.{Contains, IfSome, slice_get}
-use Rattle.std.proofs.Common.{◌≡◌, ◌≢◌, ◌∙◌, ℕ, ◌+◌, ◌-◌, ◌<◌, ◌≤◌, true, ⊎_elim, Option, None, Some, List, length, map, inr, sym, ap, subst, inl, arith, refl}
-use Rattle.std.proofs.Common.{rules}
+use Rattle.std.proofs.Common.{◌≡◌, ◌≢◌, ◌∙◌, ℕ, ◌+◌, ◌-◌, ◌<◌, ◌≤◌, true, ⊎_elim, Option, None, Some, List, [], ◌∷◌, length}
+use Rattle.std.proofs.Common.{append-nil, map, inr, sym, ap, subst, inl, arith, refl, rules}
 use Rattle.plain_graph.specs.Graph.{UsesName, has_element}
 use Rattle.plain_graph.specs.Properties.{blocks_of}
 use Rattle.plain_graph.specs.Refusals.{most_names}
@@ -23,9 +23,10 @@ use Rattle.change_parts.specs.Store.{IsMidway, IsStore, KeepsElements, graph_in}
 use Rattle.change_parts.proofs.KeptIndexes.{midway, store_now, whole_read}
 use Rattle.change_parts.proofs.Counted.{count_full, element_exact, named_exact, set_exact}
 use Rattle.node_changes.proofs.EntriesFaults.{entry_exact}
-use Rattle.change_parts.proofs.Exits.{failure_late, fault_exit, late_leaves, set_late}
+use Rattle.change_parts.proofs.Exits.{failure_late, fault_exit, late_leaves, read_leaves, set_late}
 use Rattle.change_parts.proofs.Interned.{keeps_interned, name_written, one_written}
-use Rattle.change_parts.proofs.LineNames.{held_name}
+use Rattle.change_parts.proofs.Late.{intern_late, is_err}
+use Rattle.change_parts.proofs.LineNames.{held_name, name_prefix, uses_once}
 use Rattle.change_parts.proofs.NewNames.{name_one}
 use Rattle.node_changes.proofs.Setting.{few_blocks, set_known, set_missing, set_refused, set_unnamed}
 use Rattle.change_parts.proofs.Readings.{made_read, store_read, there_read}
@@ -789,3 +790,110 @@ pub returns-clause-cause : goal.returns-clause-cause
 returns-clause-cause g c =
     ok_cause _ _ _ _ (later_on (later_on (later_on (later_on c.in_ok-owner.ensures.cause.later c.in_ok-number.ensures.cause.later)
     c.in_ok-held.ensures.cause.later) c.in_ok-released.ensures.cause.later) c.in_ok-entries.ensures.cause.later)
+
+-- ---- an exit by a fault is no answer
+pub returns-in_err-owner-clause-names_full : goal.returns-in_err-owner-clause-names_full
+returns-in_err-owner-clause-names_full g c used other many = is_err c.from_residual.result _ c.from_residual.ensures.1
+
+pub returns-in_err-number-clause-names_full : goal.returns-in_err-number-clause-names_full
+returns-in_err-number-clause-names_full g c used other many = is_err c.from_residual-in_err-number.result _ c.from_residual-in_err-number.ensures.1
+
+pub returns-in_err-held-clause-names_full : goal.returns-in_err-held-clause-names_full
+returns-in_err-held-clause-names_full g c used other many = is_err c.from_residual-in_err-held.result _ c.from_residual-in_err-held.ensures.1
+
+pub returns-in_err-released-clause-names_full : goal.returns-in_err-released-clause-names_full
+returns-in_err-released-clause-names_full g c used other many = is_err c.from_residual-in_err-released.result _ c.from_residual-in_err-released.ensures.1
+
+pub returns-in_err-entries-clause-names_full : goal.returns-in_err-entries-clause-names_full
+returns-in_err-entries-clause-names_full g c used other many = is_err c.from_residual-in_err-entries.result _ c.from_residual-in_err-entries.ensures.1
+
+pub returns-clause-names_full : goal.returns-clause-names_full
+returns-clause-names_full g c used other many =
+    let after = (goal.at.returns-clause-names_full g c).After-indexed_value in
+    let same = ap length (uses_once c.args.names.now.names (c.args.key.now ∷ []) used c.intern.new.self.names other
+    (c.intern.new.self.names, uses g after, refl)) in
+    let most = few g after in
+    absurd (omega (arith, same, most, many))
+
+-- ---- the names before, and the new one
+pub returns-in_err-owner-clause-prefix : goal.returns-in_err-owner-clause-prefix
+returns-in_err-owner-clause-prefix g c = ([], sym (append-nil c.args.names.now.names))
+
+pub returns-in_err-number-clause-prefix : goal.returns-in_err-number-clause-prefix
+returns-in_err-number-clause-prefix g c = ([], c.in_err-number.ensures.err ∙ sym (append-nil c.args.names.now.names))
+
+pub returns-in_err-held-clause-prefix : goal.returns-in_err-held-clause-prefix
+returns-in_err-held-clause-prefix g c = name_prefix c.args.names.now.names c.as_bytes.result.now c.intern.new.self.names c.in_ok-number.ensures.names
+
+pub returns-in_err-released-clause-prefix : goal.returns-in_err-released-clause-prefix
+returns-in_err-released-clause-prefix g c = name_prefix c.args.names.now.names c.as_bytes.result.now c.intern.new.self.names c.in_ok-number.ensures.names
+
+pub returns-in_err-entries-clause-prefix : goal.returns-in_err-entries-clause-prefix
+returns-in_err-entries-clause-prefix g c = name_prefix c.args.names.now.names c.as_bytes.result.now c.intern.new.self.names c.in_ok-number.ensures.names
+
+pub returns-clause-prefix : goal.returns-clause-prefix
+returns-clause-prefix g c = name_prefix c.args.names.now.names c.as_bytes.result.now c.intern.new.self.names c.in_ok-number.ensures.names
+
+-- ---- the space goes on
+pub returns-in_err-number-clause-onward : goal.returns-in_err-number-clause-onward
+returns-in_err-number-clause-onward g c =
+    g.met.S.Reads.further_onward c.args.space.now c.find_owner.new.space c.intern.new.space c.find_owner.ensures.onward c.intern.ensures.onward
+
+pub returns-in_err-held-clause-onward : goal.returns-in_err-held-clause-onward
+returns-in_err-held-clause-onward g c =
+    let on = g.met.S.Reads.further_onward in
+    on c.args.space.now c.intern.new.space c.indexed_value.new.space
+    (on c.args.space.now c.find_owner.new.space c.intern.new.space c.find_owner.ensures.onward c.intern.ensures.onward) c.indexed_value.ensures.onward
+
+pub returns-in_err-released-clause-onward : goal.returns-in_err-released-clause-onward
+returns-in_err-released-clause-onward g c =
+    let on = g.met.S.Reads.further_onward in
+    on c.args.space.now c.indexed_value.new.space c.set.new.space
+    (on c.args.space.now c.intern.new.space c.indexed_value.new.space
+    (on c.args.space.now c.find_owner.new.space c.intern.new.space c.find_owner.ensures.onward c.intern.ensures.onward) c.indexed_value.ensures.onward)
+    c.set.ensures.onward
+
+-- ---- what refusals leave, write and blame
+pub returns-in_err-owner-clause-leaves : goal.returns-in_err-owner-clause-leaves
+returns-in_err-owner-clause-leaves g c tells =
+    let s = g.S.Reads.state c.args.space.now in
+    let t = g.S.Reads.state c.find_owner.new.space in
+    let fault = c.in_err-owner.field-0.0 in
+    fault_exit (λ f. f) (LeavesSpace s t) fault c.from_residual.result c.from_residual.ensures.1 (read_leaves s t c.find_owner.ensures.state fault)
+
+pub returns-in_err-number-clause-leaves : goal.returns-in_err-number-clause-leaves
+returns-in_err-number-clause-leaves g c tells =
+    let s = g.S.Reads.state c.args.space.now in
+    let t = g.S.Reads.state c.intern.new.space in
+    let fault = c.in_err-number.field-0.0 in
+    fault_exit of_intern (LeavesSpace s t) fault c.from_residual-in_err-number.result c.from_residual-in_err-number.ensures.1
+    (late_leaves s t (of_intern fault) (intern_late fault))
+
+pub returns-in_err-owner-clause-refused_writes : goal.returns-in_err-owner-clause-refused_writes
+returns-in_err-owner-clause-refused_writes g c = on_any_err _ _ (more_written (omega arith) (none_written _ _ c.find_owner.ensures.state))
+
+pub returns-in_err-owner-clause-cause : goal.returns-in_err-owner-clause-cause
+returns-in_err-owner-clause-cause g c =
+    change_cause_passed _ _ _ c.from_residual.result c.in_err-owner.field-0.0 (omega arith) c.in_err-owner.ensures.cause c.from_residual.ensures.1
+
+-- ---- an answer is no refusal
+pub returns-clause-refused : goal.returns-clause-refused
+returns-clause-refused g c tells whole = tt
+
+pub returns-clause-caused : goal.returns-clause-caused
+returns-clause-caused g c tells = tt
+
+pub returns-clause-still : goal.returns-clause-still
+returns-clause-still g c tells = tt
+
+pub returns-clause-damaged : goal.returns-clause-damaged
+returns-clause-damaged g c tells = tt
+
+pub returns-clause-counts : goal.returns-clause-counts
+returns-clause-counts g c tells = tt
+
+pub returns-clause-leaves : goal.returns-clause-leaves
+returns-clause-leaves g c tells = tt
+
+pub returns-clause-refused_writes : goal.returns-clause-refused_writes
+returns-clause-refused_writes g c = tt

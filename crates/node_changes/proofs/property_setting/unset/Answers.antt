@@ -4,7 +4,7 @@ use Rattle.plain_graph.specs.Reply.{Done}
 use Rattle.plain_graph.specs.declared.command.Command.TheVariants as commands
 use Rattle.prop_store.specs.Changing.{UnsetsValue, released_blocks}
 use Rattle.change_parts.specs.Change.{IsRefusal}
-use Rattle.change_parts.specs.ChangeFault.{of_fault}
+use Rattle.change_parts.specs.ChangeFault.{of_fault, LeavesSpace}
 use Rattle.change_parts.specs.Damage.{BlamesEntries, IsAsFound, IsBroken}
 use Rattle.change_parts.specs.Owners.{owner_of}
 use Rattle.change_parts.specs.Store.{IsStore, graph_in}
@@ -18,7 +18,7 @@ use Rattle.node_changes.proofs.EntriesFaults.{owner_file}
 use Rattle.change_parts.proofs.IndexesLeft.{properties_leave}
 use Rattle.change_parts.specs.Causes.{IsCaused, IsStillCaused}
 use Rattle.change_parts.proofs.Causes.{absent_caused, any_blamed, caused_left, failure_caused}
-use Rattle.change_parts.proofs.Exits.{fault_exit, fault_fails}
+use Rattle.change_parts.proofs.Exits.{fault_exit, fault_fails, failure_late, late_leaves, read_leaves}
 use Rattle.change_parts.proofs.Readings.{made_read, there_read}
 use Rattle.node_changes.proofs.Setting.{has_key, unnamed_none, unset_absent, unset_missing, unset_nothing}
 use Rattle.change_parts.proofs.Elements.{has_owner}
@@ -450,3 +450,71 @@ pub returns-clause-cause : goal.returns-clause-cause
 returns-clause-cause g c =
     ok_cause _ _ _ _ (later_on (later_on (later_on c.in_ok-owner.ensures.cause.later c.in_ok-held.ensures.cause.later) c.in_ok-released.ensures.cause.later)
     c.in_ok-entries.ensures.cause.later)
+
+pub returns-in_err-owner-clause-leaves : goal.returns-in_err-owner-clause-leaves
+returns-in_err-owner-clause-leaves g c =
+    let s = g.S.Reads.state c.args.space.now in
+    let t = g.S.Reads.state c.find_owner.new.space in
+    let fault = c.in_err-owner.field-0.0 in
+    fault_exit (λ f. f) (LeavesSpace s t) fault c.from_residual.result c.from_residual.ensures.1 (read_leaves s t c.find_owner.ensures.state fault)
+
+pub returns-in_err-owner-clause-refused_writes : goal.returns-in_err-owner-clause-refused_writes
+returns-in_err-owner-clause-refused_writes g c = on_any_err _ _ (more_written (omega arith) (none_written _ _ c.find_owner.ensures.state))
+
+pub returns-in_err-owner-clause-cause : goal.returns-in_err-owner-clause-cause
+returns-in_err-owner-clause-cause g c =
+    change_cause_passed _ _ _ c.from_residual.result c.in_err-owner.field-0.0 (omega arith) c.in_err-owner.ensures.cause c.from_residual.ensures.1
+
+pub returns-in_err-held-clause-leaves : goal.returns-in_err-held-clause-leaves
+returns-in_err-held-clause-leaves g c =
+    let s = g.S.Reads.state c.args.space.now in
+    let t = g.S.Reads.state c.indexed_value.new.space in
+    let fault = c.in_err-held.field-0.0 in
+    fault_exit (λ f. f) (LeavesSpace s t) fault c.from_residual-in_err-held.result c.from_residual-in_err-held.ensures.1
+    (late_leaves s t fault (failure_late fault c.in_err-held.ensures.failure))
+
+pub returns-in_err-held-clause-refused_writes : goal.returns-in_err-held-clause-refused_writes
+returns-in_err-held-clause-refused_writes g c =
+    on_any_err _ _ (more_written (omega arith) (then_written (none_written _ _ c.find_owner.ensures.state) (none_written _ _ c.indexed_value.ensures.same)))
+
+pub returns-in_err-held-clause-onward : goal.returns-in_err-held-clause-onward
+returns-in_err-held-clause-onward g c =
+    g.met.S.Reads.further_onward c.args.space.now c.find_owner.new.space c.indexed_value.new.space c.find_owner.ensures.onward c.indexed_value.ensures.onward
+
+pub returns-in_err-released-clause-leaves : goal.returns-in_err-released-clause-leaves
+returns-in_err-released-clause-leaves g c =
+    let s = g.S.Reads.state c.args.space.now in
+    let t = g.S.Reads.state c.unset.new.space in
+    let fault = of_fault c.in_err-released.field-0.0 in
+    fault_exit of_fault (LeavesSpace s t) c.in_err-released.field-0.0 c.from_residual-in_err-released.result c.from_residual-in_err-released.ensures.1
+    (late_leaves s t fault (failure_late fault (fault_fails c.in_err-released.field-0.0)))
+
+pub returns-in_err-released-clause-onward : goal.returns-in_err-released-clause-onward
+returns-in_err-released-clause-onward g c =
+    g.met.S.Reads.further_onward c.args.space.now c.indexed_value.new.space c.unset.new.space
+    (g.met.S.Reads.further_onward c.args.space.now c.find_owner.new.space c.indexed_value.new.space c.find_owner.ensures.onward c.indexed_value.ensures.onward)
+    c.unset.ensures.onward
+
+pub returns-in_err-entries-clause-leaves : goal.returns-in_err-entries-clause-leaves
+returns-in_err-entries-clause-leaves g c =
+    let s = g.S.Reads.state c.args.space.now in
+    let t = g.S.Reads.state c.leave_entry.new.space in
+    let fault = c.in_err-entries.field-0.0 in
+    fault_exit (λ f. f) (LeavesSpace s t) fault c.from_residual-in_err-entries.result c.from_residual-in_err-entries.ensures.1
+    (late_leaves s t fault (failure_late fault c.in_err-entries.ensures.failure))
+
+pub returns-in_default-clause-onward : goal.returns-in_default-clause-onward
+returns-in_default-clause-onward g c = c.find_owner.ensures.onward
+
+pub returns-in_default-clause-cause : goal.returns-in_default-clause-cause
+returns-in_default-clause-cause g c = ok_cause _ _ _ _ c.in_ok-owner.ensures.cause.later
+
+pub returns-in_default-2-clause-onward : goal.returns-in_default-2-clause-onward
+returns-in_default-2-clause-onward g c =
+    g.met.S.Reads.further_onward c.args.space.now c.indexed_value.new.space c.unset.new.space
+    (g.met.S.Reads.further_onward c.args.space.now c.find_owner.new.space c.indexed_value.new.space c.find_owner.ensures.onward c.indexed_value.ensures.onward)
+    c.unset.ensures.onward
+
+pub returns-in_default-2-clause-cause : goal.returns-in_default-2-clause-cause
+returns-in_default-2-clause-cause g c =
+    ok_cause _ _ _ _ (later_on (later_on c.in_ok-owner.ensures.cause.later c.in_ok-held.ensures.cause.later) c.in_ok-released.ensures.cause.later)
