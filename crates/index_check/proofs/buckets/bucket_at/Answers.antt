@@ -96,3 +96,6 @@ returns-in_err-head-clause-cause g c =
 pub returns-in_err-ids-clause-read : goal.returns-in_err-ids-clause-read
 returns-in_err-ids-clause-read g c =
     is_read-on g.R.Reads g.met.R.Reads.further_onward _ _ _ c.in_ok-head.ensures.read c.in_err-ids.ensures.read
+
+pub returns-in_default-clause-cause : goal.returns-in_default-clause-cause
+returns-in_default-clause-cause g c = ok_cause _ _ _ _ c.in_ok-head.ensures.cause.later

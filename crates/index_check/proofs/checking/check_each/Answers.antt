@@ -8,7 +8,7 @@ use Rattle.index_check.specs.Indexing.{IsRight}
 use Rattle.index_check.specs.Values.{AreReadable}
 use Rattle.index_check.specs.declared.definitions.Definition.{Definition}
 use Rattle.index_check.proofs.SoundExits.{sound_exit}
-use Rattle.rec_bytes.proofs.Causes.{never_ok}
+use Rattle.rec_bytes.proofs.Causes.{never_ok, ok_cause}
 use Rattle.record_lists.proofs.OnlyReads.{is_read-none, is_read-on}
 use Rattle.index_check.proofs.checking.check_each.Goals as goal
 
@@ -73,3 +73,6 @@ returns-in_err-damage-clause-right g c _ = never_ok c.from_residual.result _ _ c
 
 pub returns-in_err-damage-clause-broken : goal.returns-in_err-damage-clause-broken
 returns-in_err-damage-clause-broken g c _ = never_ok c.from_residual.result _ _ c.from_residual.ensures.1
+
+pub returns-clause-cause : goal.returns-clause-cause
+returns-clause-cause g c = ok_cause _ _ _ _ c.loop-definition.invariant.read.later

@@ -6,8 +6,9 @@ use Rattle.store_rules.specs.Views.{Records, high, is_live}
 use Rattle.index_check.specs.Indexing.{AreAllMarked}
 use Rattle.index_check.proofs.IndexLaws.{breaks_by}
 use Rattle.index_check.proofs.ListedLaws.{all_held, left_over}
-use Rattle.rec_bytes.proofs.Causes.{never_ok}
+use Rattle.rec_bytes.proofs.Causes.{never_ok, ok_cause}
 use Rattle.record_lists.proofs.OnlyReads.{is_read-on}
+use Rattle.prop_store.proofs.Causes.{later_on}
 use Rattle.index_check.proofs.checking.check_marked.Goals as goal
 
 pub returns-in-Some-2-clause-broken : goal.returns-in-Some-2-clause-broken
@@ -69,3 +70,9 @@ returns-in_err-id-clause-right g c _ = never_ok c.from_residual-in_err-id.result
 
 pub returns-in_err-id-clause-broken : goal.returns-in_err-id-clause-broken
 returns-in_err-id-clause-broken g c _ = never_ok c.from_residual-in_err-id.result _ _ c.from_residual-in_err-id.ensures.1
+
+pub returns-in-Some-2-clause-cause : goal.returns-in-Some-2-clause-cause
+returns-in-Some-2-clause-cause g c = ok_cause _ _ _ _ (later_on c.in_ok-damage.ensures.cause.later c.in_ok-id.ensures.cause.later)
+
+pub returns-in-None-clause-cause : goal.returns-in-None-clause-cause
+returns-in-None-clause-cause g c = ok_cause _ _ _ _ (later_on c.in_ok-damage.ensures.cause.later c.in_ok-id.ensures.cause.later)

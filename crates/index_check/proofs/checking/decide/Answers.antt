@@ -3,8 +3,8 @@ use Rattle.rec_bytes.specs.Format as format
 use Rattle.store_rules.specs.IndexBreaking.{AreDefinitions}
 use Rattle.store_rules.specs.IndexBreaking.IndexBreaks.{WrongDefinitions}
 use Rattle.index_check.proofs.IndexLaws.{breaks_by}
-use Rattle.prop_store.proofs.Causes.{space_cause_passed}
-use Rattle.rec_bytes.proofs.Causes.{never_ok}
+use Rattle.prop_store.proofs.Causes.{space_cause_passed, cause_after, later_on}
+use Rattle.rec_bytes.proofs.Causes.{never_ok, ok_cause}
 use Rattle.prop_store.proofs.Exits.{space_exit}
 use Rattle.record_lists.proofs.OnlyReads.{is_read-on}
 use Rattle.index_check.proofs.checking.decide.Goals as goal
@@ -50,3 +50,17 @@ returns-in_err-ids-clause-cause g c =
 pub returns-in_err-definitions-clause-sound : goal.returns-in_err-definitions-clause-sound
 returns-in_err-definitions-clause-sound g c _ _ = space_exit c.from_residual-in_err-definitions.result c.in_err-definitions.field-0.0
     c.from_residual-in_err-definitions.ensures.1
+
+pub returns-in_default-clause-cause : goal.returns-in_default-clause-cause
+returns-in_default-clause-cause g c = ok_cause _ _ _ _ c.in_ok-ids.ensures.cause.later
+
+pub returns-in_default-clause-read : goal.returns-in_default-clause-read
+returns-in_default-clause-read g c = c.in_ok-ids.ensures.read
+
+pub returns-in_default-clause-sound : goal.returns-in_default-clause-sound
+returns-in_default-clause-sound g c tells readable = tt
+
+pub returns-clause-cause : goal.returns-clause-cause
+returns-clause-cause g c =
+    cause_after _ _ _ c.check_definitions.result (later_on c.in_ok-ids.ensures.cause.later c.in_ok-definitions.ensures.cause.later)
+    c.check_definitions.ensures.cause

@@ -15,8 +15,9 @@ use Rattle.index_check.specs.HeadRecords.{IsHeadItem}
 use Rattle.index_check.proofs.IndexLaws.{breaks_by}
 use Rattle.index_check.proofs.ListedLaws.{Always, all_told, buckets_kept, entries_once, entry_twice, head_twice, heads_kept, heads_once, no_bucket, no_heads}
 use Rattle.index_check.proofs.PlaceLaws.{many_place, twelve_place}
-use Rattle.rec_bytes.proofs.Causes.{never_ok}
+use Rattle.rec_bytes.proofs.Causes.{never_ok, ok_cause}
 use Rattle.record_lists.proofs.OnlyReads.{is_read-on}
+use Rattle.prop_store.proofs.Causes.{later_on}
 use Rattle.index_check.proofs.checking.mark_lists.Goals as goal
 
 -- what was marked after the records of heads
@@ -162,3 +163,54 @@ returns-in_err-id-clause-len g c = c.in_err-id.ensures.len
 
 pub returns-in_err-id-2-clause-len : goal.returns-in_err-id-2-clause-len
 returns-in_err-id-2-clause-len g c = c.in_err-id-2.ensures.len ∙ c.in_ok-id.ensures.len
+
+pub returns-in-Some-Head-clause-cause : goal.returns-in-Some-Head-clause-cause
+returns-in-Some-Head-clause-cause g c = ok_cause _ _ _ _ c.in_ok-id.ensures.cause.later
+
+pub returns-in-Some-Head-clause-read : goal.returns-in-Some-Head-clause-read
+returns-in-Some-Head-clause-read g c = c.in_ok-id.ensures.read
+
+pub returns-in-Some-Head-clause-len : goal.returns-in-Some-Head-clause-len
+returns-in-Some-Head-clause-len g c = c.in_ok-id.ensures.len
+
+pub returns-in-Some-Head-clause-right : goal.returns-in-Some-Head-clause-right
+returns-in-Some-Head-clause-right g c tells = tt
+
+pub returns-in-Some-Item-clause-cause : goal.returns-in-Some-Item-clause-cause
+returns-in-Some-Item-clause-cause g c = ok_cause _ _ _ _ c.in_ok-id.ensures.cause.later
+
+pub returns-in-Some-Item-clause-read : goal.returns-in-Some-Item-clause-read
+returns-in-Some-Item-clause-read g c = c.in_ok-id.ensures.read
+
+pub returns-in-Some-Item-clause-len : goal.returns-in-Some-Item-clause-len
+returns-in-Some-Item-clause-len g c = c.in_ok-id.ensures.len
+
+pub returns-in-Some-Item-clause-right : goal.returns-in-Some-Item-clause-right
+returns-in-Some-Item-clause-right g c tells = tt
+
+pub returns-in-Some-Head-2-clause-cause : goal.returns-in-Some-Head-2-clause-cause
+returns-in-Some-Head-2-clause-cause g c = ok_cause _ _ _ _ (later_on c.in_ok-id.ensures.cause.later c.in_ok-id-2.ensures.cause.later)
+
+pub returns-in-Some-Head-2-clause-len : goal.returns-in-Some-Head-2-clause-len
+returns-in-Some-Head-2-clause-len g c = c.in_ok-id-2.ensures.len ∙ c.in_ok-id.ensures.len
+
+pub returns-in-Some-Item-2-clause-cause : goal.returns-in-Some-Item-2-clause-cause
+returns-in-Some-Item-2-clause-cause g c = ok_cause _ _ _ _ (later_on c.in_ok-id.ensures.cause.later c.in_ok-id-2.ensures.cause.later)
+
+pub returns-in-Some-Item-2-clause-len : goal.returns-in-Some-Item-2-clause-len
+returns-in-Some-Item-2-clause-len g c = c.in_ok-id-2.ensures.len ∙ c.in_ok-id.ensures.len
+
+pub returns-in-None-2-clause-cause : goal.returns-in-None-2-clause-cause
+returns-in-None-2-clause-cause g c = ok_cause _ _ _ _ (later_on c.in_ok-id.ensures.cause.later c.in_ok-id-2.ensures.cause.later)
+
+pub returns-in-None-2-clause-len : goal.returns-in-None-2-clause-len
+returns-in-None-2-clause-len g c = c.in_ok-id-2.ensures.len ∙ c.in_ok-id.ensures.len
+
+pub returns-in-Some-Head-2-clause-right : goal.returns-in-Some-Head-2-clause-right
+returns-in-Some-Head-2-clause-right g c tells = tt
+
+pub returns-in-Some-Item-2-clause-right : goal.returns-in-Some-Item-2-clause-right
+returns-in-Some-Item-2-clause-right g c tells = tt
+
+pub returns-in-None-2-clause-broken : goal.returns-in-None-2-clause-broken
+returns-in-None-2-clause-broken g c tells = tt

@@ -9,6 +9,7 @@ use Rattle.index_check.proofs.DefinitionLaws.{definitions_of, line_is, line_of_d
 use Rattle.rec_bytes.proofs.Causes.{never_ok, ok_cause}
 use Rattle.record_lists.proofs.Causes.{cause_passed}
 use Rattle.record_lists.proofs.OnlyReads.{is_read-on, is_read-get}
+use Rattle.prop_store.proofs.Causes.{later_on}
 use Rattle.index_check.proofs.definitions.find_definitions.Goals as goal
 
 pub returns-in_default-clause-none : goal.returns-in_default-clause-none
@@ -110,3 +111,9 @@ pub returns-in_err-ids-clause-cause : goal.returns-in_err-ids-clause-cause
 returns-in_err-ids-clause-cause g c =
     cause_passed _ _ _ c.from_residual-in_err-ids.result c.in_err-ids.field-0.0 c.in_ok-meta.ensures.cause.later
     c.in_err-ids.ensures.cause c.from_residual-in_err-ids.ensures.1
+
+pub returns-in_default-clause-cause : goal.returns-in_default-clause-cause
+returns-in_default-clause-cause g c = ok_cause _ _ _ _ (later_on c.in_ok-meta.ensures.cause.later c.in_ok-ids.ensures.cause.later)
+
+pub returns-then-len-gt-MOST_INDEXES-clause-cause : goal.returns-then-len-gt-MOST_INDEXES-clause-cause
+returns-then-len-gt-MOST_INDEXES-clause-cause g c = ok_cause _ _ _ _ (later_on c.in_ok-meta.ensures.cause.later c.in_ok-ids.ensures.cause.later)

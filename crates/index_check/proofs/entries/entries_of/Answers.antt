@@ -7,8 +7,9 @@ use Rattle.store_rules.specs.Views.{Records, high}
 use Rattle.record_lists.proofs.Causes.{cause_passed}
 use Rattle.index_check.specs.Entries.{AreEntriesTo}
 use Rattle.index_check.proofs.EntryLaws.{entries_more, entries_none, low_more}
-use Rattle.rec_bytes.proofs.Causes.{never_ok}
+use Rattle.rec_bytes.proofs.Causes.{never_ok, ok_cause}
 use Rattle.record_lists.proofs.OnlyReads.{is_read-none, is_read-on}
+use Rattle.prop_store.proofs.Causes.{later_on}
 use Rattle.index_check.proofs.entries.entries_of.Goals as goal
 
 pub loop-number-init : goal.loop-number-init
@@ -78,3 +79,9 @@ returns-in_err-ids-clause-none g c _ = never_ok c.from_residual.result _ _ c.fro
 
 pub returns-in_err-ids-clause-low : goal.returns-in_err-ids-clause-low
 returns-in_err-ids-clause-low g c = never_ok c.from_residual.result _ _ c.from_residual.ensures.1
+
+pub returns-clause-cause : goal.returns-clause-cause
+returns-clause-cause g c = ok_cause _ _ _ _ c.loop-number.invariant.read.later
+
+pub returns-in_default-clause-cause : goal.returns-in_default-clause-cause
+returns-in_default-clause-cause g c = ok_cause _ _ _ _ (later_on c.loop-number.invariant.read.later c.in_ok-ids.ensures.cause.later)

@@ -8,7 +8,7 @@ use Rattle.index_check.specs.declared.nodes.Entered.{Entered}
 use Rattle.index_check.specs.declared.nodes.Entered.TheVariants.{Nodes, Unwanted}
 use Rattle.index_check.proofs.IndexLaws.{breaks_by, lacks_breaks, right_of, unwanted_breaks, wrong_breaks}
 use Rattle.prop_store.proofs.Causes.{cause_passed, later_on, space_cause_passed}
-use Rattle.rec_bytes.proofs.Causes.{never_ok}
+use Rattle.rec_bytes.proofs.Causes.{never_ok, ok_cause}
 use Rattle.prop_store.proofs.Exits.{space_exit}
 use Rattle.index_check.proofs.SoundExits.{sound_exit}
 use Rattle.index_check.specs.Values.{AreReadable}
@@ -150,3 +150,9 @@ pub returns-in_err-node-in-Nodes-clause-sound : goal.returns-in_err-node-in-Node
 returns-in_err-node-in-Nodes-clause-sound g c tells readable =
     sound_exit c.from_residual-in_err-node-in-Nodes.result c.in_err-node-in-Nodes.field-0.0 c.from_residual-in_err-node-in-Nodes.ensures.1
     (c.in_err-node-in-Nodes.ensures.sound tells (subst AreReadable (sym (c.in_ok-id.ensures.read.records ∙ c.in_ok-entries.ensures.read.records)) readable))
+
+pub returns-in_default-clause-cause : goal.returns-in_default-clause-cause
+returns-in_default-clause-cause g c = ok_cause _ _ _ _ c.in_ok-entries.ensures.cause.later
+
+pub returns-in-Unwanted-clause-cause : goal.returns-in-Unwanted-clause-cause
+returns-in-Unwanted-clause-cause g c = ok_cause _ _ _ _ (later_on c.in_ok-entries.ensures.cause.later c.in_ok-id.ensures.cause.later)

@@ -3,7 +3,7 @@ use Rattle.std.specs.Bool.{Decides}
 use Rattle.std.proofs.lemmas.Bool.{cases_Bool, true≢false}
 use Rattle.rec_bytes.specs.Format as format
 use Rattle.rec_bytes.specs.declared.meta.Meta.{Meta}
-use Rattle.prop_store.proofs.Causes.{cause_passed}
+use Rattle.prop_store.proofs.Causes.{cause_passed, later_on}
 use Rattle.record_lists.specs.Marks.{marked}
 use Rattle.record_lists.proofs.HeadLaws.{one_more}
 use Rattle.store_rules.specs.Views.{Records, high}
@@ -12,7 +12,7 @@ use Rattle.index_check.specs.Values.{AreReadable}
 use Rattle.index_check.specs.declared.definitions.Definition.{Definition}
 use Rattle.index_check.proofs.SoundExits.{sound_exit}
 use Rattle.index_check.proofs.ValueLaws.{value_low}
-use Rattle.rec_bytes.proofs.Causes.{never_ok}
+use Rattle.rec_bytes.proofs.Causes.{never_ok, ok_cause}
 use Rattle.record_lists.proofs.OnlyReads.{is_read-none, is_read-on}
 use Rattle.index_check.proofs.nodes.find_missing.Goals as goal
 
@@ -82,3 +82,9 @@ returns-in_err-is_missing-clause-none g c _ = never_ok c.from_residual.result _ 
 
 pub returns-in_err-is_missing-clause-found : goal.returns-in_err-is_missing-clause-found
 returns-in_err-is_missing-clause-found g c _ = never_ok c.from_residual.result _ _ c.from_residual.ensures.1
+
+pub returns-clause-cause : goal.returns-clause-cause
+returns-clause-cause g c = ok_cause _ _ _ _ c.loop-node.invariant.read.later
+
+pub returns-then-branch-clause-cause : goal.returns-then-branch-clause-cause
+returns-then-branch-clause-cause g c = ok_cause _ _ _ _ (later_on c.loop-node.invariant.read.later c.in_ok-is_missing.ensures.cause.later)

@@ -7,7 +7,7 @@ use Rattle.store_rules.specs.Indexes.{node_value}
 use Rattle.store_rules.specs.Views.{Records}
 use Rattle.index_check.specs.Nodes.{IsMissing}
 use Rattle.index_check.specs.declared.definitions.Definition.{Definition}
-use Rattle.rec_bytes.proofs.Causes.{never_ok}
+use Rattle.rec_bytes.proofs.Causes.{never_ok, ok_cause}
 use Rattle.prop_store.proofs.Causes.{cause_passed}
 use Rattle.index_check.proofs.SoundExits.{sound_exit}
 use Rattle.index_check.proofs.nodes.is_missing.Goals as goal
@@ -42,3 +42,6 @@ returns-in_err-value-clause-sound g c tells readable =
 pub returns-in_err-value-clause-cause : goal.returns-in_err-value-clause-cause
 returns-in_err-value-clause-cause g c =
     cause_passed _ _ _ c.from_residual.result c.in_err-value.field-0.0 (omega arith) c.in_err-value.ensures.cause c.from_residual.ensures.1
+
+pub returns-clause-cause : goal.returns-clause-cause
+returns-clause-cause g c = ok_cause _ _ _ _ c.in_ok-value.ensures.cause.later

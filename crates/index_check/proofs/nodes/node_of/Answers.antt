@@ -4,12 +4,12 @@ use Rattle.rec_bytes.specs.Format as format
 use Rattle.rec_bytes.specs.Record.{field}
 use Rattle.rec_bytes.specs.Space.{State}
 use Rattle.rec_bytes.specs.declared.record.Rec.{Rec}
-use Rattle.prop_store.proofs.Causes.{cause_passed, space_cause_passed}
+use Rattle.prop_store.proofs.Causes.{cause_passed, space_cause_passed, later_on}
 use Rattle.store_rules.specs.Indexes.{entry_hash, entry_node, has_hash, node_value, wanted_in}
 use Rattle.store_rules.specs.Views.{Records}
 use Rattle.index_check.specs.Nodes.{said_by}
 use Rattle.index_check.specs.declared.definitions.Definition.{Definition}
-use Rattle.rec_bytes.proofs.Causes.{never_ok}
+use Rattle.rec_bytes.proofs.Causes.{never_ok, ok_cause}
 use Rattle.prop_store.proofs.Exits.{space_exit}
 use Rattle.index_check.proofs.SoundExits.{sound_exit}
 use Rattle.index_check.specs.Values.{AreReadable}
@@ -98,3 +98,9 @@ pub returns-in_err-value-clause-sound : goal.returns-in_err-value-clause-sound
 returns-in_err-value-clause-sound g c tells readable =
     sound_exit c.from_residual-in_err-value.result c.in_err-value.field-0.0 c.from_residual-in_err-value.ensures.1
     (c.in_err-value.ensures.sound tells (subst AreReadable (sym (ap (λ (s : State). s.records) c.in_ok-rec.ensures.state)) readable))
+
+pub returns-clause-cause : goal.returns-clause-cause
+returns-clause-cause g c = ok_cause _ _ _ _ (later_on c.in_ok-rec.ensures.cause.later c.in_ok-value.ensures.cause.later)
+
+pub returns-then-has_hash-clause-cause : goal.returns-then-has_hash-clause-cause
+returns-then-has_hash-clause-cause g c = ok_cause _ _ _ _ (later_on c.in_ok-rec.ensures.cause.later c.in_ok-value.ensures.cause.later)

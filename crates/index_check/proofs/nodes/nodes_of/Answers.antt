@@ -13,7 +13,7 @@ use Rattle.index_check.specs.Nodes.{IsNodeOf, said_by}
 use Rattle.index_check.specs.Values.{AreReadable}
 use Rattle.index_check.proofs.PlaceLaws.{in_place}
 use Rattle.index_check.proofs.SoundExits.{sound_exit}
-use Rattle.rec_bytes.proofs.Causes.{never_ok}
+use Rattle.rec_bytes.proofs.Causes.{never_ok, ok_cause}
 use Rattle.prop_store.proofs.Exits.{same_has}
 use Rattle.record_lists.proofs.OnlyReads.{is_read-none, is_read-on}
 use Rattle.index_check.proofs.nodes.nodes_of.Goals as goal
@@ -129,3 +129,9 @@ returns-in_err-push-in-Some-clause-low g c = never_ok c.from_residual-in_err-pus
 
 pub returns-in_err-push-in-Some-clause-sound : goal.returns-in_err-push-in-Some-clause-sound
 returns-in_err-push-in-Some-clause-sound g c _ _ = same_has _ c.from_residual-in_err-push-in-Some.result _ c.from_residual-in_err-push-in-Some.ensures.1 tt
+
+pub returns-clause-cause : goal.returns-clause-cause
+returns-clause-cause g c = ok_cause _ _ _ _ c.loop-id.invariant.read.later
+
+pub returns-in-None-clause-cause : goal.returns-in-None-clause-cause
+returns-in-None-clause-cause g c = ok_cause _ _ _ _ (later_on c.loop-id.invariant.read.later c.in_ok-node.ensures.cause.later)

@@ -8,13 +8,13 @@ use Rattle.prop_index.specs.Gathering.{node_owner}
 use Rattle.prop_store.specs.Finding.{value_of}
 use Rattle.prop_store.specs.Owner.{HasProperties}
 use Rattle.prop_store.specs.Reading.{properties_met}
-use Rattle.prop_store.proofs.Causes.{cause_passed, space_cause_passed}
+use Rattle.prop_store.proofs.Causes.{cause_passed, space_cause_passed, later_on}
 use Rattle.record_lists.proofs.RecordLaws.{kind_read}
 use Rattle.store_rules.specs.Views.{high, rec_at}
 use Rattle.store_rules.proofs.ViewLaws.{kind_high}
 use Rattle.index_check.proofs.SoundExits.{sound_exit}
 use Rattle.index_check.proofs.ValueLaws.{value_free, value_met, value_other}
-use Rattle.rec_bytes.proofs.Causes.{never_ok}
+use Rattle.rec_bytes.proofs.Causes.{never_ok, ok_cause}
 use Rattle.prop_store.proofs.Exits.{space_exit}
 use Rattle.record_lists.proofs.OnlyReads.{is_read-on, is_read-get, is_read-gets}
 use Rattle.index_check.proofs.values.value_at.Goals as goal
@@ -109,3 +109,12 @@ returns-in_err-value-clause-low g c = never_ok c.from_residual-in_err-value.resu
 
 pub returns-in_err-rec-clause-sound : goal.returns-in_err-rec-clause-sound
 returns-in_err-rec-clause-sound g c _ _ = space_exit c.from_residual.result c.in_err-rec.field-0.0 c.from_residual.ensures.1
+
+pub returns-then-byte-eq-FREE-clause-cause : goal.returns-then-byte-eq-FREE-clause-cause
+returns-then-byte-eq-FREE-clause-cause g c = ok_cause _ _ _ _ c.in_ok-rec.ensures.cause.later
+
+pub returns-then-number-label-clause-cause : goal.returns-then-number-label-clause-cause
+returns-then-number-label-clause-cause g c = ok_cause _ _ _ _ c.in_ok-rec.ensures.cause.later
+
+pub returns-clause-cause : goal.returns-clause-cause
+returns-clause-cause g c = ok_cause _ _ _ _ (later_on c.in_ok-rec.ensures.cause.later c.in_ok-value.ensures.cause.later)
