@@ -7,6 +7,7 @@ pub mod ChainHeads
 pub mod Clearing
 pub mod Closings
 pub mod Comings
+pub mod CountedLists
 pub mod CountedRels
 pub mod DenseFaults
 pub mod DenseStays
@@ -35,6 +36,7 @@ pub mod MadeRules
 pub mod MakeSteps
 pub mod Makes
 pub mod Moves
+pub mod Named
 pub mod Openings
 pub mod Opens
 pub mod OtherChains

@@ -12,6 +12,7 @@ pub mod Links
 pub mod Loading
 pub mod Making
 pub mod Moving
+pub mod Naming
 pub mod Opening
 pub mod Raising
 pub mod Sides

@@ -7,7 +7,7 @@ use Rattle.chain_edit.specs.Chains.{next_of}
 use Rattle.node_store.specs.NodeRecord.{node_key}
 use Rattle.group_store.specs.declared.side.Side.{Side}
 use Rattle.group_store.specs.Counting.{count_place}
-use Rattle.group_store.specs.GroupChain.{IsDense, IsGroupChain, next_group, type_of}
+use Rattle.group_store.specs.GroupChain.{IsDense, IsGroupChain, group_field, next_group, type_of}
 use Rattle.group_store.specs.Leaving.{LeavesOthers}
 use Rattle.group_store.specs.Opening.{IsAt}
 use Rattle.group_store.specs.Sides.{group_head, place_of}
@@ -185,6 +185,14 @@ pub record LeadsAmong (records : Records) (node : ℕ) (came groups : List ℕ) 
       → In (first_of records (group_head g side)) came
   pub no_group : In format.nil groups
   pub no_rel : In format.nil came
+
+-- The links from the node on lead through just these groups of it, each counted.
+pub record HasCountedList (records : Records) (node : ℕ) : Type 0 where
+  pub members : List ℕ
+  pub walk : IsWalk (next_group records) (first_link records node) members
+  pub counted : (g : ℕ) → In g members
+      → kind_at records format.groups_file g ≡ format.counted
+  pub owner : (g : ℕ) → In g members → group_field records format.group_owner g ≡ node
 
 -- A group can be made of each of the free identifiers, one after another: all others below the mark
 -- are counted.

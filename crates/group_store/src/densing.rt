@@ -1,5 +1,5 @@
 ghost use Rattle.std.specs.Prelude.{◌≡◌, ◌≢◌, ◌⊎◌, ◌≤◌, ◌∷◌, [], ◌++◌, ◌+◌, ◌*◌, ℕ, List};
-ghost use Rattle.std.specs.Prelude.{true, IfErr, IfOk, OnOk};
+ghost use Rattle.std.specs.Prelude.{true, IfErr, IfOk, None, OnOk};
 ghost use Rattle.node_store.specs.Loading as nodes;
 ghost use Rattle.node_store.specs.NodeRecord.{node_key};
 ghost use Rattle.rec_bytes.specs.Key.{IsKey};
@@ -12,7 +12,7 @@ ghost use Rattle.rel_store.specs.RelRecord.{rel_key};
 ghost use Rattle.store_rules.specs.Ends.{Regroups};
 ghost use Rattle.store_rules.specs.Breaking.{IsOwnedBy};
 ghost use Rattle.store_rules.specs.Chains.{In, IsWalk};
-ghost use Rattle.store_rules.specs.Views.{degree, rec_at};
+ghost use Rattle.store_rules.specs.Views.{degree, rec_at, rel_at};
 ghost use Rattle.store_rules.specs.Writes.{WritesBeside};
 ghost use Rattle.group_store.specs.Touching.{TouchesGroups};
 ghost use Rattle.chain_edit.specs.Chains.{next_of};
@@ -27,9 +27,11 @@ ghost use Rattle.group_store.specs.Leaving.{KeepsHeads, KeepsOtherHeads, LeavesB
 ghost use Rattle.group_store.specs.Leaving.{LeavesOthers};
 ghost use Rattle.group_store.specs.Moving.{ComesIn, GrowsBy, HasAdded, HasFound, IsOwnTurn};
 ghost use Rattle.group_store.specs.Moving.{turn_keys};
+ghost use Rattle.group_store.specs.Naming.{NamesAt, NamesFound, NamesNoNode};
 ghost use Rattle.group_store.specs.Opening.{IsOpenFault};
 ghost use Rattle.group_store.specs.Raising.{IsGroupAt};
-ghost use Rattle.group_store.specs.Spreading.{CanTakeEach, HasEndRoom, HasOpened, IsSpread};
+ghost use Rattle.group_store.specs.Spreading.{CanTakeEach, HasCountedList, HasEndRoom};
+ghost use Rattle.group_store.specs.Spreading.{HasOpened, IsSpread};
 ghost use Rattle.group_store.specs.Spreading.{IsSpreading, KeepsBut, LeadsAmong, cleared};
 ghost use Rattle.group_store.specs.Walking.{group_row_at};
 
@@ -72,6 +74,10 @@ pub fn make_dense<S: Space>(space: &mut S, node: u32, threshold: u32) -> Result<
     ensures told { S.tells → (¬ IsDense (S.state space.old).records node)
         → (S.state space.old).shape.threshold ≤ threshold
         → IfErr result (IsEndFault (S.state space.new) node) }
+    ensures names { S.tells → IfErr result (NamesAt (S.state space.old) node) }
+    ensures named { S.tells
+        → IfErr result (NamesFound (S.state space.old) (S.state space.new)) }
+    ensures list { S.tells → OnOk result (HasCountedList (S.state space.new).records node) }
     ensures dense { S.tells → OnOk result (IsDense (S.state space.new).records node) }
     ensures heads { S.tells
         → OnOk result (KeepsOtherHeads (S.state space.old) (S.state space.new) node) }
@@ -171,6 +177,13 @@ fn move_one<S: Space>(space: &mut S, node: u32, rel: u32) -> Result<Turn, Fault>
         → NotDamaged result }
     ensures damaged { S.tells → IsDense (S.state space.old).records node
         → IfErr result (IsMoveFault (S.state space.old) (S.state space.new) node rel) }
+    ensures names { S.tells → IfErr result (NamesAt (S.state space.old) node) }
+    ensures listed { S.tells → IsDense (S.state space.old).records node
+        → HasCountedList (S.state space.old).records node
+        → rel_at (S.state space.old).records rel ≢ None → IfErr result NamesNoNode }
+    ensures list { S.tells → OnOk result (IsDense (S.state space.old).records node
+        → HasCountedList (S.state space.old).records node
+        → HasCountedList (S.state space.new).records node) }
     ensures dense { S.tells → IsDense (S.state space.old).records node
         → OnOk result (IsDense (S.state space.new).records node) }
     ensures heads { S.tells
@@ -241,6 +254,11 @@ pub(crate) fn own_group<S: Space>(space: &mut S, node: u32, label: u32) -> Resul
         → own.row ≡ group_row_at (S.state space.new).records own.row.id) }
     ensures damaged { S.tells → IsDense (S.state space.old).records node
         → IfErr result (IsOpenFault (S.state space.old)) }
+    ensures names { S.tells → IfErr result (NamesAt (S.state space.old) node) }
+    ensures listed { S.tells → IsDense (S.state space.old).records node
+        → HasCountedList (S.state space.old).records node → IfErr result NamesNoNode }
+    ensures list { S.tells → IfOk result (λ own. HasCountedList (S.state space.old).records node
+        → HasCountedList (S.state space.new).records node × (own.row.counted ≡ true)) }
     ensures dense { S.tells → IsDense (S.state space.old).records node
         → OnOk result (IsDense (S.state space.new).records node) }
     ensures owns { S.tells → IfOk result (λ own.

@@ -17,7 +17,7 @@ ghost use Rattle.group_store.specs.Leaving.{KeepsHeads};
 ghost use Rattle.group_store.specs.Making.{CanMake, HasMade, IsMakeFault, empty_group, empty_row};
 ghost use Rattle.group_store.specs.Making.{led, made};
 ghost use Rattle.group_store.specs.Opening.{IsOpenFault};
-ghost use Rattle.group_store.specs.Spreading.{HasOpened, KeepsBut, LeadsAmong};
+ghost use Rattle.group_store.specs.Spreading.{HasCountedList, HasOpened, KeepsBut, LeadsAmong};
 
 use crate::GroupRow;
 use crate::links::{back, test_link};
@@ -113,6 +113,8 @@ pub(crate) fn make_own<S: Space>(space: &mut S, node: u32, label: u32) -> Result
     ensures leads { S.tells → IfOk result (λ own. (came groups : List ℕ)
         → LeadsAmong (S.state space.old).records node came groups
         → LeadsAmong (S.state space.new).records node came (groups ++ own.row.id ∷ [])) }
+    ensures list { S.tells → OnOk result (HasCountedList (S.state space.old).records node
+        → HasCountedList (S.state space.new).records node) }
     ensures wrote { IfOk result (λ own. WritesOnly (S.state space.old) (S.state space.new)
         (group_key own.row.id ∷ group_key own.first ∷ node_key node ∷ meta_key_of groups_file
         ∷ [])) }

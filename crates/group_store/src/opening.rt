@@ -20,6 +20,8 @@ ghost use Rattle.group_store.specs.GroupChain.{IsDense};
 ghost use Rattle.group_store.specs.GroupRecord.{group_key};
 ghost use Rattle.group_store.specs.Leaving.{KeepsHeads, KeepsOtherHeads, LeavesBeside};
 ghost use Rattle.group_store.specs.Leaving.{LeavesCounted};
+ghost use Rattle.group_store.specs.Naming.{NamesAt, NamesFound, NamesNoNode};
+ghost use Rattle.group_store.specs.Spreading.{HasCountedList};
 ghost use Rattle.rec_bytes.specs.Fault.{HasFaultCause, NotDamaged, OnDamage};
 ghost use Rattle.group_store.specs.Opening.{
   CanOpen,
@@ -134,6 +136,9 @@ fn open_group<S: Space>(space: &mut S, node: u32, label: u32, side: Side) -> Res
         → HasGroupRoom (S.state space.old) empty → NotDamaged result }
     ensures damaged { S.tells → IsDense (S.state space.old).records node
         → IfErr result (IsOpenFault (S.state space.old)) }
+    ensures names { S.tells → IfErr result (NamesAt (S.state space.old) node) }
+    ensures listed { S.tells → IsDense (S.state space.old).records node
+        → HasCountedList (S.state space.old).records node → IfErr result NamesNoNode }
     ensures unwritten { S.tells → IsDense (S.state space.old).records node
         → OnDamage result (SameButReads (S.state space.old) (S.state space.new)) }
     ensures owns { S.tells → IsDense (S.state space.old).records node
@@ -188,6 +193,12 @@ pub fn open_chain<S: Space>(
         → IfErr result (IsOpenFault (S.state space.new)) }
     ensures told { S.tells → (S.state space.old).shape.threshold ≤ threshold
         → IfErr result (IsEndFault (S.state space.new) node) }
+    ensures names { S.tells → IfErr result (NamesAt (S.state space.old) node) }
+    ensures named { S.tells
+        → IfErr result (NamesFound (S.state space.old) (S.state space.new)) }
+    // where the head is the node's nothing is written
+    ensures bare { S.tells → IfOk result (λ head. head.key ≡ node_key node
+        → SameButReads (S.state space.old) (S.state space.new)) }
     ensures owns { S.tells → IsDense (S.state space.old).records node
         ⊎ IsSparse (S.state space.old).records node
         → IfOk result (λ head. IsHeadOf (S.state space.new).records (head_of head) node) }

@@ -28,6 +28,7 @@ use Rattle.group_store.proofs.Gathers.{beside_rels}
 use Rattle.group_store.proofs.Leadings.{leads_cleared, rest_all, rest_live, rest_next, rest_over}
 use Rattle.group_store.proofs.Comings.{come_beside, come_next, come_none, come_touches, one_longer}
 use Rattle.group_store.proofs.Touches.{node_touched, touches_beside, touches_more, touches_none, touches_then}
+use Rattle.group_store.proofs.Named.{at_node, named_beside, named_read, node_fault_named, sparse_named}
 use Rattle.group_store.proofs.Openings.{handed}
 use Rattle.group_store.proofs.Spreads.{left_all, left_first, left_next, left_none, none_over, not_dense_row, row_degree, row_sound, turn_known}
 use Rattle.group_store.proofs.Causes.{cause_passed, later_on, row_cause_passed, space_cause_passed}
@@ -37,6 +38,8 @@ use Rattle.group_store.proofs.KeptHeads.{heads_same}
 use Rattle.group_store.proofs.MadeHeads.{heads_cleared, others_then}
 use Rattle.rec_bytes.proofs.Causes.{never_ok}
 use Rattle.chain_edit.proofs.Causes.{space_has}
+use Rattle.rec_bytes.specs.declared.fault.Fault.TheVariants.{Damaged}
+use Rattle.group_store.proofs.CountedLists.{found_never, found_same, list_cleared}
 use Rattle.group_store.proofs.densing.make_dense.Goals as goal
 
 pub loop-init : goal.loop-init
@@ -65,6 +68,7 @@ loop-init g c =
           let used = (node_row s.records c.args.node c.in-Some.row (sym (sym c.in-Some.is ∙ c.in_ok-row.ensures.found tells))).0 in
           subst (λ (q : State). IsDense q.records c.args.node) (sym (c.in_ok-clear.ensures.ok tells))
           (dense_cleared v c.args.node (subst (λ (q : State). kind_at q.records nodes_file c.args.node ≢ 0) (sym same) used));
+      list = λ tells. list_cleared v t c.args.node (c.in_ok-clear.ensures.ok tells);
       beside = λ tells. beside_then s.records v.records t.records c.args.node (beside_read s v c.args.node same)
           (beside_cleared v t c.args.node (c.in_ok-clear.ensures.ok tells));
       heads = λ tells h n ne o. heads_cleared v t c.args.node (c.in_ok-clear.ensures.ok tells) h n ne (heads_same s v same h n o);
@@ -100,6 +104,7 @@ loop-preserved g c =
           groups (was.leads tells)).0);
       rest = λ tells. rest_next s now c.args.node c.loop.at c.loop.counter c.if-at.false (was.rest tells) end turn.next (c.in_ok-turn.ensures.walk tells);
       dense = λ tells. c.in_ok-turn.ensures.dense tells (was.dense tells);
+      list = λ tells. c.in_ok-turn.ensures.list tells (was.dense tells) (was.list tells);
       beside = λ tells. beside_then s.records now.records end.records c.args.node (was.beside tells) (c.in_ok-turn.ensures.beside tells);
       heads = λ tells. others_then s now end c.args.node (was.heads tells) (c.in_ok-turn.ensures.heads tells);
       writes = come_next s now end c.args.node c.loop.at turn came groups xs ys was.writes c.in_ok-turn.ensures.wrote
@@ -769,3 +774,135 @@ returns-in_err-clear-clause-onward g c =
 
 pub returns-in_err-turn-clause-onward : goal.returns-in_err-turn-clause-onward
 returns-in_err-turn-clause-onward g c = g.met.S.Reads.further_onward _ _ _ c.loop.invariant.onward c.in_err-turn.ensures.onward
+
+-- ---- which record is named
+
+pub returns-in_err-row-clause-names : goal.returns-in_err-row-clause-names
+returns-in_err-row-clause-names g c = λ tells.
+    let s = g.S.Reads.state c.args.space.now in
+    let fault = of_row c.in_err-row.field-0.0 in
+    let p = err_from_is_err_and c.from_residual.result c.from_residual.ensures.1 in
+    rw (p.1, p.2) (node_fault_named s s c.args.node fault (node_fault s c.args.node c.in_err-row.field-0.0 (c.in_err-row.ensures.damaged tells)))
+
+pub returns-in_default-clause-names : goal.returns-in_default-clause-names
+returns-in_default-clause-names g c = λ tells. at_node (g.S.Reads.state c.args.space.now) c.args.node c.chain_damage.result 4 c.chain_damage.ensures
+
+pub returns-then-row-clause-names : goal.returns-then-row-clause-names
+returns-then-row-clause-names g c = λ tells. at_node (g.S.Reads.state c.args.space.now) c.args.node c.chain_damage-then-row.result 4 c.chain_damage-then-row.ensures
+
+pub returns-then-row-threshold-clause-names : goal.returns-then-row-threshold-clause-names
+returns-then-row-threshold-clause-names g c = λ tells. at_node (g.S.Reads.state c.args.space.now) c.args.node c.degree_damage.result 7 c.degree_damage.ensures
+
+pub returns-in_err-test_chain-clause-names : goal.returns-in_err-test_chain-clause-names
+returns-in_err-test_chain-clause-names g c = λ tells.
+    let s = g.S.Reads.state c.args.space.now in
+    let l = g.S.Reads.state c.load.new.space in
+    let same = only_loads_node s l c.args.node c.load.ensures.state in
+    let found = sym c.in-Some.is ∙ c.in_ok-row.ensures.found tells in
+    let fault = c.in_err-test_chain.field-0.0 in
+    let p = err_from_is_err_and c.from_residual-in_err-test_chain.result c.from_residual-in_err-test_chain.ensures.1 in
+    rw (p.1, p.2) (named_read s l c.args.node fault same (sparse_named l c.args.node c.in-Some.row.degree fault
+    (c.in_err-test_chain.ensures.damaged tells (subst (λ (q : State). c.in-Some.row.first ≡ first_link q.records c.args.node) (sym same)
+    (first_is s.records c.args.node c.in-Some.row found)))))
+
+pub returns-in_err-clear-clause-names : goal.returns-in_err-clear-clause-names
+returns-in_err-clear-clause-names g c _ = space_has _ tt tt c.from_residual-in_err-clear.result c.in_err-clear.field-0.0 c.from_residual-in_err-clear.ensures.1
+
+pub returns-in_err-turn-clause-names : goal.returns-in_err-turn-clause-names
+returns-in_err-turn-clause-names g c = λ tells.
+    let s = g.S.Reads.state c.args.space.now in
+    let now = g.S.Reads.state c.loop.space in
+    let was = c.loop.invariant in
+    let p = err_from_is_err_and c.from_residual-in_err-turn.result c.from_residual-in_err-turn.ensures.1 in
+    rw (p.1, p.2) (named_beside s now c.args.node (g.met.S.Reads.onward_shape _ _ was.onward) (was.beside tells) c.in_err-turn.field-0.0
+    (c.in_err-turn.ensures.names tells))
+
+pub returns-then-not-note-clause-names : goal.returns-then-not-note-clause-names
+returns-then-not-note-clause-names g c = λ tells. at_node (g.S.Reads.state c.args.space.now) c.args.node c.rels_damage.result 3 c.rels_damage.ensures
+
+pub returns-then-at-2-clause-names : goal.returns-then-at-2-clause-names
+returns-then-at-2-clause-names g c = λ tells. at_node (g.S.Reads.state c.args.space.now) c.args.node c.rels_damage-then-at-2.result 3 c.rels_damage-then-at-2.ensures
+
+-- ---- a node that is named is as it was found
+
+pub returns-in_err-row-clause-named : goal.returns-in_err-row-clause-named
+returns-in_err-row-clause-named g c = λ tells.
+    let s = g.S.Reads.state c.args.space.now in
+    let l = g.S.Reads.state c.load.new.space in
+    let p = err_from_is_err_and c.from_residual.result c.from_residual.ensures.1 in
+    rw (p.1, p.2) (found_same s l (of_row c.in_err-row.field-0.0) (only_loads_node s l c.args.node c.load.ensures.state))
+
+pub returns-in_default-clause-named : goal.returns-in_default-clause-named
+returns-in_default-clause-named g c = λ tells.
+    let s = g.S.Reads.state c.args.space.now in
+    let l = g.S.Reads.state c.load.new.space in
+    found_same s l (Damaged c.chain_damage.result) (only_loads_node s l c.args.node c.load.ensures.state)
+
+pub returns-then-row-clause-named : goal.returns-then-row-clause-named
+returns-then-row-clause-named g c = λ tells.
+    let s = g.S.Reads.state c.args.space.now in
+    let l = g.S.Reads.state c.load.new.space in
+    found_same s l (Damaged c.chain_damage-then-row.result) (only_loads_node s l c.args.node c.load.ensures.state)
+
+pub returns-then-row-threshold-clause-named : goal.returns-then-row-threshold-clause-named
+returns-then-row-threshold-clause-named g c = λ tells.
+    let s = g.S.Reads.state c.args.space.now in
+    let l = g.S.Reads.state c.load.new.space in
+    found_same s l (Damaged c.degree_damage.result) (only_loads_node s l c.args.node c.load.ensures.state)
+
+pub returns-in_err-test_chain-clause-named : goal.returns-in_err-test_chain-clause-named
+returns-in_err-test_chain-clause-named g c = λ tells.
+    let s = g.S.Reads.state c.args.space.now in
+    let l = g.S.Reads.state c.load.new.space in
+    let v = g.S.Reads.state c.test_chain.new.space in
+    let fault = c.in_err-test_chain.field-0.0 in
+    let p = err_from_is_err_and c.from_residual-in_err-test_chain.result c.from_residual-in_err-test_chain.ensures.1 in
+    rw (p.1, p.2) (found_same s v fault (same_twice s l v (only_loads_node s l c.args.node c.load.ensures.state) c.test_chain.ensures.state))
+
+pub returns-in_err-clear-clause-named : goal.returns-in_err-clear-clause-named
+returns-in_err-clear-clause-named g c _ = space_has _ tt tt c.from_residual-in_err-clear.result c.in_err-clear.field-0.0 c.from_residual-in_err-clear.ensures.1
+
+pub returns-in_err-turn-clause-named : goal.returns-in_err-turn-clause-named
+returns-in_err-turn-clause-named g c = λ tells.
+    let s = g.S.Reads.state c.args.space.now in
+    let now = g.S.Reads.state c.loop.space in
+    let t = g.S.Reads.state c.move_one.new.space in
+    let was = c.loop.invariant in
+    let fault = c.in_err-turn.field-0.0 in
+    let p = err_from_is_err_and c.from_residual-in_err-turn.result c.from_residual-in_err-turn.ensures.1 in
+    rw (p.1, p.2) (found_never s t fault (c.in_err-turn.ensures.listed tells (was.dense tells) (was.list tells)
+    (λ none. rest_live s now c.args.node c.loop.at c.loop.counter c.if-at.false (was.rest tells) (sym (beside_rels s.records now.records c.args.node
+    (was.beside tells) c.loop.at) ∙ none))))
+
+pub returns-then-not-note-clause-named : goal.returns-then-not-note-clause-named
+returns-then-not-note-clause-named g c = λ tells.
+    let was = c.loop.invariant in
+    absurd (false≢true (sym c.if-not-note.true ∙ c.note.ensures.known.1 (c.in_ok-turn.ensures.leads tells c.loop.moved.relationships.items
+    c.loop.moved.groups.items (was.leads tells)).1))
+
+pub returns-then-at-2-clause-named : goal.returns-then-at-2-clause-named
+returns-then-at-2-clause-named g c = λ tells.
+    let s = g.S.Reads.state c.args.space.now in
+    let e = row_degree s c.args.node c.in-Some.row (sym c.in-Some.is ∙ c.in_ok-row.ensures.found tells) in
+    absurd (rest_over s (g.S.Reads.state c.loop.space) c.args.node c.loop.at c.loop.counter c.if-at-2.true (c.loop.invariant.rest tells)
+    (omega (arith, c.loop-test.false, e)))
+
+-- ---- its groups
+
+pub returns-then-at-clause-list : goal.returns-then-at-clause-list
+returns-then-at-clause-list g c = λ tells. c.loop.invariant.list tells
+
+pub returns-clause-list : goal.returns-clause-list
+returns-clause-list g c = λ tells. c.loop.invariant.list tells
+
+pub returns-in_err-row-clause-list : goal.returns-in_err-row-clause-list
+returns-in_err-row-clause-list g c _ = never_ok c.from_residual.result _ _ c.from_residual.ensures.1
+
+pub returns-in_err-test_chain-clause-list : goal.returns-in_err-test_chain-clause-list
+returns-in_err-test_chain-clause-list g c _ = never_ok c.from_residual-in_err-test_chain.result _ _ c.from_residual-in_err-test_chain.ensures.1
+
+pub returns-in_err-clear-clause-list : goal.returns-in_err-clear-clause-list
+returns-in_err-clear-clause-list g c _ = never_ok c.from_residual-in_err-clear.result _ _ c.from_residual-in_err-clear.ensures.1
+
+pub returns-in_err-turn-clause-list : goal.returns-in_err-turn-clause-list
+returns-in_err-turn-clause-list g c _ = never_ok c.from_residual-in_err-turn.result _ _ c.from_residual-in_err-turn.ensures.1

@@ -2,7 +2,7 @@ use Rattle.std.proofs.Common.{◌≡◌, ◌+◌, ◌≤◌, ℕ, List, length}
 use Rattle.group_store.specs.Densing.{CanBecomeDense, CanSpread}
 use Rattle.group_store.specs.GroupChain.{IsDense}
 use Rattle.group_store.specs.Leaving.{KeepsOtherHeads, LeavesBeside}
-use Rattle.group_store.specs.Spreading.{LeadsAmong}
+use Rattle.group_store.specs.Spreading.{HasCountedList, LeadsAmong}
 use Rattle.group_store.proofs.Arrivals.{HasPart}
 use Rattle.group_store.proofs.Comings.{WritesCome}
 use Rattle.group_store.proofs.Leadings.{HasRest}
@@ -21,6 +21,7 @@ invariant-loop g l =
       leads : g.S.Reads.tells → LeadsAmong (g.S.Reads.state l.space).records l.fn.node l.moved.relationships.items l.moved.groups.items;
       rest : g.S.Reads.tells → HasRest s (g.S.Reads.state l.space) l.fn.node l.at l.counter;
       dense : g.S.Reads.tells → IsDense (g.S.Reads.state l.space).records l.fn.node;
+      list : g.S.Reads.tells → HasCountedList (g.S.Reads.state l.space).records l.fn.node;
       beside : g.S.Reads.tells → LeavesBeside s.records (g.S.Reads.state l.space).records l.fn.node;
       heads : g.S.Reads.tells → KeepsOtherHeads s (g.S.Reads.state l.space) l.fn.node;
       writes : WritesCome s (g.S.Reads.state l.space) l.fn.node l.moved.relationships.items l.moved.groups.items;

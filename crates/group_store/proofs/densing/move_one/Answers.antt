@@ -27,6 +27,7 @@ use Rattle.group_store.proofs.SparseChains.{links_are}
 use Rattle.group_store.proofs.Touches.{four_touched, made_touched, touches_more, touches_none}
 use Rattle.group_store.specs.declared.making.OwnGroup.{OwnGroup}
 use Rattle.group_store.specs.declared.moved.Turn.{Turn}
+use Rattle.group_store.proofs.Named.{at_node, named_read, push_named, rel_named}
 use Rattle.group_store.proofs.Openings.{handed}
 use Rattle.group_store.proofs.OwnGroups.{keeps_then, writes_after}
 use Rattle.group_store.proofs.Spreads.{has_room, moved, only_loads, push_right, rel_there, row_sound, writes_freed, writes_pushed}
@@ -40,6 +41,8 @@ use Rattle.group_store.proofs.KeptHeads.{heads_same, heads_then}
 use Rattle.group_store.proofs.MadeHeads.{heads_freed, heads_pushed, owned_head}
 use Rattle.rec_bytes.proofs.Causes.{never_ok}
 use Rattle.chain_edit.proofs.Causes.{space_has}
+use Rattle.group_store.proofs.CountedLists.{list_moved, list_read, push_listed, rel_listed}
+use Rattle.group_store.proofs.Gathers.{place_range}
 use Rattle.group_store.proofs.densing.move_one.Goals as goal
 use Rattle.group_store.proofs.densing.move_one.Goals.{After-push_counted}
 use Rattle.group_store.proofs.densing.move_one.Given.{Over}
@@ -534,3 +537,88 @@ pub returns-in_err-first-clause-onward : goal.returns-in_err-first-clause-onward
 returns-in_err-first-clause-onward g c =
     g.met.S.Reads.further_onward _ _ _ (g.met.S.Reads.further_onward _ _ _ (g.met.S.Reads.further_onward _ _ _ c.in_ok-row.ensures.onward
     c.in_ok-own.ensures.onward) c.in_ok-free_previous.ensures.onward) c.in_err-first.ensures.onward
+
+-- ---- which record is named
+
+pub returns-in_err-row-clause-names : goal.returns-in_err-row-clause-names
+returns-in_err-row-clause-names g c = λ tells.
+    let s = g.S.Reads.state c.args.space.now in
+    let p = err_from_is_err_and c.from_residual.result c.from_residual.ensures.1 in
+    rw (p.1, p.2) (rel_named s c.args.node c.args.rel c.in_err-row.field-0.0 (c.in_err-row.ensures.damaged tells))
+
+pub returns-in_default-clause-names : goal.returns-in_default-clause-names
+returns-in_default-clause-names g c = λ tells. at_node (g.S.Reads.state c.args.space.now) c.args.node c.rels_damage.result 3 c.rels_damage.ensures
+
+pub returns-in_err-own-clause-names : goal.returns-in_err-own-clause-names
+returns-in_err-own-clause-names g c = λ tells.
+    let s = g.S.Reads.state c.args.space.now in
+    let l = g.S.Reads.state c.load.new.space in
+    let p = err_from_is_err_and c.from_residual-in_err-own.result c.from_residual-in_err-own.ensures.1 in
+    rw (p.1, p.2) (named_read s l c.args.node c.in_err-own.field-0.0 (only_loads s l c.args.rel c.load.ensures.state) (c.in_err-own.ensures.names tells))
+
+pub returns-in_err-free_previous-clause-names : goal.returns-in_err-free_previous-clause-names
+returns-in_err-free_previous-clause-names g c _ = space_has _ tt tt c.from_residual-in_err-free_previous.result c.in_err-free_previous.field-0.0
+    c.from_residual-in_err-free_previous.ensures.1
+
+pub returns-in_err-first-clause-names : goal.returns-in_err-first-clause-names
+returns-in_err-first-clause-names g c = λ tells.
+    let s = g.S.Reads.state c.args.space.now in
+    let t = g.S.Reads.state c.free_previous.new.space in
+    let p = err_from_is_err_and c.from_residual-in_err-first.result c.from_residual-in_err-first.ensures.1 in
+    rw (p.1, p.2) (push_named s t c.args.node (head_of c.group_head-head.result) (ap (λ (h : Head). h.key.file) c.group_head-head.ensures.is)
+    c.in_err-first.field-0.0 (c.in_err-first.ensures.damaged tells))
+
+-- ---- the groups of a node that became dense
+
+pub returns-in_err-row-clause-listed : goal.returns-in_err-row-clause-listed
+returns-in_err-row-clause-listed g c = λ tells dense h there.
+    let s = g.S.Reads.state c.args.space.now in
+    let p = err_from_is_err_and c.from_residual.result c.from_residual.ensures.1 in
+    rw (p.1, p.2) (rel_listed s c.args.rel c.in_err-row.field-0.0 (c.in_err-row.ensures.damaged tells))
+
+pub returns-in_default-clause-listed : goal.returns-in_default-clause-listed
+returns-in_default-clause-listed g c = λ tells dense h there.
+    absurd (there (rel_at-None (g.S.Reads.state c.args.space.now).records c.args.rel (sym (c.in_ok-row.ensures.found tells) ∙ c.in_default.is)))
+
+pub returns-in_err-own-clause-listed : goal.returns-in_err-own-clause-listed
+returns-in_err-own-clause-listed g c = λ tells dense h there.
+    let s = g.S.Reads.state c.args.space.now in
+    let l = g.S.Reads.state c.load.new.space in
+    let same = only_loads s l c.args.rel c.load.ensures.state in
+    let p = err_from_is_err_and c.from_residual-in_err-own.result c.from_residual-in_err-own.ensures.1 in
+    rw (p.1, p.2) (c.in_err-own.ensures.listed tells (subst (λ (q : State). IsDense q.records c.args.node) (sym same) dense)
+    (list_read s l c.args.node same h))
+
+pub returns-in_err-free_previous-clause-listed : goal.returns-in_err-free_previous-clause-listed
+returns-in_err-free_previous-clause-listed g c _ _ _ _ = space_has _ tt tt c.from_residual-in_err-free_previous.result c.in_err-free_previous.field-0.0
+    c.from_residual-in_err-free_previous.ensures.1
+
+pub returns-in_err-first-clause-listed : goal.returns-in_err-first-clause-listed
+returns-in_err-first-clause-listed g c = λ tells dense h there.
+    let t = g.S.Reads.state c.free_previous.new.space in
+    let p = err_from_is_err_and c.from_residual-in_err-first.result c.from_residual-in_err-first.ensures.1 in
+    rw (p.1, p.2) (push_listed t (head_of c.group_head-head.result) (ap (λ (h : Head). h.key.file) c.group_head-head.ensures.is)
+    c.in_err-first.field-0.0 (c.in_err-first.ensures.damaged tells))
+
+pub returns-clause-list : goal.returns-clause-list
+returns-clause-list g c = λ tells dense h.
+    let s = g.S.Reads.state c.args.space.now in
+    let l = g.S.Reads.state c.load.new.space in
+    let head = head_of c.group_head-head.result in
+    let own = c.in_ok-own.ensures.list tells (list_read s l c.args.node (only_loads s l c.args.rel c.load.ensures.state) h) in
+    list_moved (g.S.Reads.state c.own_group.new.space) (g.S.Reads.state c.free_previous.new.space) (g.S.Reads.state c.push_counted.new.space) c.args.node
+    c.args.rel head (ap (λ (h : Head). h.key.file) c.group_head-head.ensures.is)
+    (subst (λ (h : Head). 20 ≤ h.field) (sym c.group_head-head.ensures.is) (place_range c.at.result).0)
+    (c.in_ok-free_previous.ensures.ok tells) (c.in_ok-first.ensures.ok tells) own.0
+
+pub returns-in_err-row-clause-list : goal.returns-in_err-row-clause-list
+returns-in_err-row-clause-list g c _ = never_ok c.from_residual.result _ _ c.from_residual.ensures.1
+
+pub returns-in_err-own-clause-list : goal.returns-in_err-own-clause-list
+returns-in_err-own-clause-list g c _ = never_ok c.from_residual-in_err-own.result _ _ c.from_residual-in_err-own.ensures.1
+
+pub returns-in_err-free_previous-clause-list : goal.returns-in_err-free_previous-clause-list
+returns-in_err-free_previous-clause-list g c _ = never_ok c.from_residual-in_err-free_previous.result _ _ c.from_residual-in_err-free_previous.ensures.1
+
+pub returns-in_err-first-clause-list : goal.returns-in_err-first-clause-list
+returns-in_err-first-clause-list g c _ = never_ok c.from_residual-in_err-first.result _ _ c.from_residual-in_err-first.ensures.1

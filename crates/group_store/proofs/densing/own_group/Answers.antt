@@ -31,7 +31,11 @@ use Rattle.group_store.specs.Leaving.{KeepsHeads, LeavesBeside}
 use Rattle.group_store.proofs.GroupRules.{group_owned}
 use Rattle.group_store.proofs.KeptHeads.{heads_same, heads_then}
 use Rattle.store_rules.specs.Breaking.{IsOwnedBy}
+use Rattle.group_store.proofs.Named.{find_named, make_named}
 use Rattle.rec_bytes.proofs.Causes.{never_ok}
+use Rattle.rec_bytes.specs.Key.{IsKey}
+use Rattle.group_store.specs.Naming.{NamesAt, NamesNoNode}
+use Rattle.group_store.proofs.CountedLists.{find_listed, found_counted, list_own, list_read, make_listed}
 use Rattle.group_store.proofs.densing.own_group.Goals as goal
 
 pub returns-in_err-row-clause-writes : goal.returns-in_err-row-clause-writes
@@ -380,3 +384,56 @@ returns-in_err-row-clause-wrote g c = never_ok c.from_residual.result _ _ c.from
 
 pub returns-in_err-row-clause-onward : goal.returns-in_err-row-clause-onward
 returns-in_err-row-clause-onward g c = search rules
+
+-- ---- which record is named
+
+pub returns-in_err-row-clause-names : goal.returns-in_err-row-clause-names
+returns-in_err-row-clause-names g c = λ tells.
+    let s = g.S.Reads.state c.args.space.now in
+    let p = err_from_is_err_and c.from_residual.result c.from_residual.ensures.1 in
+    rw (p.1, p.2) (find_named s s c.args.node c.in_err-row.field-0.0 (c.in_err-row.ensures.damaged tells))
+
+pub returns-in-None-clause-names : goal.returns-in-None-clause-names
+returns-in-None-clause-names g c = λ tells.
+    let s = g.S.Reads.state c.args.space.now in
+    let now = g.S.Reads.state c.find_group.new.space in
+    if_err c.make_own.result (IsMakeFault now c.args.node) (NamesAt s c.args.node) (make_named s now c.args.node) (c.make_own.ensures.damaged tells)
+
+-- ---- the groups of a node that became dense
+
+pub returns-in_err-row-clause-listed : goal.returns-in_err-row-clause-listed
+returns-in_err-row-clause-listed g c = λ tells dense h.
+    let s = g.S.Reads.state c.args.space.now in
+    let p = err_from_is_err_and c.from_residual.result c.from_residual.ensures.1 in
+    rw (p.1, p.2) (find_listed s c.args.node dense h c.in_err-row.field-0.0 (c.in_err-row.ensures.damaged tells))
+
+pub returns-in-None-clause-listed : goal.returns-in-None-clause-listed
+returns-in-None-clause-listed g c = λ tells dense h.
+    let s = g.S.Reads.state c.args.space.now in
+    let now = g.S.Reads.state c.find_group.new.space in
+    let same = same_read _ s now c.find_group.ensures.at_most in
+    if_err c.make_own.result (IsMakeFault now c.args.node) NamesNoNode
+    (make_listed now c.args.node (subst (λ (t : State). IsDense t.records c.args.node) (sym same) dense) (list_read s now c.args.node same h))
+    (c.make_own.ensures.damaged tells)
+
+pub returns-in-Some-clause-list : goal.returns-in-Some-clause-list
+returns-in-Some-clause-list g c = λ tells h.
+    let s = g.S.Reads.state c.args.space.now in
+    let now = g.S.Reads.state c.find_group.new.space in
+    let found = subst (IsFound s.records c.args.node c.args.label) c.in-Some.is (c.in_ok-row.ensures.found tells) in
+    let key = subst (λ (o : Option GroupRow). IfSome o (λ row. IsKey (group_key row.id))) c.in-Some.is c.in_ok-row.ensures.key in (
+      list_read s now c.args.node (same_read _ s now c.find_group.ensures.at_most) h,
+      found_counted s c.args.node c.in-Some.row h
+          (subst (λ (o : Option GroupRow). IfSome o (λ row. IsReached s.records (first_link s.records c.args.node) row.id)) c.in-Some.is
+          (c.in_ok-row.ensures.reached tells)) (omega (arith, key.id)) found.1.is,
+    )
+
+pub returns-in-None-clause-list : goal.returns-in-None-clause-list
+returns-in-None-clause-list g c = λ tells.
+    let s = g.S.Reads.state c.args.space.now in
+    let now = g.S.Reads.state c.find_group.new.space in
+    list_own c.make_own.result s now (g.S.Reads.state c.make_own.new.space) c.args.node (same_read _ s now c.find_group.ensures.at_most)
+    (c.make_own.ensures.list tells) c.make_own.ensures.counted
+
+pub returns-in_err-row-clause-list : goal.returns-in_err-row-clause-list
+returns-in_err-row-clause-list g c _ = never_ok c.from_residual.result _ _ c.from_residual.ensures.1

@@ -12,6 +12,8 @@ use Rattle.node_store.specs.NodeRecord.{node_key}
 use Rattle.group_store.specs.Opening.{CanOpen, IsOpenFault, OpensChain, WritesOpened, moved_writes}
 use Rattle.group_store.proofs.BrokenGroups.{if_err, node_fault_breaks, only_breaks, open_read}
 use Rattle.group_store.proofs.ChainHeads.{same_twice}
+use Rattle.group_store.specs.Naming.{NamesAt, NamesFound, NamesNoNode}
+use Rattle.group_store.proofs.Named.{named_beside, named_read, node_fault_named}
 use Rattle.group_store.proofs.Openings.{handed}
 use Rattle.group_store.proofs.OwnGroups.{if_ok}
 use Rattle.group_store.proofs.GroupWrites.{opened_more, opened_none}
@@ -29,6 +31,8 @@ use Rattle.store_rules.specs.Breaking.{IsHeadOf}
 use Rattle.group_store.proofs.KeptHeads.{heads_same, heads_then}
 use Rattle.group_store.proofs.MadeHeads.{others_of, others_then}
 use Rattle.rec_bytes.proofs.Causes.{never_ok}
+use Rattle.rec_bytes.specs.declared.key.Key.{Key}
+use Rattle.group_store.proofs.CountedLists.{found_never, found_read, found_same, found_unwritten}
 use Rattle.group_store.proofs.opening.open_chain.Goals as goal
 
 pub returns-then-branch-clause-opened : goal.returns-then-branch-clause-opened
@@ -429,3 +433,95 @@ returns-in_err-make_dense-clause-wrote g c = never_ok c.from_residual-in_err-mak
 pub returns-in_err-make_dense-clause-onward : goal.returns-in_err-make_dense-clause-onward
 returns-in_err-make_dense-clause-onward g c =
     g.met.S.Reads.further_onward _ _ _ c.in_ok-is_dense.ensures.onward c.in_err-make_dense.ensures.onward
+
+-- ---- which record is named
+
+pub returns-in_err-is_dense-clause-names : goal.returns-in_err-is_dense-clause-names
+returns-in_err-is_dense-clause-names g c = λ tells.
+    let s = g.S.Reads.state c.args.space.now in
+    let p = err_from_is_err_and c.from_residual.result c.from_residual.ensures.1 in
+    rw (p.1, p.2) (node_fault_named s s c.args.node c.in_err-is_dense.field-0.0 (c.in_err-is_dense.ensures.damaged tells))
+
+pub returns-then-branch-clause-names : goal.returns-then-branch-clause-names
+returns-then-branch-clause-names g c = λ tells.
+    let s = g.S.Reads.state c.args.space.now in
+    let z = g.S.Reads.state c.is_dense.new.space in
+    let node = c.args.node in
+    if_err c.open_group.result (NamesAt z node) (NamesAt s node) (λ fault. named_read s z node fault c.in_ok-is_dense.ensures.state)
+    (c.open_group.ensures.names tells)
+
+pub returns-in_err-make_dense-clause-names : goal.returns-in_err-make_dense-clause-names
+returns-in_err-make_dense-clause-names g c = λ tells.
+    let s = g.S.Reads.state c.args.space.now in
+    let z = g.S.Reads.state c.is_dense.new.space in
+    let p = err_from_is_err_and c.from_residual-in_err-make_dense.result c.from_residual-in_err-make_dense.ensures.1 in
+    rw (p.1, p.2) (named_read s z c.args.node c.in_err-make_dense.field-0.0 c.in_ok-is_dense.ensures.state (c.in_err-make_dense.ensures.names tells))
+
+pub returns-clause-names : goal.returns-clause-names
+returns-clause-names g c = λ tells.
+    let s = g.S.Reads.state c.args.space.now in
+    let z = g.S.Reads.state c.is_dense.new.space in
+    let u = g.S.Reads.state c.make_dense.new.space in
+    let node = c.args.node in
+    if_err c.open_group-2.result (NamesAt u node) (NamesAt s node)
+    (λ fault told. named_read s z node fault c.in_ok-is_dense.ensures.state
+    (named_beside z u node (g.met.S.Reads.onward_shape _ _ c.in_ok-make_dense.ensures.onward) (c.in_ok-make_dense.ensures.beside tells) fault told))
+    (c.open_group-2.ensures.names tells)
+
+-- ---- a node that is named is as it was found
+
+pub returns-in_err-is_dense-clause-named : goal.returns-in_err-is_dense-clause-named
+returns-in_err-is_dense-clause-named g c = λ tells.
+    let s = g.S.Reads.state c.args.space.now in
+    let p = err_from_is_err_and c.from_residual.result c.from_residual.ensures.1 in
+    rw (p.1, p.2) (found_same s (g.S.Reads.state c.is_dense.new.space) c.in_err-is_dense.field-0.0 c.is_dense.ensures.state)
+
+pub returns-then-branch-clause-named : goal.returns-then-branch-clause-named
+returns-then-branch-clause-named g c = λ tells.
+    let s = g.S.Reads.state c.args.space.now in
+    let z = g.S.Reads.state c.is_dense.new.space in
+    let t = g.S.Reads.state c.open_group.new.space in
+    let same = c.in_ok-is_dense.ensures.state in
+    let dense = subst (λ (q : State). IsDense q.records c.args.node) (sym same) ((c.in_ok-is_dense.ensures.is tells).0 c.if-branch.true) in
+    if_err c.open_group.result (NamesFound z t) (NamesFound s t) (λ fault. found_read s z t fault same)
+    (found_unwritten z t c.open_group.result (c.open_group.ensures.unwritten tells dense))
+
+pub returns-in_err-make_dense-clause-named : goal.returns-in_err-make_dense-clause-named
+returns-in_err-make_dense-clause-named g c = λ tells.
+    let s = g.S.Reads.state c.args.space.now in
+    let z = g.S.Reads.state c.is_dense.new.space in
+    let p = err_from_is_err_and c.from_residual-in_err-make_dense.result c.from_residual-in_err-make_dense.ensures.1 in
+    rw (p.1, p.2) (found_read s z (g.S.Reads.state c.make_dense.new.space) c.in_err-make_dense.field-0.0 c.in_ok-is_dense.ensures.state
+    (c.in_err-make_dense.ensures.named tells))
+
+pub returns-clause-named : goal.returns-clause-named
+returns-clause-named g c = λ tells.
+    let s = g.S.Reads.state c.args.space.now in
+    let t = g.S.Reads.state c.open_group-2.new.space in
+    if_err c.open_group-2.result NamesNoNode (NamesFound s t) (λ fault. found_never s t fault)
+    (c.open_group-2.ensures.listed tells (c.in_ok-make_dense.ensures.dense tells) (c.in_ok-make_dense.ensures.list tells))
+
+-- ---- where the head is the node's nothing is written
+
+pub returns-then-branch-clause-bare : goal.returns-then-branch-clause-bare
+returns-then-branch-clause-bare g c = λ tells.
+    let s = g.S.Reads.state c.args.space.now in
+    let t = g.S.Reads.state c.open_group.new.space in
+    if_ok c.open_group.result _ (λ (head : ChainHead). head.key ≡ node_key c.args.node → SameButReads s t)
+    (λ head at e. absurd (let f = ap (λ (k : Key). k.file) e in omega (arith, at, f))) c.open_group.ensures.at
+
+pub returns-then-degree-threshold-clause-bare : goal.returns-then-degree-threshold-clause-bare
+returns-then-degree-threshold-clause-bare g c = λ tells e. c.in_ok-is_dense.ensures.state
+
+pub returns-clause-bare : goal.returns-clause-bare
+returns-clause-bare g c = λ tells.
+    let s = g.S.Reads.state c.args.space.now in
+    let t = g.S.Reads.state c.open_group-2.new.space in
+    if_ok c.open_group-2.result _ (λ (head : ChainHead). head.key ≡ node_key c.args.node → SameButReads s t)
+    (λ head at e. absurd (let f = ap (λ (k : Key). k.file) e in omega (arith, at, f))) c.open_group-2.ensures.at
+
+pub returns-in_err-is_dense-clause-bare : goal.returns-in_err-is_dense-clause-bare
+returns-in_err-is_dense-clause-bare g c _ = never_ok c.from_residual.result _ _ c.from_residual.ensures.1
+
+pub returns-in_err-make_dense-clause-bare : goal.returns-in_err-make_dense-clause-bare
+returns-in_err-make_dense-clause-bare g c _ = never_ok c.from_residual-in_err-make_dense.result _ _ c.from_residual-in_err-make_dense.ensures.1

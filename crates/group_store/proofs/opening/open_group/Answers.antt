@@ -7,6 +7,7 @@ use Rattle.chain_edit.specs.declared.head.Head.{Head as ChainHead}
 use Rattle.group_store.specs.declared.making.OwnGroup.{OwnGroup}
 use Rattle.group_store.specs.Opening.{OpensChain, WritesOpened}
 use Rattle.group_store.proofs.GroupWrites.{found_writes, made_writes, opened_writes, raised_writes}
+use Rattle.group_store.proofs.Named.{count_named}
 use Rattle.group_store.proofs.Openings.{handed}
 use Rattle.group_store.proofs.BrokenGroups.{only_breaks}
 use Rattle.group_store.proofs.Heads.{then_unwritten}
@@ -201,3 +202,27 @@ returns-in_err-count_group-clause-wrote g c = never_ok c.from_residual-in_err-co
 pub returns-in_err-count_group-clause-onward : goal.returns-in_err-count_group-clause-onward
 returns-in_err-count_group-clause-onward g c =
     g.met.S.Reads.further_onward _ _ _ c.in_ok-own.ensures.onward c.in_err-count_group.ensures.onward
+
+-- ---- which record is named
+
+pub returns-in_err-own-clause-names : goal.returns-in_err-own-clause-names
+returns-in_err-own-clause-names g c = λ tells.
+    let p = err_from_is_err_and c.from_residual.result c.from_residual.ensures.1 in
+    rw (p.1, p.2) (c.in_err-own.ensures.names tells)
+
+pub returns-in_err-count_group-clause-names : goal.returns-in_err-count_group-clause-names
+returns-in_err-count_group-clause-names g c = λ tells.
+    let p = err_from_is_err_and c.from_residual-in_err-count_group.result c.from_residual-in_err-count_group.ensures.1 in
+    rw (p.1, p.2) (count_named (g.S.Reads.state c.args.space.now) c.args.node c.in_ok-own.own.row.id c.in_err-count_group.field-0.0
+    (c.in_err-count_group.ensures.names tells))
+
+-- ---- of a node that became dense no node is named
+
+pub returns-in_err-own-clause-listed : goal.returns-in_err-own-clause-listed
+returns-in_err-own-clause-listed g c = λ tells dense h.
+    let p = err_from_is_err_and c.from_residual.result c.from_residual.ensures.1 in
+    rw (p.1, p.2) (c.in_err-own.ensures.listed tells dense h)
+
+pub returns-in_err-count_group-clause-listed : goal.returns-in_err-count_group-clause-listed
+returns-in_err-count_group-clause-listed g c = λ tells dense h.
+    absurd (false≢true (c.in_err-count_group.ensures.counted (c.in_ok-own.ensures.list tells h).1))

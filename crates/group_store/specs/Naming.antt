@@ -1,0 +1,52 @@
+-- Which records are called damaged where a head of a node is found or made.
+use Rattle.std.specs.Prelude.{◌≡◌, ◌≢◌, ◌⊎◌, ℕ}
+use Rattle.rec_bytes.specs.declared.damage.Damage.{Damage}
+use Rattle.rec_bytes.specs.declared.fault.Fault.{Fault}
+use Rattle.rec_bytes.specs.declared.fault.Fault.TheVariants.{Memory, Disk, Damaged}
+use Rattle.rec_bytes.specs.Format as format
+use Rattle.rec_bytes.specs.Space.{State}
+use Rattle.row_store.specs.Loading.{IsRowDamage}
+use Rattle.store_rules.specs.Views.{key_in}
+
+-- the record is a group, or the meta record of the groups
+abbrev pub IsOfGroups : Damage → Type 0
+IsOfGroups damage = (damage.file ≡ format.groups_file)
+    ⊎ ((damage.file ≡ format.meta_file) × (damage.id ≡ format.groups_file))
+
+-- it is one of these, or the node
+abbrev pub IsOfNode : ℕ → Damage → Type 0
+IsOfNode node damage =
+    IsOfGroups damage ⊎ ((damage.file ≡ format.nodes_file) × (damage.id ≡ node))
+
+-- it is the meta record of the nodes or of the relationships
+abbrev pub IsOfMarks : Damage → Type 0
+IsOfMarks damage = (damage.file ≡ format.meta_file)
+    × ((damage.id ≡ format.nodes_file) ⊎ (damage.id ≡ format.relationships_file))
+
+-- a relationship can't be read
+abbrev pub IsUnread : State → Damage → Type 0
+IsUnread s damage = (x : ℕ) × IsRowDamage format.relationships_file s x damage
+
+-- The record is the node, or a group, or a meta record of their files or of the relationships. Or
+-- it is of a relationship that can't be read.
+abbrev pub IsNamedAt : State → ℕ → Damage → Type 0
+IsNamedAt s node damage = IsOfNode node damage ⊎ (IsOfMarks damage ⊎ IsUnread s damage)
+
+-- a fault names such a record
+abbrev pub NamesAt : State → ℕ → Fault → Type 0
+NamesAt s node Memory = Unit {0}
+NamesAt s node Disk = Unit {0}
+NamesAt s node (Damaged damage) = IsNamedAt s node damage
+
+-- it names no node
+abbrev pub NamesNoNode : Fault → Type 0
+NamesNoNode Memory = Unit {0}
+NamesNoNode Disk = Unit {0}
+NamesNoNode (Damaged damage) = damage.file ≢ format.nodes_file
+
+-- a node that it names is as it was found
+abbrev pub NamesFound : State → State → Fault → Type 0
+NamesFound s t Memory = Unit {0}
+NamesFound s t Disk = Unit {0}
+NamesFound s t (Damaged damage) = damage.file ≡ format.nodes_file
+    → t.records (key_in damage.file damage.id) ≡ s.records (key_in damage.file damage.id)
