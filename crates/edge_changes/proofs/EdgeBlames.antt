@@ -211,6 +211,12 @@ module _ (s : State) (head : Head) (n : ℕ) (owns : IsHeadOf s.records head n) 
       owns (sym (ap (λ (k : Key). k.file) e)) in omega arith)))
 
   -- in two steps
+  pub mark_joined_by : (u t : State) → u ≡ tallied one_more (pushed s head n rel) head → t ≡ after_set u (key_in format.nodes_file n) 4 format.node_degree d
+      → high t.records format.relationships_file ≡ high s.records format.relationships_file
+  unfolding joined
+  mark_joined_by u t put set = ap (λ (z : State). high z.records format.relationships_file)
+      (set ∙ ap (λ (z : State). after_set z (key_in format.nodes_file n) 4 format.node_degree d) put) ∙ mark_joined format.relationships_file
+
   pub heads_joined_by : (u t : State) → u ≡ tallied one_more (pushed s head n rel) head → t ≡ after_set u (key_in format.nodes_file n) 4 format.node_degree d
       → KeepsHeads s t
   unfolding joined

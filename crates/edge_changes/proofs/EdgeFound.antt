@@ -1,36 +1,54 @@
 -- Which records an edge that is added may write before its properties, and which one is blamed.
 use Rattle.std.specs.Prelude.{IfSome, OnOk}
-use Rattle.std.proofs.Common.{◌≡◌, ◌≢◌, ◌⊎◌, ℕ, Result, Ok, Err, [], ◌∷◌, sym, ap, ◌∙◌, subst, inl, inr, ⊎_elim, arith}
+use Rattle.std.proofs.Common.{◌≡◌, ◌≢◌, ◌⊎◌, ℕ, ◌<◌, Result, Ok, Err, [], ◌∷◌, sym, ap, ◌∙◌, subst, inl, inr, ⊎_elim, arith, refl}
 use Rattle.rec_bytes.specs.declared.damage.Damage.{Damage}
 use Rattle.rec_bytes.specs.declared.fault.Fault.{Fault}
 use Rattle.rec_bytes.specs.declared.fault.Fault.TheVariants as faults
 use Rattle.rec_bytes.specs.declared.key.Key.{Key}
+use Rattle.rec_bytes.specs.declared.record.Rec.{Rec}
+use Rattle.rec_bytes.specs.declared.shape.Shape.{Shape}
 use Rattle.rec_bytes.specs.Fault.{damage_of}
 use Rattle.rec_bytes.specs.Format as format
-use Rattle.rec_bytes.specs.RecordFiles.{meta_key_of}
+use Rattle.rec_bytes.specs.Record.{field}
+use Rattle.rec_bytes.specs.RecordFiles.{meta_key_of, room_of}
 use Rattle.rec_bytes.specs.Space.{IsAmong, SameButReads, State, after_get, after_set}
+use Rattle.rec_bytes.proofs.Numbers.{field-lt}
 use Rattle.store_rules.specs.Breaking.{IsHeadOf}
-use Rattle.store_rules.specs.Rules.{Head}
-use Rattle.store_rules.specs.Views.{key_in}
+use Rattle.store_rules.specs.Rules.{Head, first_of}
+use Rattle.store_rules.specs.Views.{high, key_in}
 use Rattle.store_rules.specs.Writes.{ChangesOnly}
 use Rattle.store_rules.proofs.NumberLaws.{nat_cases}
-use Rattle.id_freelist.specs.ListDamage.{HarmsNoList}
+use Rattle.id_freelist.specs.ListDamage.{HarmsNoList, IsListDamage}
+use Rattle.id_freelist.specs.ListDamage.IsListDamage.{OutOfRange}
 use Rattle.id_freelist.proofs.ListSteps.{beside_harms_none}
 use Rattle.node_store.specs.NodeRecord.{node_key}
 use Rattle.prop_store.specs.Setting.{HarmsNoLists}
-use Rattle.chain_edit.specs.Pushing.{pushed}
+use Rattle.rel_store.specs.declared.rel_row.RelRow.{RelRow}
+use Rattle.rel_store.specs.Loading.{mark_damage, rel_mark, rel_room}
+use Rattle.rel_store.specs.RelRecord.{rel_record, row_of}
+use Rattle.rel_store.proofs.RelRecords.{HasNumbers, kind-rel_record}
+use Rattle.chain_edit.specs.Heads.{head_of}
+use Rattle.chain_edit.specs.Links.{IsLinkDamage}
+use Rattle.chain_edit.specs.Links.IsLinkDamage.{HighMark, LeadsNowhere}
+use Rattle.chain_edit.specs.Pushing.{IsPushFault, first_damage, pushed}
 use Rattle.chain_edit.proofs.LinkLaws.{key_cases}
 use Rattle.group_store.specs.Counting.{one_more, tallied}
 use Rattle.group_store.specs.Leaving.{LeavesBeside}
+use Rattle.group_store.specs.Naming.{IsNamedAt, IsOfGroups, IsOfMarks, NamesAt, NamesFound}
 use Rattle.change_parts.specs.ChangeFault.{of_fault}
 use Rattle.change_parts.specs.Damage.{BlamesBroken, BlamesLinking, IfBlames, IsAsFound, IsBroken, IsLinkingDamage, IsOfLists, KeepsButNames}
 use Rattle.change_parts.specs.declared.change_fault.ChangeFault.{ChangeFault}
 use Rattle.change_parts.proofs.Adding.{lists_before, lists_broken}
 use Rattle.change_parts.proofs.Broken.{blames_both, blames_more}
-use Rattle.change_parts.proofs.Causes.{any_blamed}
-use Rattle.edge_changes.specs.EdgeAdding.{BlamesAdded, BlamesChains, IsOfChains, IsOfFile, KeepsButChains}
-use Rattle.edge_changes.specs.EdgeEnds.{joined}
+use Rattle.edge_changes.specs.EdgeAdding.{BlamesAdded, BlamesChains, HarmsNoRels, IsChainDamage, IsOfChains, IsOfNodes, KeepsButChains}
+use Rattle.edge_changes.specs.EdgeEnds.{AtEach, AtSome, HasHead, joined, source_of, target_of}
+use Rattle.edge_changes.specs.EdgeJoining.{BlamesEndJoined, IsBareEnd, IsJoinDamage, IsOfBare}
+use Rattle.edge_changes.specs.EdgeOpening.{KeepsBare}
+use Rattle.edge_changes.specs.declared.edge_end.EdgeEnd.{EdgeEnd}
+use Rattle.edge_changes.specs.declared.edge_end.Ends.{Ends}
+use Rattle.edge_changes.specs.declared.edge_end.Ends.TheVariants.{Loop, Two}
 use Rattle.edge_changes.proofs.EdgeSteps.{record_joined}
+use Rattle.edge_changes.proofs.RelDamages.{rels_beyond, rels_broken}
 
 -- ---- one step after another
 
@@ -51,15 +69,43 @@ step_found s u t from to keeps damage then = by (keeps damage) then
 pub found_then : (s u t : State) (from to : ℕ) → KeepsButChains s u from to → KeepsButChains u t from to → KeepsButChains s t from to
 found_then s u t from to one two damage = step_found s u t from to one damage (two damage)
 
-pub blames_then : (s u t : State) (from to : ℕ) → KeepsButChains s u from to → (fault : ChangeFault) → BlamesChains u t from to fault
-    → BlamesChains s t from to fault
-blames_then s u t from to keeps fault told =
-    blames_more (λ damage. IsAsFound u t damage ⊎ IsOfChains from to damage) (λ damage. IsAsFound s t damage ⊎ IsOfChains from to damage)
-    (step_found s u t from to keeps) fault told
+-- the meta records of the nodes and of the relationships are as they were
+abbrev pub KeepsMarks : State → State → Type 0
+KeepsMarks s t = (damage : Damage) → IsOfMarks damage → IsAsFound s t damage
 
--- what is so of every record is so of one that is blamed
-pub blames_kept : (s t : State) (from to : ℕ) → KeepsButChains s t from to → (fault : ChangeFault) → BlamesChains s t from to fault
-blames_kept s t from to keeps fault = any_blamed (λ damage. IsAsFound s t damage ⊎ IsOfChains from to damage) keeps fault
+-- and so are these records
+abbrev pub KeepsThese : State → State → (Damage → Type 0) → Type 0
+KeepsThese s t these = (damage : Damage) → IsOfMarks damage ⊎ these damage → IsAsFound s t damage
+
+pub chain_then : (s u t : State) (these : Damage → Type 0) → HarmsNoRels s u → KeepsThese s u these → (damage : Damage) → IsChainDamage u t these damage
+    → IsChainDamage s t these damage
+chain_then s u t these harmless keeps damage (inl rel) = inl (harmless damage rel)
+chain_then s u t these harmless keeps damage (inr (inl found)) = inr (inl (found.0, found.1 ∙ keeps damage found.0))
+chain_then s u t these harmless keeps damage (inr (inr group)) = inr (inr group)
+
+-- it is one of those, too
+pub chain_more : (s t : State) (these those : Damage → Type 0) → ((damage : Damage) → these damage → those damage) → (damage : Damage)
+    → IsChainDamage s t these damage → IsChainDamage s t those damage
+chain_more s t these those more damage (inl rel) = inl rel
+chain_more s t these those more damage (inr (inl found)) = inr (inl (⊎_elim (λ mark. inl mark) (λ this. inr (more damage this)) found.0, found.1))
+chain_more s t these those more damage (inr (inr group)) = inr (inr group)
+
+-- no meta record but that of the groups is other
+pub marks_kept : (s t : State) (from to : ℕ) → KeepsButChains s t from to
+    → t.records (meta_key_of format.relationships_file) ≡ s.records (meta_key_of format.relationships_file) → KeepsMarks s t
+marks_kept s t from to keeps rels damage of = by (keeps damage)
+  where
+    by : IsAsFound s t damage ⊎ IsOfChains from to damage → IsAsFound s t damage
+    by (inl same) = same
+    by (inr (inl (inl e))) = absurd (let f = of.0 in omega arith)
+    by (inr (inl (inr e))) =
+        let key : key_in damage.file damage.id ≡ meta_key_of format.relationships_file
+        = ap (λ f. key_in f damage.id) e.0 ∙ ap (key_in format.meta_file) e.1 in
+        ap t.records key ∙ rels ∙ ap s.records (sym key)
+    by (inr (inr (inl (inl e)))) = absurd (let f = of.0 in omega arith)
+    by (inr (inr (inl (inr e)))) = absurd (⊎_elim (λ (f : damage.id ≡ format.nodes_file). let g = e.1 in omega arith)
+        (λ (f : damage.id ≡ format.relationships_file). let g = e.1 in omega arith) of.1)
+    by (inr (inr (inr e))) = absurd (let f = of.0 in let g = e.0 in omega arith)
 
 -- one of the ends
 pub end_found : (s t : State) (from to node : ℕ) → (node ≡ from) ⊎ (node ≡ to) → (damage : Damage) → IsAsFound s t damage ⊎ IsOfChains node node damage
@@ -79,11 +125,17 @@ end_found s t from to node is damage (inr (inr (inr at))) = inr (inr (inr (at.0,
 pub ends_found : (s t : State) (from to node : ℕ) → (node ≡ from) ⊎ (node ≡ to) → KeepsButChains s t node node → KeepsButChains s t from to
 ends_found s t from to node is keeps damage = end_found s t from to node is damage (keeps damage)
 
+pub end_of : (from to node : ℕ) → (node ≡ from) ⊎ (node ≡ to) → (damage : Damage) → IsOfNodes node node damage → IsOfNodes from to damage
+end_of from to node is damage at = (at.0, ⊎_elim (λ e. inl (id_is ∙ e)) (λ e. inr (id_is ∙ e)) is)
+  where
+    id_is : damage.id ≡ node
+    id_is = ⊎_elim (λ (e : damage.id ≡ node). e) (λ (e : damage.id ≡ node). e) at.1
+
 pub end_blames : (s t : State) (from to node : ℕ) → (node ≡ from) ⊎ (node ≡ to) → (fault : ChangeFault) → BlamesChains s t node node fault
     → BlamesChains s t from to fault
 end_blames s t from to node is fault told =
-    blames_more (λ damage. IsAsFound s t damage ⊎ IsOfChains node node damage) (λ damage. IsAsFound s t damage ⊎ IsOfChains from to damage)
-    (end_found s t from to node is) fault told
+    blames_more (IsChainDamage s t (IsOfNodes node node)) (IsChainDamage s t (IsOfNodes from to))
+    (chain_more s t (IsOfNodes node node) (IsOfNodes from to) (end_of from to node is)) fault told
 
 -- what follows of a result
 pub on_ok : {T : Type 0} (r : Result T ChangeFault) (P Q : Type 0) → (P → Q) → OnOk r P → OnOk r Q
@@ -109,11 +161,38 @@ found_beside s t node beside damage =
     by (inr r) (inr b) (inr c) (inl d) = inr (inr (inr (ap (λ (k : Key). k.file) d, inl (ap (λ (k : Key). k.id) d))))
     by (inr r) (inr b) (inr c) (inr d) = inl (beside.others (key_in damage.file damage.id) r b c d)
 
-pub open_blames : (s t : State) (node : ℕ) (fault : Fault) → IfSome (damage_of fault) (λ _. LeavesBeside s.records t.records node)
-    → BlamesChains s t node node (of_fault fault)
-open_blames s t node faults.Memory beside = tt
-open_blames s t node faults.Disk beside = tt
-open_blames s t node (faults.Damaged damage) beside = found_beside s t node beside damage
+pub marks_beside : (s t : State) (node : ℕ) → LeavesBeside s.records t.records node → KeepsMarks s t
+marks_beside s t node beside damage of = beside.others (key_in damage.file damage.id) (λ (e : damage.file ≡ format.relationships_file). let f = of.0 in omega
+    arith) (λ (e : damage.file ≡ format.groups_file). let f = of.0 in omega arith)
+    (λ e. let id : damage.id ≡ format.groups_file = ap (λ (k : Key). k.id) e in
+    ⊎_elim (λ (f : damage.id ≡ format.nodes_file). omega arith) (λ (f : damage.id ≡ format.relationships_file). omega arith) of.1)
+    (λ e. let file : damage.file ≡ format.nodes_file = ap (λ (k : Key). k.file) e in let f = of.0 in omega arith)
+
+-- so is another node
+pub other_beside : (s t : State) (a b : ℕ) → b ≢ a → LeavesBeside s.records t.records a → KeepsThese s t (IsOfNodes b b)
+other_beside s t a b ne beside damage (inl mark) = marks_beside s t a beside damage mark
+other_beside s t a b ne beside damage (inr at) = beside.others (key_in damage.file damage.id)
+    (λ (e : damage.file ≡ format.relationships_file). let f = at.0 in omega arith) (λ (e : damage.file ≡ format.groups_file). let f = at.0 in omega arith)
+    (λ e. let file : damage.file ≡ format.meta_file = ap (λ (k : Key). k.file) e in let f = at.0 in omega arith)
+    (λ e. let id : damage.id ≡ a = ap (λ (k : Key). k.id) e in ne (sym (⊎_elim (λ (f : damage.id ≡ b). f) (λ (f : damage.id ≡ b). f) at.1) ∙ id))
+
+pub bare_beside : (s t : State) (a b : ℕ) → b ≢ a → LeavesBeside s.records t.records a
+    → t.records (key_in format.nodes_file b) ≡ s.records (key_in format.nodes_file b)
+bare_beside s t a b ne beside = other_beside s t a b ne beside (record { file = format.nodes_file; id = b; rule = 0 }) (inr (refl, inl refl))
+
+-- a record that is named where no head is found or made
+named_chain : (s t : State) (node : ℕ) → LeavesBeside s.records t.records node → (damage : Damage) → IsNamedAt s node damage
+    → NamesFound s t (faults.Damaged damage) → IsChainDamage s t (IsOfNodes node node) damage
+named_chain s t node beside damage (inl (inl group)) found = inr (inr group)
+named_chain s t node beside damage (inl (inr at)) found = inr (inl (inr (at.0, inl at.1), found at.0))
+named_chain s t node beside damage (inr (inl mark)) found = inr (inl (inl mark, marks_beside s t node beside damage mark))
+named_chain s t node beside damage (inr (inr unread)) found = inl (inl unread)
+
+pub open_blames : (s t : State) (node : ℕ) (fault : Fault) → NamesAt s node fault → NamesFound s t fault
+    → IfSome (damage_of fault) (λ _. LeavesBeside s.records t.records node) → BlamesChains s t node node (of_fault fault)
+open_blames s t node faults.Memory names found beside = tt
+open_blames s t node faults.Disk names found beside = tt
+open_blames s t node (faults.Damaged damage) names found beside = named_chain s t node beside damage names found
 
 -- an identifier is taken, and the record of a relationship is written
 pub found_placed : (s t : State) (id from to : ℕ)
@@ -127,6 +206,40 @@ found_placed s t id from to changes damage = by (changes.each (key_in damage.fil
     by (inr (inl e)) = inr (inl (inl (ap (λ (k : Key). k.file) e)))
     by (inr (inr (inl e))) = inr (inl (inr (ap (λ (k : Key). k.file) e, ap (λ (k : Key). k.id) e)))
     by (inr (inr (inr none))) = absurd none
+
+-- nothing is written where no identifier is taken
+pub taken_found : (s t : State) → SameButReads s t → (damage : Damage)
+    → IsOfMarks damage ⊎ IsListDamage s.records s.shape format.relationships_file damage → IsChainDamage s t (λ _. ⊥) damage
+taken_found s t same damage told = ⊎_elim
+    (λ of. inr (inl (inl of, ap (λ (z : State). z.records (key_in damage.file damage.id)) same))) (λ list. inl (inr list)) told
+
+-- no node is written then
+pub placed_nodes : (s t : State) (id : ℕ) → ChangesOnly s t (key_in format.relationships_file id ∷ meta_key_of format.relationships_file ∷ []) → (x : ℕ)
+    → t.records (key_in format.nodes_file x) ≡ s.records (key_in format.nodes_file x)
+placed_nodes s t id changes x = by (changes.each (key_in format.nodes_file x))
+  where
+    by : (t.records (key_in format.nodes_file x) ≡ s.records (key_in format.nodes_file x))
+        ⊎ IsAmong (key_in format.nodes_file x) (key_in format.relationships_file id ∷ meta_key_of format.relationships_file ∷ [])
+        → t.records (key_in format.nodes_file x) ≡ s.records (key_in format.nodes_file x)
+    by (inl same) = same
+    by (inr (inl e)) = absurd (let f = ap (λ (k : Key). k.file) e in omega arith)
+    by (inr (inr (inl e))) = absurd (let f = ap (λ (k : Key). k.file) e in omega arith)
+    by (inr (inr (inr none))) = absurd none
+
+-- its record is in use
+pub placed_used : (rec : Rec) (row : RelRow) → row_of rec row.id ≡ row → field 1 (rel_record row) format.kind ≢ format.free_kind
+placed_used rec row got free =
+    let small : HasNumbers row = record {
+      label = omega (arith, field-lt 4 rec 4, ap (λ (r : RelRow). r.label) got);
+      from = omega (arith, field-lt 4 rec 8, ap (λ (r : RelRow). r.from) got);
+      to = omega (arith, field-lt 4 rec 12, ap (λ (r : RelRow). r.to) got);
+      source_previous = omega (arith, field-lt 4 rec 16, ap (λ (r : RelRow). r.source_previous) got);
+      source_next = omega (arith, field-lt 4 rec 20, ap (λ (r : RelRow). r.source_next) got);
+      target_previous = omega (arith, field-lt 4 rec 24, ap (λ (r : RelRow). r.target_previous) got);
+      target_next = omega (arith, field-lt 4 rec 28, ap (λ (r : RelRow). r.target_next) got);
+      property = omega (arith, field-lt 4 rec 32, ap (λ (r : RelRow). r.property) got);
+    } in
+    let kind = kind-rel_record row small in omega arith
 
 -- it is put at the front of a chain of the node
 module _ (s : State) (head : Head) (node : ℕ) (owns : IsHeadOf s.records head node) (rel d : ℕ) where
@@ -160,10 +273,91 @@ module _ (s : State) (head : Head) (node : ℕ) (owns : IsHeadOf s.records head 
       put))
       found_joined
 
-pub push_blames : (s t : State) (node : ℕ) (fault : Fault) → IfSome (damage_of fault) (λ _. t ≡ after_get s) → BlamesChains s t node node (of_fault fault)
-push_blames s t node faults.Memory same = tt
-push_blames s t node faults.Disk same = tt
-push_blames s t node (faults.Damaged damage) same = inl (ap (λ (z : State). z.records (key_in damage.file damage.id)) same)
+-- it can't be put there: the head leads nowhere, or there is no room for so many
+pub push_blames : (s t : State) (end : EdgeEnd) → HasHead s.records end → (fault : Fault) → IsPushFault s (head_of end.head) fault
+    → IfSome (damage_of fault) (λ _. t ≡ after_get s) → BlamesEndJoined s t end (of_fault fault)
+push_blames s t end owns faults.Memory told same = tt
+push_blames s t end owns faults.Disk told same = tt
+push_blames s t end owns (faults.Damaged damage) told same = by damage told (ap (λ (z : State). z.records (key_in damage.file damage.id)) same)
+  where
+    at : HasHead s.records end → IsAsFound s t (first_damage end.head.key)
+        → (IsBareEnd (first_damage end.head.key) end × IsAsFound s t (first_damage end.head.key)) ⊎ IsOfGroups (first_damage end.head.key)
+    at (inl o) still =
+        let key = ap (λ (h : Head). h.key) o.is in
+        inl (record { bare = key; file = ap (λ (k : Key). k.file) key; id = ap (λ (k : Key). k.id) key }, still)
+    at (inr o) still = inr (inl (ap (λ (k : Key). k.file) o.key))
+
+    by : (d : Damage) → IsLinkDamage s (first_of s.records (head_of end.head)) (first_damage end.head.key) d → IsAsFound s t d → IsJoinDamage s t (Loop end) d
+    by d (LeadsNowhere some above) still = inr (at owns still)
+    by d (HighMark above) still = inl (refl, above)
+
+-- it was put at the source before
+pub source_first : (s t : State) (source target : EdgeEnd) (damage : Damage) → IsJoinDamage s t (Loop source) damage
+    → IsJoinDamage s t (Two source target) damage
+source_first s t source target damage (inl high) = inl high
+source_first s t source target damage (inr (inl at)) = inr (inl (inl at.0, at.1))
+source_first s t source target damage (inr (inr group)) = inr (inr group)
+
+-- a node that isn't written where it is put at the source
+other_joined : (s u : State) (a b : ℕ) → b ≢ a → KeepsButChains s u a a → (damage : Damage) → damage.file ≡ format.nodes_file → damage.id ≡ b
+    → IsAsFound s u damage
+other_joined s u a b ne keeps damage file id = by (keeps damage)
+  where
+    by : IsAsFound s u damage ⊎ IsOfChains a a damage → IsAsFound s u damage
+    by (inl same) = same
+    by (inr (inl (inl e))) = absurd (omega (arith, e, file))
+    by (inr (inl (inr e))) = absurd (omega (arith, e.0, file))
+    by (inr (inr (inl (inl e)))) = absurd (omega (arith, e, file))
+    by (inr (inr (inl (inr e)))) = absurd (omega (arith, e.0, file))
+    by (inr (inr (inr e))) = absurd (ne (sym id ∙ ⊎_elim (λ (f : damage.id ≡ a). f) (λ (f : damage.id ≡ a). f) e.1))
+
+pub joined_then : (s u t : State) (source target : EdgeEnd) → source.node ≢ target.node → u.shape ≡ s.shape
+    → high u.records format.relationships_file ≡ high s.records format.relationships_file → KeepsButChains s u source.node source.node
+    → (damage : Damage) → IsJoinDamage u t (Loop target) damage → IsJoinDamage s t (Two source target) damage
+joined_then s u t source target ne shape mark keeps damage (inl high) =
+    inl (high.0, subst (λ n. rel_room s < n) mark (subst (λ (h : Shape). room_of h format.relationships_file < rel_mark u) shape high.1))
+joined_then s u t source target ne shape mark keeps damage (inr (inl at)) =
+    inr (inl (inr at.0, at.1 ∙ other_joined s u source.node target.node (λ e. ne (sym e)) keeps damage at.0.file at.0.id))
+joined_then s u t source target ne shape mark keeps damage (inr (inr group)) = inr (inr group)
+
+-- ---- what is so at some end
+
+pub at_some : {T P : Type 0} (each some : T → Type 0) (ends : Ends T) → ((end : T) → each end → some end → P) → AtEach each ends → AtSome some ends → P
+at_some each some (Loop end) then is at = then end is at
+at_some each some (Two source target) then is (inl at) = then source is.0 at
+at_some each some (Two source target) then is (inr at) = then target is.1 at
+
+any_end : {T : Type 0} (ends : Ends T) → AtEach (λ (end : T). Unit {0}) ends
+any_end (Loop end) = tt
+any_end (Two source target) = (tt, tt)
+
+-- the node of an end as it is in a space where a record is blamed
+bare_key : (damage : Damage) (end : EdgeEnd) → IsBareEnd damage end → key_in damage.file damage.id ≡ key_in format.nodes_file end.node
+bare_key damage end is = ap (λ f. key_in f damage.id) is.file ∙ ap (key_in format.nodes_file) is.id
+
+-- what is told then, after an identifier was taken and its record written
+pub placed_then : (s u t : State) (ends : Ends EdgeEnd) → HarmsNoList s u format.relationships_file
+    → ((x : ℕ) → u.records (key_in format.nodes_file x) ≡ s.records (key_in format.nodes_file x)) → (damage : Damage)
+    → IsJoinDamage u t ends damage → IsChainDamage s t (IsOfBare ends) damage
+placed_then s u t ends harmless nodes damage (inl high) = inl (inr (subst (IsListDamage s.records s.shape format.relationships_file) (sym high.0)
+    (harmless mark_damage (OutOfRange (λ r. let low = r.mark in let above = high.1 in omega arith)))))
+placed_then s u t ends harmless nodes damage (inr (inl at)) =
+    let was : IsAsFound s u damage = at_some (λ (end : EdgeEnd). Unit {0}) (IsBareEnd damage) ends
+    (λ end _ is. let key = bare_key damage end is in ap u.records key ∙ nodes end.node ∙ ap s.records (sym key)) (any_end ends) at.0 in
+    inr (inl (inr at.0, at.1 ∙ was))
+placed_then s u t ends harmless nodes damage (inr (inr group)) = inr (inr group)
+
+-- and after the heads of the ends were found or made
+pub bare_kept : (s t : State) (ends : Ends EdgeEnd) → KeepsMarks s t → AtEach (KeepsBare s t) ends → KeepsThese s t (IsOfBare ends)
+bare_kept s t ends marks bare damage (inl mark) = marks damage mark
+bare_kept s t ends marks bare damage (inr at) = at_some (KeepsBare s t) (IsBareEnd damage) ends
+    (λ end keeps is. let key = bare_key damage end is in ap t.records key ∙ keeps is.bare ∙ ap s.records (sym key)) bare at
+
+pub bare_nodes : (ends : Ends EdgeEnd) (from to : ℕ) → (source_of ends).node ≡ from → (target_of ends).node ≡ to → (damage : Damage) → IsOfBare ends damage
+    → IsOfNodes from to damage
+bare_nodes (Loop end) from to a b damage is = (is.file, inl (is.id ∙ a))
+bare_nodes (Two source target) from to a b damage (inl is) = (is.file, inl (is.id ∙ a))
+bare_nodes (Two source target) from to a b damage (inr is) = (is.file, inr (is.id ∙ b))
 
 -- ---- the files of properties and blocks
 
@@ -206,19 +400,13 @@ module _ (s t : State) (from to : ℕ) (shape : t.shape ≡ s.shape) (keeps : Ke
 
 -- ---- names before
 
--- a name that is new is none of the other records
-pub named_found : (s u t : State) (from to : ℕ) → KeepsButNames s u → (damage : Damage) → IsAsFound u t damage ⊎ IsOfChains from to damage
-    → IsAsFound s t damage ⊎ (IsOfFile format.names_file damage ⊎ IsOfChains from to damage)
-named_found s u t from to keeps damage (inr of) = inr (inr of)
-named_found s u t from to keeps damage (inl same) =
-    by (nat_cases damage.file format.names_file) (key_cases (key_in damage.file damage.id) (meta_key_of format.names_file))
-  where
-    by : (damage.file ≡ format.names_file) ⊎ (damage.file ≢ format.names_file)
-        → (key_in damage.file damage.id ≡ meta_key_of format.names_file) ⊎ (key_in damage.file damage.id ≢ meta_key_of format.names_file)
-        → IsAsFound s t damage ⊎ (IsOfFile format.names_file damage ⊎ IsOfChains from to damage)
-    by (inl e) m = inr (inl (inl e))
-    by (inr e) (inl m) = inr (inl (inr (ap (λ (k : Key). k.file) m, ap (λ (k : Key). k.id) m)))
-    by (inr e) (inr m) = inl (same ∙ keeps (key_in damage.file damage.id) e m)
+-- a name that is new is no node, and no meta record of another file
+pub these_beyond : (s t : State) (from to : ℕ) → KeepsButNames s t → KeepsThese s t (IsOfNodes from to)
+these_beyond s t from to keeps damage (inl of) = keeps (key_in damage.file damage.id) (λ (e : damage.file ≡ format.names_file). let f = of.0 in omega arith)
+    (λ e. let id : damage.id ≡ format.names_file = ap (λ (k : Key). k.id) e in
+    ⊎_elim (λ (f : damage.id ≡ format.nodes_file). omega arith) (λ (f : damage.id ≡ format.relationships_file). omega arith) of.1)
+these_beyond s t from to keeps damage (inr at) = keeps (key_in damage.file damage.id) (λ (e : damage.file ≡ format.names_file). let f = at.0 in omega arith)
+    (λ e. let file : damage.file ≡ format.meta_file = ap (λ (k : Key). k.file) e in let f = at.0 in omega arith)
 
 -- reads before
 pub read_names : (s n u : State) → SameButReads s n → KeepsButNames n u → KeepsButNames s u
@@ -226,22 +414,28 @@ read_names s n u same keeps key other no_meta = keeps key other no_meta ∙ ap (
 
 -- ---- what is blamed of an edge that is added
 
-pub broken_added : (s t : State) (from to : ℕ) (fault : ChangeFault) → BlamesBroken s fault → BlamesAdded s t from to fault
-broken_added s t from to fault told =
-    blames_more (IsBroken s) (λ damage. IsBroken s damage ⊎ (IsLinkingDamage t damage × (IsAsFound s t damage
-    ⊎ (IsOfFile format.names_file damage ⊎ IsOfChains from to damage)))) (λ damage broken. inl broken) fault told
+pub broken_added : (s t : State) (fault : ChangeFault) → BlamesBroken s fault → BlamesAdded s t fault
+broken_added s t fault told =
+    blames_more (IsBroken s) (λ damage. IsBroken s damage ⊎ (IsLinkingDamage t damage × (IsAsFound s t damage ⊎ IsOfGroups damage)))
+    (λ damage broken. inl broken) fault told
 
 -- in the chains
-pub chains_added : (s u t : State) (from to : ℕ) → KeepsButNames s u → (fault : ChangeFault) → BlamesLinking t fault → BlamesChains u t from to fault
-    → BlamesAdded s t from to fault
-chains_added s u t from to keeps fault told found =
-    blames_more (λ damage. IsLinkingDamage t damage × (IsAsFound u t damage ⊎ IsOfChains from to damage))
-    (λ damage. IsBroken s damage ⊎ (IsLinkingDamage t damage × (IsAsFound s t damage ⊎ (IsOfFile format.names_file damage ⊎ IsOfChains from to damage))))
-    (λ damage both. inr (both.0, named_found s u t from to keeps damage both.1)) fault
-    (blames_both (IsLinkingDamage t) (λ damage. IsAsFound u t damage ⊎ IsOfChains from to damage) fault told found)
+chain_added : (s u t : State) (from to : ℕ) → u.shape ≡ s.shape → KeepsButNames s u → (damage : Damage) → IsLinkingDamage t damage
+    → IsChainDamage u t (IsOfNodes from to) damage → IsBroken s damage ⊎ (IsLinkingDamage t damage × (IsAsFound s t damage ⊎ IsOfGroups damage))
+chain_added s u t from to shape keeps damage told (inl rel) = inl (rels_broken s damage (rels_beyond s u shape keeps damage rel))
+chain_added s u t from to shape keeps damage told (inr (inl found)) = inr (told, inl (found.1 ∙ these_beyond s u from to keeps damage found.0))
+chain_added s u t from to shape keeps damage told (inr (inr group)) = inr (told, inr group)
+
+pub chains_added : (s u t : State) (from to : ℕ) → u.shape ≡ s.shape → KeepsButNames s u → (fault : ChangeFault) → BlamesLinking t fault
+    → BlamesChains u t from to fault → BlamesAdded s t fault
+chains_added s u t from to shape keeps fault told found =
+    blames_more (λ damage. IsLinkingDamage t damage × IsChainDamage u t (IsOfNodes from to) damage)
+    (λ damage. IsBroken s damage ⊎ (IsLinkingDamage t damage × (IsAsFound s t damage ⊎ IsOfGroups damage)))
+    (λ damage both. chain_added s u t from to shape keeps damage both.0 both.1) fault
+    (blames_both (IsLinkingDamage t) (IsChainDamage u t (IsOfNodes from to)) fault told found)
 
 -- in the free lists of properties and blocks
-pub lists_added : (s v t : State) (from to : ℕ) → HarmsNoLists s v → (fault : ChangeFault) → IfBlames (IsOfLists v) fault → BlamesAdded s t from to fault
-lists_added s v t from to harmless fault told =
-    broken_added s t from to fault
+pub lists_added : (s v t : State) → HarmsNoLists s v → (fault : ChangeFault) → IfBlames (IsOfLists v) fault → BlamesAdded s t fault
+lists_added s v t harmless fault told =
+    broken_added s t fault
     (blames_more (IsOfLists v) (IsBroken s) (λ damage of. lists_broken s damage (lists_before s v harmless damage of)) fault told)

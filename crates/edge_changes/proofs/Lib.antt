@@ -23,3 +23,4 @@ pub mod JoinBlames
 pub mod JoinWrites
 pub mod KeptFirst
 pub mod OpenWrites
+pub mod RelDamages

@@ -5,8 +5,10 @@ use Rattle.rec_bytes.specs.Format as format
 use Rattle.rec_bytes.specs.Key.{IsKey}
 use Rattle.rec_bytes.specs.Space.{State}
 use Rattle.store_rules.specs.Views.{Records, key_in}
+use Rattle.id_freelist.specs.ListDamage.{IsListDamage}
 use Rattle.group_store.specs.Densing.{IsSparse}
 use Rattle.group_store.specs.GroupChain.{IsDense}
+use Rattle.group_store.specs.Naming.{IsOfGroups, IsOfMarks, IsUnread}
 use Rattle.change_parts.specs.Damage.{IfBlames, IsAsFound, IsBroken, IsLinkingDamage}
 use Rattle.edge_changes.specs.EdgeEnds.{AreApart, source_of, target_of}
 use Rattle.change_parts.specs.Degrees.{HasDegree}
@@ -71,16 +73,33 @@ abbrev pub KeepsButChains : State → State → ℕ → ℕ → Type 0
 KeepsButChains s t from to =
     (damage : Damage) → IsAsFound s t damage ⊎ IsOfChains from to damage
 
--- one that is blamed is as it was found, or one of those
+-- it is one of the nodes
+abbrev pub IsOfNodes : ℕ → ℕ → Damage → Type 0
+IsOfNodes from to damage =
+    (damage.file ≡ format.nodes_file) × ((damage.id ≡ from) ⊎ (damage.id ≡ to))
+
+-- a relationship can't be read, or something is wrong with the free list of the relationships
+abbrev pub IsRelDamage : State → Damage → Type 0
+IsRelDamage s damage = IsUnread s damage
+    ⊎ IsListDamage s.records s.shape format.relationships_file damage
+
+-- what was wrong with the relationships before is all that is
+abbrev pub HarmsNoRels : State → State → Type 0
+HarmsNoRels s t = (damage : Damage) → IsRelDamage t damage → IsRelDamage s damage
+
+-- What is called damaged where an edge comes into its chains: what was wrong with the relationships
+-- before; one of these, or the meta record of the nodes or of the relationships, which is as it was
+-- found; or a group, or the meta record of the groups.
+abbrev pub IsChainDamage : State → State → (Damage → Type 0) → Damage → Type 0
+IsChainDamage s t these damage = IsRelDamage s damage
+    ⊎ (((IsOfMarks damage ⊎ these damage) × IsAsFound s t damage) ⊎ IsOfGroups damage)
+
 abbrev pub BlamesChains : State → State → ℕ → ℕ → ChangeFault → Type 0
-BlamesChains s t from to fault =
-    IfBlames (λ damage. IsAsFound s t damage ⊎ IsOfChains from to damage) fault
+BlamesChains s t from to fault = IfBlames (IsChainDamage s t (IsOfNodes from to)) fault
 
 -- A record that is blamed where an edge is added breaks a rule in the space as it was. Or it does
--- so in the space as it is left, and is as it was found, but for those that an edge writes before
--- its properties: names, and what its chains are made of.
-abbrev pub BlamesAdded : State → State → ℕ → ℕ → ChangeFault → Type 0
-BlamesAdded s t from to fault =
+-- so in the space as it is left, and is as it was found, but for groups and their meta record.
+abbrev pub BlamesAdded : State → State → ChangeFault → Type 0
+BlamesAdded s t fault =
     IfBlames (λ damage. IsBroken s damage
-    ⊎ (IsLinkingDamage t damage × (IsAsFound s t damage
-    ⊎ (IsOfFile format.names_file damage ⊎ IsOfChains from to damage)))) fault
+    ⊎ (IsLinkingDamage t damage × (IsAsFound s t damage ⊎ IsOfGroups damage))) fault

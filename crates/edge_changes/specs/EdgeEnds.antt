@@ -1,5 +1,5 @@
 -- The ends of a relationship, and what a change of it at them leaves.
-use Rattle.std.specs.Prelude.{◌≡◌, ◌≢◌, ℕ, ◌-◌, true, List, [], ◌∷◌, ◌++◌}
+use Rattle.std.specs.Prelude.{◌≡◌, ◌≢◌, ℕ, ◌-◌, true, List, [], ◌∷◌, ◌++◌, ◌⊎◌}
 use Rattle.rec_bytes.specs.declared.key.Key.{Key}
 use Rattle.rec_bytes.specs.Format as format
 use Rattle.rec_bytes.specs.Key.{IsKey}
@@ -34,6 +34,11 @@ target_of (Two source target) = target
 abbrev pub AtEach : {T : Type 0} → (T → Type 0) → Ends T → Type 0
 AtEach at (Loop end) = at end
 AtEach at (Two source target) = at source × at target
+
+-- so it is at one of them
+abbrev pub AtSome : {T : Type 0} → (T → Type 0) → Ends T → Type 0
+AtSome at (Loop end) = at end
+AtSome at (Two source target) = at source ⊎ at target
 
 -- the node of an end has its head
 abbrev pub HasHead : Records → EdgeEnd → Type 0

@@ -1,5 +1,6 @@
 -- A new relationship that joins the chains of its ends.
 use Rattle.std.specs.Prelude.{◌≡◌, ◌⊎◌, ℕ, ◌+◌, ◌<◌, min, List, [], ◌∷◌, ◌++◌}
+use Rattle.rec_bytes.specs.declared.damage.Damage.{Damage}
 use Rattle.rec_bytes.specs.declared.key.Key.{Key}
 use Rattle.rec_bytes.specs.Format as format
 use Rattle.rec_bytes.specs.Space.{State, WritesOnly, after_put}
@@ -13,11 +14,15 @@ use Rattle.store_rules.specs.Writes.{meta_keys}
 use Rattle.id_freelist.specs.FreeLists.{IsFreeList}
 use Rattle.id_freelist.specs.Taking.{HasTaken}
 use Rattle.rel_store.specs.declared.rel_row.RelRow.{RelRow}
+use Rattle.rel_store.specs.Loading.{mark_damage, rel_mark, rel_room}
 use Rattle.rel_store.specs.RelRecord.{rel_key, rel_record}
 use Rattle.chain_edit.specs.Heads.{head_of}
 use Rattle.chain_edit.specs.Links.{IsRightLink}
 use Rattle.group_store.specs.Opening.{IsCountedHead}
-use Rattle.edge_changes.specs.EdgeEnds.{AtEach, joined, source_of, target_of}
+use Rattle.change_parts.specs.Damage.{IfBlames, IsAsFound}
+use Rattle.change_parts.specs.declared.change_fault.ChangeFault.{ChangeFault}
+use Rattle.group_store.specs.Naming.{IsOfGroups}
+use Rattle.edge_changes.specs.EdgeEnds.{AtEach, AtSome, joined, source_of, target_of}
 use Rattle.edge_changes.specs.declared.edge_end.EdgeEnd.{EdgeEnd}
 use Rattle.edge_changes.specs.declared.edge_end.Ends.{Ends}
 use Rattle.edge_changes.specs.declared.edge_end.Ends.TheVariants.{Loop, Two}
@@ -97,6 +102,34 @@ abbrev pub AreRightFirsts : State → Ends EdgeEnd → ℕ → Type 0
 AreRightFirsts s (Loop end) rel = IsRightFirst s end
 AreRightFirsts s (Two source target) rel =
     IsRightFirst s source × IsRightFirst (end_joined s source rel) target
+
+-- ---- which record is blamed
+
+-- the meta record of the relationships counts more than there is room for
+abbrev pub IsHighMark : State → Damage → Type 0
+IsHighMark s damage = (damage ≡ mark_damage) × (rel_room s < rel_mark s)
+
+-- The record is the end's node, and the end's chain begins there.
+pub record IsBareEnd (damage : Damage) (end : EdgeEnd) : Type 0 where
+  pub bare : end.head.key ≡ key_in format.nodes_file end.node
+  pub file : damage.file ≡ format.nodes_file
+  pub id : damage.id ≡ end.node
+
+-- so it is at one of the ends
+abbrev pub IsOfBare : Ends EdgeEnd → Damage → Type 0
+IsOfBare ends damage = AtSome (IsBareEnd damage) ends
+
+-- a record that is blamed is that meta record, such a node that is as it was found, or of groups
+abbrev pub IsJoinDamage : State → State → Ends EdgeEnd → Damage → Type 0
+IsJoinDamage s t ends damage = IsHighMark s damage
+    ⊎ ((IsOfBare ends damage × IsAsFound s t damage) ⊎ IsOfGroups damage)
+
+abbrev pub BlamesJoined : State → State → Ends EdgeEnd → ChangeFault → Type 0
+BlamesJoined s t ends fault = IfBlames (IsJoinDamage s t ends) fault
+
+-- so at one end
+abbrev pub BlamesEndJoined : State → State → EdgeEnd → ChangeFault → Type 0
+BlamesEndJoined s t end fault = BlamesJoined s t (Loop end) fault
 
 -- ---- what becomes written
 

@@ -45,6 +45,11 @@ pub record OpensEnds (s t : State) (names : List (List ℕ)) (label : ℕ) (ends
   pub keeps : KeepsGraph s t
   pub can : CanJoin t names label ends
 
+-- An end whose chain begins at its node has the record of the node as it was.
+abbrev pub KeepsBare : State → State → EdgeEnd → Type 0
+KeepsBare s t end = end.head.key ≡ key_in format.nodes_file end.node
+    → t.records (key_in format.nodes_file end.node) ≡ s.records (key_in format.nodes_file end.node)
+
 -- how many records of the ends that become dense are written besides the nodes' own
 abbrev pub ends_moved : ℕ → Ends EndDegree → ℕ
 ends_moved threshold (Loop end) = moved_writes threshold end.degree

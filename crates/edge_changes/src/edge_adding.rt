@@ -55,7 +55,7 @@ pub fn add_edge<S: Space>(
         (commands.Edge from label.now to pairs.now) (S.state space.new)
         names.old.names names.new.names) }
     ensures damaged { S.tells → IfErr result
-        (BlamesAdded (S.state space.old) (S.state space.new) from to) }
+        (BlamesAdded (S.state space.old) (S.state space.new)) }
     ensures counts { S.tells → IsStore (S.state space.old) names.old.names
         → IfErr result (IsCounted (S.state space.old)) }
     ensures full { IsStore (S.state space.old) names.old.names

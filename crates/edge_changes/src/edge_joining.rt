@@ -1,26 +1,35 @@
 //! A new edge's record, without properties, and its place in the chains of its ends.
 
-ghost use Rattle.std.specs.Prelude.{◌≡◌, ◌<◌, ◌∷◌, [], ℕ, List, Some, slice_get};
+ghost use Rattle.std.specs.Prelude.{◌≡◌, ◌≢◌, ◌⊎◌, ◌<◌, ◌∷◌, [], ℕ, List, Some, slice_get};
 ghost use Rattle.std.specs.Prelude.{IfErr, IfOk, OnErr, OnOk};
-ghost use Rattle.rec_bytes.specs.Format.{relationships_file};
+ghost use Rattle.rec_bytes.specs.Format.{free_kind, kind, nodes_file, relationships_file};
 ghost use Rattle.rec_bytes.specs.Key.{IsKey};
 ghost use Rattle.rec_bytes.specs.RecordFiles.{meta_key_of, room_of};
-ghost use Rattle.rec_bytes.specs.Space.{SameButReads, WritesOnly};
+ghost use Rattle.rec_bytes.specs.Record.{field};
+ghost use Rattle.rec_bytes.specs.Space.{SameButReads, State, WritesOnly, after_put};
+ghost use Rattle.rec_bytes.specs.declared.record.Rec.{Rec};
 ghost use Rattle.id_freelist.specs.FreeLists.{IsFreeList};
+ghost use Rattle.id_freelist.specs.ListDamage.{HarmsNoList, IsListDamage};
 ghost use Rattle.id_freelist.specs.Taking.{HasTaken, taken};
+ghost use Rattle.rel_store.specs.Loading.{rel_mark};
 ghost use Rattle.rel_store.specs.RelRecord.{rel_key};
 ghost use Rattle.store_rules.specs.Rules.{KeepsRules, first_of};
-ghost use Rattle.store_rules.specs.Views.{key_in};
+ghost use Rattle.store_rules.specs.Views.{key_in, rec_at};
 ghost use Rattle.store_rules.specs.Writes.{ChangesOnly, meta_keys};
 ghost use Rattle.chain_edit.specs.Heads.{head_of};
 ghost use Rattle.chain_edit.specs.Links.{IsRightLink};
 ghost use Rattle.group_store.specs.Leaving.{KeepsHeads};
+ghost use Rattle.group_store.specs.Naming.{IsOfMarks};
 ghost use Rattle.change_parts.specs.ChangeFault.{HasChangeCause, IsFailure, IsOutside};
-ghost use Rattle.change_parts.specs.Damage.{BlamesBroken};
-ghost use Rattle.edge_changes.specs.EdgeEnds.{AreEdgeEnds, AtEach, HasHead, IsEdgeEnd, source_of};
+ghost use Rattle.change_parts.specs.Damage.{BlamesBroken, IfBlames};
+ghost use Rattle.edge_changes.specs.EdgeEnds.{AreApart, AreEdgeEnds, AtEach, HasHead, IsEdgeEnd};
+ghost use Rattle.edge_changes.specs.EdgeEnds.{source_of};
+ghost use Rattle.edge_changes.specs.declared.edge_end.EdgeEnd.{EdgeEnd};
 ghost use Rattle.edge_changes.specs.EdgeEnds.{target_of};
-ghost use Rattle.edge_changes.specs.EdgeAdding.{BlamesChains, KeepsButChains};
-ghost use Rattle.edge_changes.specs.EdgeJoining.{AreRightFirsts, CanJoin, HasPlaced, WritesJoined};
+ghost use Rattle.edge_changes.specs.EdgeAdding.{IsChainDamage, KeepsButChains};
+ghost use Rattle.edge_changes.specs.EdgeJoining.{AreRightFirsts, BlamesEndJoined, BlamesJoined};
+ghost use Rattle.edge_changes.specs.EdgeJoining.{CanJoin, IsOfBare};
+ghost use Rattle.edge_changes.specs.EdgeJoining.{HasPlaced, WritesJoined};
 ghost use Rattle.edge_changes.specs.EdgeJoining.{end_joined, ends_joined, joined_keys, new_row};
 ghost use Rattle.edge_changes.specs.EdgePlacing.{PutsEdge};
 ghost use Rattle.change_parts.specs.Rooms.{HasRoom};
@@ -56,8 +65,8 @@ pub(crate) fn join_edge<S: Space>(
         → OnOk result (KeepsButChains (S.state space.old) (S.state space.new)
         (source_of ends).node (target_of ends).node) }
     ensures found { S.tells → AtEach (HasHead (S.state space.old).records) ends
-        → IfErr result (BlamesChains (S.state space.old) (S.state space.new)
-        (source_of ends).node (target_of ends).node) }
+        → IfErr result (IfBlames (IsChainDamage (S.state space.old) (S.state space.new)
+        (IsOfBare ends))) }
     ensures key { IfOk result (λ id. IsKey (key_in relationships_file id)) }
     ensures writes { IfOk result (λ id.
         WritesJoined (S.state space.old) (S.state space.new) id ends) }
@@ -85,7 +94,13 @@ fn place<S: Space>(space: &mut S, label: u32, from: u32, to: u32) -> Result<u32,
     ensures leaves { S.tells
         → OnOk result (KeepsButChains (S.state space.old) (S.state space.new) from to) }
     ensures found { S.tells
-        → IfErr result (BlamesChains (S.state space.old) (S.state space.new) from to) }
+        → IfErr result (IfBlames (IsChainDamage (S.state space.old) (S.state space.new)
+        (λ damage. ⊥))) }
+    ensures nodes { S.tells → OnOk result ((x : ℕ)
+        → rec_at (S.state space.new).records nodes_file x
+        ≡ rec_at (S.state space.old).records nodes_file x) }
+    ensures lists { S.tells → OnOk result
+        (HarmsNoList (S.state space.old) (S.state space.new) relationships_file) }
     ensures heads { S.tells
         → OnOk result (KeepsHeads (S.state space.old) (S.state space.new)) }
     ensures key { IfOk result (λ id. IsKey (key_in relationships_file id)) }
@@ -114,6 +129,13 @@ fn take_id<S: Space>(space: &mut S) -> Result<u32, ChangeFault>
         → HasRoom (S.state space.old) relationships_file 1 → IfErr result IsOutside }
     ensures damaged { S.tells → HasRoom (S.state space.old) relationships_file 1
         → IfErr result (BlamesBroken (S.state space.new)) }
+    ensures found { S.tells → IfErr result (IfBlames (λ damage. IsOfMarks damage
+        ⊎ IsListDamage (S.state space.old).records (S.state space.old).shape relationships_file
+        damage)) }
+    // where the identifier is put in use
+    ensures lists { S.tells → IfOk result (λ id. (t : State) (rec : Rec)
+        → t ≡ after_put (S.state space.new) (rel_key id) rec → field 1 rec kind ≢ free_kind
+        → HarmsNoList (S.state space.old) t relationships_file) }
     ensures stays { S.tells → ChangesOnly (S.state space.old) (S.state space.new)
         (meta_key_of relationships_file ∷ []) }
     ensures ok { S.tells
@@ -173,8 +195,8 @@ fn join_ends<S: Space>(space: &mut S, rel: u32, ends: Ends<EdgeEnd>) -> Result<(
         → OnOk result (KeepsButChains (S.state space.old) (S.state space.new)
         (source_of ends).node (target_of ends).node) }
     ensures found { S.tells → AtEach (HasHead (S.state space.old).records) ends
-        → IfErr result (BlamesChains (S.state space.old) (S.state space.new)
-        (source_of ends).node (target_of ends).node) }
+        → AreApart (λ (end : EdgeEnd). end.node) ends
+        → IfErr result (BlamesJoined (S.state space.old) (S.state space.new) ends) }
     ensures writes { WritesJoined (S.state space.old) (S.state space.new) rel ends }
     ensures failure { IfErr result IsFailure }
     ensures onward { S.onward space.old space.new }
@@ -204,8 +226,10 @@ fn join_end<S: Space>(space: &mut S, rel: u32, end: EdgeEnd) -> Result<(), Chang
     ensures leaves { S.tells → HasHead (S.state space.old).records end
         → OnOk result
         (KeepsButChains (S.state space.old) (S.state space.new) end.node end.node) }
-    ensures found { S.tells → IfErr result
-        (BlamesChains (S.state space.old) (S.state space.new) end.node end.node) }
+    ensures found { S.tells → HasHead (S.state space.old).records end
+        → IfErr result (BlamesEndJoined (S.state space.old) (S.state space.new) end) }
+    ensures mark { S.tells → HasHead (S.state space.old).records end
+        → OnOk result (rel_mark (S.state space.new) ≡ rel_mark (S.state space.old)) }
     ensures heads { S.tells → HasHead (S.state space.old).records end
         → OnOk result (KeepsHeads (S.state space.old) (S.state space.new)) }
     ensures writes { (first : ℕ) × WritesOnly (S.state space.old) (S.state space.new)

@@ -39,7 +39,7 @@ abbrev pub Blames : Command → Space → Space → List (List ℕ) → List (Li
 Blames (commands.Node label pairs) found left names now fault =
     BlamesEntries found left fault
 Blames (commands.Edge from label to pairs) found left names now fault =
-    BlamesAdded found left from to fault
+    BlamesAdded found left fault
 Blames (commands.Set target key value) found left names now fault =
     BlamesGiven found (interned found names key) left fault
 Blames (commands.Unset target key) found left names now fault = BlamesEntries found left fault

@@ -498,15 +498,15 @@ returns-in_err-ends-clause-damaged g c tells =
     let s = g.S.Reads.state c.args.space.now in
     let n = g.S.Reads.state c.end_degrees.new.space in
     let fault = c.in_err-ends.field-0.0 in
-    fault_exit (λ f. f) (BlamesAdded s n c.args.from c.args.to) fault c.from_residual.result c.from_residual.ensures.1
-    (broken_added s n c.args.from c.args.to fault
+    fault_exit (λ f. f) (BlamesAdded s n) fault c.from_residual.result c.from_residual.ensures.1
+    (broken_added s n fault
     (⊎_elim (absent_blamed s (targets.Node c.args.from) fault) (absent_blamed s (targets.Node c.args.to) fault) (c.in_err-ends.ensures.absent tells)))
 
 pub returns-in_err-test_room-clause-damaged : goal.returns-in_err-test_room-clause-damaged
 returns-in_err-test_room-clause-damaged g c tells =
     let s = g.S.Reads.state c.args.space.now in
     let n = g.S.Reads.state c.end_degrees.new.space in
-    fault_exit (λ f. f) (BlamesAdded s n c.args.from c.args.to) c.in_err-test_room.field-0.0 c.from_residual-in_err-test_room.result
+    fault_exit (λ f. f) (BlamesAdded s n) c.in_err-test_room.field-0.0 c.from_residual-in_err-test_room.result
     c.from_residual-in_err-test_room.ensures.1
     (room_blamed _ n format.relationships_file 1 c.in_err-test_room.field-0.0 c.in_err-test_room.ensures.full)
 
@@ -515,7 +515,7 @@ returns-in_err-prepared-clause-damaged g c tells =
     let s = g.S.Reads.state c.args.space.now in
     let n = g.S.Reads.state c.end_degrees.new.space in
     let u = g.S.Reads.state c.prepare.new.space in
-    fault_exit (λ f. f) (BlamesAdded s u c.args.from c.args.to) c.in_err-prepared.field-0.0 c.from_residual-in_err-prepared.result
+    fault_exit (λ f. f) (BlamesAdded s u) c.in_err-prepared.field-0.0 c.from_residual-in_err-prepared.result
     c.from_residual-in_err-prepared.ensures.1
     (line_blamed _ n c.args.names.now.names c.args.label.now c.as_slice-pairs.result.now c.in_err-prepared.field-0.0 (c.in_err-prepared.ensures.caused tells))
 
@@ -560,8 +560,9 @@ returns-in_err-id-clause-damaged g c tells =
     let fault = c.in_err-id.field-0.0 in
     let found = at_nodes (λ from to. BlamesChains u v from to fault) c.in_ok-ends.ends c.args.from c.args.to c.in_ok-ends.ensures.ends
     (c.in_err-id.ensures.found tells (used_then g at.In_ok-prepared tells)) in
-    fault_exit (λ f. f) (BlamesAdded s v c.args.from c.args.to) fault c.from_residual-in_err-id.result c.from_residual-in_err-id.ensures.1
-    (chains_added s u v c.args.from c.args.to (names_then g at.In_ok-prepared tells) fault (put_blamed g at.In_err-id tells) found)
+    let named = g.met.S.Reads.onward_shape _ _ c.prepare.ensures.onward ∙ ap (λ (z : State). z.shape) c.end_degrees.ensures.state in
+    fault_exit (λ f. f) (BlamesAdded s v) fault c.from_residual-in_err-id.result c.from_residual-in_err-id.ensures.1
+    (chains_added s u v c.args.from c.args.to named (names_then g at.In_ok-prepared tells) fault (put_blamed g at.In_err-id tells) found)
 
 pub returns-in_err-put_properties-clause-damaged : goal.returns-in_err-put_properties-clause-damaged
 returns-in_err-put_properties-clause-damaged g c tells =
@@ -577,9 +578,9 @@ returns-in_err-put_properties-clause-damaged g c tells =
     let named = g.met.S.Reads.onward_shape _ _ c.prepare.ensures.onward ∙ ap (λ (z : State). z.shape) c.end_degrees.ensures.state in
     let harmless = no_lists_then s u v (names_harm_no_lists s u named (names_then g at.In_ok-prepared tells))
     (chains_harm_no_lists u v c.args.from c.args.to (g.met.S.Reads.onward_shape _ _ c.put_edge.ensures.onward) keeps) in
-    fault_exit (λ f. f) (BlamesAdded s w c.args.from c.args.to) fault c.from_residual-in_err-put_properties.result
+    fault_exit (λ f. f) (BlamesAdded s w) fault c.from_residual-in_err-put_properties.result
     c.from_residual-in_err-put_properties.ensures.1
-    (lists_added s v w c.args.from c.args.to harmless fault (c.in_err-put_properties.ensures.damaged tells))
+    (lists_added s v w harmless fault (c.in_err-put_properties.ensures.damaged tells))
 
 -- ---- and by the space as it is left alone
 

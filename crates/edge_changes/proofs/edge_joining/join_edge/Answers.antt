@@ -1,19 +1,20 @@
 use Rattle.std.proofs.Common.{ℕ, ◌∙◌, subst, rules}
 use Rattle.change_parts.specs.ChangeFault.{IsOutside}
 use Rattle.edge_changes.specs.EdgeEnds.{HasHead}
-use Rattle.edge_changes.specs.EdgeJoining.{HasPlaced, WritesJoined}
+use Rattle.edge_changes.specs.EdgeJoining.{HasPlaced, IsJoinDamage, IsOfBare, WritesJoined}
 use Rattle.edge_changes.proofs.EdgePut.{firsts_right, puts_edge}
 use Rattle.change_parts.proofs.Exits.{fault_exit}
 use Rattle.edge_changes.proofs.JoinWrites.{placed_joined, placed_written}
 use Rattle.change_parts.proofs.Writes.{on_any_err}
 use Rattle.change_parts.proofs.DiskCauses.{change_cause_passed, later_on}
 use Rattle.chain_edit.specs.Heads.{head_of}
-use Rattle.change_parts.specs.Damage.{BlamesBroken}
+use Rattle.change_parts.specs.Damage.{BlamesBroken, IfBlames}
 use Rattle.edge_changes.proofs.EndLaws.{at_more}
 use Rattle.rec_bytes.proofs.Causes.{never_ok, ok_cause}
-use Rattle.edge_changes.specs.EdgeAdding.{BlamesChains, KeepsButChains}
+use Rattle.change_parts.proofs.Broken.{blames_more}
+use Rattle.edge_changes.specs.EdgeAdding.{IsChainDamage, KeepsButChains}
 use Rattle.edge_changes.specs.EdgeEnds.{source_of, target_of}
-use Rattle.edge_changes.proofs.EdgeFound.{blames_then, found_then}
+use Rattle.edge_changes.proofs.EdgeFound.{chain_more, found_then, placed_then}
 use Rattle.edge_changes.proofs.edge_joining.join_edge.Goals as goal
 
 pub returns-in_err-id-clause-sound : goal.returns-in_err-id-clause-sound
@@ -117,18 +118,19 @@ returns-in_err-id-clause-found g c tells heads =
     let s = g.S.Reads.state c.args.space.now in
     let t = g.S.Reads.state c.place.new.space in
     let fault = c.in_err-id.field-0.0 in
-    fault_exit (λ f. f) (BlamesChains s t (source_of c.args.ends).node (target_of c.args.ends).node) fault c.from_residual.result c.from_residual.ensures.1
-    (subst (λ (p : ℕ × ℕ). BlamesChains s t p.0 p.1 fault) c.nodes-from.ensures (c.in_err-id.ensures.found tells))
+    fault_exit (λ f. f) (IfBlames (IsChainDamage s t (IsOfBare c.args.ends))) fault c.from_residual.result c.from_residual.ensures.1
+    (blames_more (IsChainDamage s t (λ _. ⊥)) (IsChainDamage s t (IsOfBare c.args.ends))
+    (chain_more s t (λ _. ⊥) (IsOfBare c.args.ends) (λ damage none. absurd none)) fault (c.in_err-id.ensures.found tells))
 
 pub returns-in_err-join_ends-clause-found : goal.returns-in_err-join_ends-clause-found
 returns-in_err-join_ends-clause-found g c tells heads =
     let s = g.S.Reads.state c.args.space.now in
     let t = g.S.Reads.state c.place.new.space in
     let u = g.S.Reads.state c.join_ends.new.space in
-    let from = (source_of c.args.ends).node in
-    let to = (target_of c.args.ends).node in
-    let has = at_more (HasHead s.records) (HasHead t.records) c.args.ends (λ end. c.in_ok-id.ensures.heads tells (head_of end.head) end.node) heads in
-    let one = subst (λ (p : ℕ × ℕ). KeepsButChains s t p.0 p.1) c.nodes-from.ensures (c.in_ok-id.ensures.leaves tells) in
+    let ends = c.args.ends in
+    let has = at_more (HasHead s.records) (HasHead t.records) ends (λ end. c.in_ok-id.ensures.heads tells (head_of end.head) end.node) heads in
     let fault = c.in_err-join_ends.field-0.0 in
-    fault_exit (λ f. f) (BlamesChains s u from to) fault c.from_residual-in_err-join_ends.result c.from_residual-in_err-join_ends.ensures.1
-    (blames_then s t u from to one fault (c.in_err-join_ends.ensures.found tells has))
+    fault_exit (λ f. f) (IfBlames (IsChainDamage s u (IsOfBare ends))) fault c.from_residual-in_err-join_ends.result c.from_residual-in_err-join_ends.ensures.1
+    (blames_more (IsJoinDamage t u ends) (IsChainDamage s u (IsOfBare ends))
+    (placed_then s t u ends (c.in_ok-id.ensures.lists tells) (c.in_ok-id.ensures.nodes tells)) fault
+    (c.in_err-join_ends.ensures.found tells has c.requires.apart))

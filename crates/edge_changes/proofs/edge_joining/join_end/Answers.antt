@@ -5,11 +5,11 @@ use Rattle.edge_changes.proofs.JoinWrites.{end_written, head_written}
 use Rattle.change_parts.proofs.DiskCauses.{space_cause_passed, later_on}
 use Rattle.chain_edit.specs.Heads.{head_of}
 use Rattle.change_parts.specs.Damage.{BlamesBroken}
-use Rattle.edge_changes.proofs.EdgeBlames.{heads_joined_by}
+use Rattle.edge_changes.proofs.EdgeBlames.{heads_joined_by, mark_joined_by}
 use Rattle.change_parts.proofs.Adding.{space_blamed}
 use Rattle.edge_changes.proofs.JoinBlames.{push_blamed}
 use Rattle.rec_bytes.proofs.Causes.{never_ok, ok_cause}
-use Rattle.edge_changes.specs.EdgeAdding.{BlamesChains}
+use Rattle.edge_changes.specs.EdgeJoining.{BlamesEndJoined}
 use Rattle.edge_changes.proofs.EdgeFound.{found_joined_by, push_blames}
 use Rattle.edge_changes.proofs.edge_joining.join_end.Goals as goal
 
@@ -87,17 +87,29 @@ pub returns-in_err-set_number-clause-leaves : goal.returns-in_err-set_number-cla
 returns-in_err-set_number-clause-leaves g c _ _ = never_ok c.from_residual-in_err-set_number.result _ _ c.from_residual-in_err-set_number.ensures.1
 
 pub returns-in_err-push_counted-clause-found : goal.returns-in_err-push_counted-clause-found
-returns-in_err-push_counted-clause-found g c tells =
+returns-in_err-push_counted-clause-found g c tells owns =
     let s = g.S.Reads.state c.args.space.now in
     let t = g.S.Reads.state c.push_counted.new.space in
-    let node = c.args.end.node in
-    fault_exit of_fault (BlamesChains s t node node) c.in_err-push_counted.field-0.0 c.from_residual.result c.from_residual.ensures.1
-    (push_blames s t node c.in_err-push_counted.field-0.0 c.in_err-push_counted.ensures.unwritten)
+    let fault = c.in_err-push_counted.field-0.0 in
+    fault_exit of_fault (BlamesEndJoined s t c.args.end) fault c.from_residual.result c.from_residual.ensures.1
+    (push_blames s t c.args.end owns fault (c.in_err-push_counted.ensures.damaged tells) c.in_err-push_counted.ensures.unwritten)
 
 pub returns-in_err-set_number-clause-found : goal.returns-in_err-set_number-clause-found
-returns-in_err-set_number-clause-found g c tells =
+returns-in_err-set_number-clause-found g c tells owns =
     let s = g.S.Reads.state c.args.space.now in
     let t = g.S.Reads.state c.set_number.new.space in
-    let node = c.args.end.node in
-    fault_exit of_space (BlamesChains s t node node) c.in_err-set_number.field-0.0 c.from_residual-in_err-set_number.result
+    fault_exit of_space (BlamesEndJoined s t c.args.end) c.in_err-set_number.field-0.0 c.from_residual-in_err-set_number.result
     c.from_residual-in_err-set_number.ensures.1 (space_blamed _ c.in_err-set_number.field-0.0)
+
+-- ---- how many relationships were given out
+pub returns-clause-mark : goal.returns-clause-mark
+returns-clause-mark g c tells owns =
+    mark_joined_by (g.S.Reads.state c.args.space.now) (head_of c.args.end.head) c.args.end.node owns c.args.rel _
+    (g.S.Reads.state c.push_counted.new.space) (g.S.Reads.state c.set_number.new.space) (c.in_ok-push_counted.ensures.ok tells)
+    (c.in_ok-set_number.ensures.ok tells)
+
+pub returns-in_err-push_counted-clause-mark : goal.returns-in_err-push_counted-clause-mark
+returns-in_err-push_counted-clause-mark g c _ _ = never_ok c.from_residual.result _ _ c.from_residual.ensures.1
+
+pub returns-in_err-set_number-clause-mark : goal.returns-in_err-set_number-clause-mark
+returns-in_err-set_number-clause-mark g c _ _ = never_ok c.from_residual-in_err-set_number.result _ _ c.from_residual-in_err-set_number.ensures.1

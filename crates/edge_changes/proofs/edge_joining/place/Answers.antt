@@ -1,25 +1,28 @@
-use Rattle.std.proofs.Common.{◌≡◌, ℕ, [], ◌∷◌, ◌∙◌, ap, inl, inr, ⊎_elim, refl, subst, rules}
+use Rattle.std.proofs.Common.{◌≡◌, ◌⊎◌, ℕ, [], ◌∷◌, ◌∙◌, ap, inl, inr, ⊎_elim, refl, subst, rules}
 use Rattle.rec_bytes.specs.Format as format
 use Rattle.rec_bytes.specs.RecordFiles.{meta_key_of}
 use Rattle.rec_bytes.specs.Space.{State, WritesOnly, after_put}
 use Rattle.rec_bytes.proofs.Spaces.{writes_more, writes_then}
 use Rattle.store_rules.specs.Writes.{meta_keys}
 use Rattle.rel_store.specs.declared.rel_row.RelRow.{RelRow}
-use Rattle.rel_store.specs.RelRecord.{rel_key, rel_record}
+use Rattle.rel_store.specs.RelRecord.{rel_key, rel_record, row_of}
 use Rattle.change_parts.specs.ChangeFault.{IsOutside, IsFailure, of_space}
 use Rattle.change_parts.proofs.Exits.{fault_exit, space_fails}
 use Rattle.change_parts.proofs.Takes.{taken-shape}
 use Rattle.store_rules.proofs.WriteLaws.{among_metas}
 use Rattle.change_parts.proofs.Writes.{on_any_err, only_read}
 use Rattle.change_parts.proofs.DiskCauses.{space_cause_passed, later_on}
-use Rattle.change_parts.specs.Damage.{BlamesBroken}
+use Rattle.change_parts.specs.Damage.{BlamesBroken, IfBlames}
 use Rattle.edge_changes.specs.EdgeJoining.{new_row}
 use Rattle.edge_changes.proofs.EdgeBlames.{heads_given}
 use Rattle.edge_changes.proofs.JoinBlames.{placed_only}
 use Rattle.change_parts.proofs.Adding.{space_blamed}
 use Rattle.rec_bytes.proofs.Causes.{never_ok, ok_cause}
-use Rattle.edge_changes.specs.EdgeAdding.{BlamesChains}
-use Rattle.edge_changes.proofs.EdgeFound.{blames_kept, found_placed, found_read}
+use Rattle.id_freelist.specs.ListDamage.{IsListDamage}
+use Rattle.group_store.specs.Naming.{IsOfMarks}
+use Rattle.change_parts.proofs.Broken.{blames_more}
+use Rattle.edge_changes.specs.EdgeAdding.{IsChainDamage}
+use Rattle.edge_changes.proofs.EdgeFound.{found_placed, placed_nodes, placed_used, taken_found}
 use Rattle.edge_changes.proofs.edge_joining.place.Goals as goal
 use Rattle.edge_changes.proofs.edge_joining.place.Goals.{After-save, In_ok-id}
 use Rattle.edge_changes.proofs.edge_joining.place.Given.{Over}
@@ -144,12 +147,47 @@ returns-in_err-id-clause-found g c tells =
     let s = g.S.Reads.state c.args.space.now in
     let t = g.S.Reads.state c.take_id.new.space in
     let fault = c.in_err-id.field-0.0 in
-    fault_exit (λ f. f) (BlamesChains s t c.args.from c.args.to) fault c.from_residual.result c.from_residual.ensures.1
-    (blames_kept s t c.args.from c.args.to (found_read s t c.args.from c.args.to c.in_err-id.ensures.err) fault)
+    fault_exit (λ f. f) (IfBlames (IsChainDamage s t (λ _. ⊥))) fault c.from_residual.result c.from_residual.ensures.1
+    (blames_more (λ damage. IsOfMarks damage ⊎ IsListDamage s.records s.shape format.relationships_file damage) (IsChainDamage s t (λ _. ⊥))
+    (taken_found s t c.in_err-id.ensures.err) fault (c.in_err-id.ensures.found tells))
 
 pub returns-in_err-save-clause-found : goal.returns-in_err-save-clause-found
 returns-in_err-save-clause-found g c tells =
     let s = g.S.Reads.state c.args.space.now in
     let t = g.S.Reads.state c.save.new.space in
-    fault_exit of_space (BlamesChains s t c.args.from c.args.to) c.in_err-save.field-0.0 c.from_residual-in_err-save.result
+    fault_exit of_space (IfBlames (IsChainDamage s t (λ _. ⊥))) c.in_err-save.field-0.0 c.from_residual-in_err-save.result
     c.from_residual-in_err-save.ensures.1 (space_blamed _ c.in_err-save.field-0.0)
+
+-- ---- no node is written
+
+pub returns-clause-nodes : goal.returns-clause-nodes
+returns-clause-nodes g c tells x =
+    let s = g.S.Reads.state c.args.space.now in
+    let t = g.S.Reads.state c.take_id.new.space in
+    let u = g.S.Reads.state c.save.new.space in
+    let id = c.in_ok-id.id in
+    placed_nodes s u id
+    (placed_only s t u id (rel_record (new_row id c.args.label c.args.from c.args.to)) (c.take_id.ensures.stays tells)
+    (c.in_ok-save.ensures.ok ∙ ap (λ (r : RelRow). after_put t (rel_key r.id) (rel_record r)) c.new_row.ensures)) x
+
+pub returns-in_err-id-clause-nodes : goal.returns-in_err-id-clause-nodes
+returns-in_err-id-clause-nodes g c _ = never_ok c.from_residual.result _ _ c.from_residual.ensures.1
+
+pub returns-in_err-save-clause-nodes : goal.returns-in_err-save-clause-nodes
+returns-in_err-save-clause-nodes g c _ = never_ok c.from_residual-in_err-save.result _ _ c.from_residual-in_err-save.ensures.1
+
+-- ---- the free list of the relationships
+pub returns-clause-lists : goal.returns-clause-lists
+returns-clause-lists g c tells =
+    let t = g.S.Reads.state c.take_id.new.space in
+    let row = new_row c.in_ok-id.id c.args.label c.args.from c.args.to in
+    let got = subst (λ (r : RelRow). row_of ((g.S.Reads.state c.save.new.space).records (rel_key r.id)) r.id ≡ r) c.new_row.ensures c.in_ok-save.ensures.got in
+    c.in_ok-id.ensures.lists tells (g.S.Reads.state c.save.new.space) (rel_record row)
+    (c.in_ok-save.ensures.ok ∙ ap (λ (r : RelRow). after_put t (rel_key r.id) (rel_record r)) c.new_row.ensures)
+    (placed_used _ row got)
+
+pub returns-in_err-id-clause-lists : goal.returns-in_err-id-clause-lists
+returns-in_err-id-clause-lists g c _ = never_ok c.from_residual.result _ _ c.from_residual.ensures.1
+
+pub returns-in_err-save-clause-lists : goal.returns-in_err-save-clause-lists
+returns-in_err-save-clause-lists g c _ = never_ok c.from_residual-in_err-save.result _ _ c.from_residual-in_err-save.ensures.1

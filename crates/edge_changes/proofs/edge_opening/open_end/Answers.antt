@@ -1,4 +1,7 @@
-use Rattle.std.proofs.Common.{rules}
+use Rattle.std.proofs.Common.{ap, rules}
+use Rattle.rec_bytes.specs.Format as format
+use Rattle.rec_bytes.specs.Space.{State}
+use Rattle.store_rules.specs.Views.{key_in}
 use Rattle.change_parts.specs.ChangeFault.{of_fault}
 use Rattle.change_parts.specs.Damage.{BlamesLinking}
 use Rattle.change_parts.proofs.Exits.{fault_exit}
@@ -65,4 +68,12 @@ returns-in_err-head-clause-found g c tells =
     let t = g.S.Reads.state c.open_chain.new.space in
     let node = c.args.end.node in
     fault_exit of_fault (BlamesChains s t node node) c.in_err-head.field-0.0 c.from_residual.result c.from_residual.ensures.1
-    (open_blames s t node c.in_err-head.field-0.0 (c.in_err-head.ensures.stays tells))
+    (open_blames s t node c.in_err-head.field-0.0 (c.in_err-head.ensures.names tells) (c.in_err-head.ensures.named tells) (c.in_err-head.ensures.stays tells))
+
+-- where the chain begins at the node, nothing is written
+pub returns-clause-bare : goal.returns-clause-bare
+returns-clause-bare g c tells own =
+    ap (λ (z : State). z.records (key_in format.nodes_file c.args.end.node)) (c.in_ok-head.ensures.bare tells own)
+
+pub returns-in_err-head-clause-bare : goal.returns-in_err-head-clause-bare
+returns-in_err-head-clause-bare g c _ = never_ok c.from_residual.result _ _ c.from_residual.ensures.1

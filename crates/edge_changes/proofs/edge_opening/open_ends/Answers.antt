@@ -22,9 +22,11 @@ use Rattle.edge_changes.proofs.OpenWrites.{both_wrote}
 use Rattle.std.proofs.Common.{inl, inr}
 use Rattle.edge_changes.specs.declared.edge_end.Ends.{Ends}
 use Rattle.edge_changes.specs.EdgeEnds.{source_of, target_of}
-use Rattle.edge_changes.specs.EdgeAdding.{BlamesChains}
+use Rattle.edge_changes.specs.EdgeAdding.{BlamesChains, IsChainDamage, IsOfNodes}
 use Rattle.edge_changes.specs.EdgeOpening.{from_of, to_of}
-use Rattle.edge_changes.proofs.EdgeFound.{blames_then, end_blames, ends_found, found_then}
+use Rattle.edge_changes.proofs.EdgeFound.{bare_beside, chain_then, end_blames, ends_found, found_then, other_beside}
+use Rattle.change_parts.proofs.Broken.{blames_more}
+use Rattle.edge_changes.proofs.RelDamages.{rels_beside, rels_then}
 use Rattle.rec_bytes.proofs.Causes.{never_ok}
 use Rattle.edge_changes.proofs.edge_opening.open_ends.Goals as goal
 use Rattle.edge_changes.proofs.edge_opening.open_ends.Goals.{In_ok-first-in-Two}
@@ -260,6 +262,29 @@ returns-in_err-first-in-Two-clause-leaves g c _ = never_ok c.from_residual-in_er
 pub returns-in_err-last-in-Two-clause-leaves : goal.returns-in_err-last-in-Two-clause-leaves
 returns-in_err-last-in-Two-clause-leaves g c _ = never_ok c.from_residual-in_err-last-in-Two.result _ _ c.from_residual-in_err-last-in-Two.ensures.1
 
+pub returns-in_ok-only-in-Loop-clause-rels : goal.returns-in_ok-only-in-Loop-clause-rels
+returns-in_ok-only-in-Loop-clause-rels g c tells =
+    rels_beside (g.S.Reads.state c.args.space.now) (g.S.Reads.state c.open_end.new.space) c.in-Loop.end.node
+    (g.met.S.Reads.onward_shape _ _ c.in_ok-only-in-Loop.ensures.onward) (c.in_ok-only-in-Loop.ensures.beside tells)
+
+pub returns-in_ok-last-in-Two-clause-rels : goal.returns-in_ok-last-in-Two-clause-rels
+returns-in_ok-last-in-Two-clause-rels g c tells =
+    let s = g.S.Reads.state c.args.space.now in
+    let m = g.S.Reads.state c.open_end-in-Two.new.space in
+    let t = g.S.Reads.state c.open_end-in-Two-2.new.space in
+    rels_then s m t
+    (rels_beside s m c.in-Two.source.node (g.met.S.Reads.onward_shape _ _ c.in_ok-first-in-Two.ensures.onward) (c.in_ok-first-in-Two.ensures.beside tells))
+    (rels_beside m t c.in-Two.target.node (g.met.S.Reads.onward_shape _ _ c.in_ok-last-in-Two.ensures.onward) (c.in_ok-last-in-Two.ensures.beside tells))
+
+pub returns-in_err-only-in-Loop-clause-rels : goal.returns-in_err-only-in-Loop-clause-rels
+returns-in_err-only-in-Loop-clause-rels g c _ = never_ok c.from_residual.result _ _ c.from_residual.ensures.1
+
+pub returns-in_err-first-in-Two-clause-rels : goal.returns-in_err-first-in-Two-clause-rels
+returns-in_err-first-in-Two-clause-rels g c _ = never_ok c.from_residual-in_err-first-in-Two.result _ _ c.from_residual-in_err-first-in-Two.ensures.1
+
+pub returns-in_err-last-in-Two-clause-rels : goal.returns-in_err-last-in-Two-clause-rels
+returns-in_err-last-in-Two-clause-rels g c _ = never_ok c.from_residual-in_err-last-in-Two.result _ _ c.from_residual-in_err-last-in-Two.ensures.1
+
 pub returns-in_err-only-in-Loop-clause-found : goal.returns-in_err-only-in-Loop-clause-found
 returns-in_err-only-in-Loop-clause-found g c tells =
     let s = g.S.Reads.state c.args.space.now in
@@ -288,9 +313,45 @@ returns-in_err-last-in-Two-clause-found g c tells =
     let t = g.S.Reads.state c.open_end-in-Two-2.new.space in
     let from = from_of c.args.joint in
     let to = to_of c.args.joint in
-    let leaves = sym (ap (λ (e : Ends EndDegree). (source_of e).node) c.in-Two.is) in
     let enters = sym (ap (λ (e : Ends EndDegree). (target_of e).node) c.in-Two.is) in
     let fault = c.in_err-last-in-Two.field-0.0 in
+    let a = c.in-Two.source.node in
+    let b = c.in-Two.target.node in
+    let differ : a ≢ b = subst (AreApart (λ (end : EndDegree). end.node)) c.in-Two.is c.requires.apart in
+    let beside = c.in_ok-first-in-Two.ensures.beside tells in
     fault_exit (λ f. f) (BlamesChains s t from to) fault c.from_residual-in_err-last-in-Two.result c.from_residual-in_err-last-in-Two.ensures.1
-    (blames_then s m t from to (ends_found s m from to c.in-Two.source.node (inl leaves) (c.in_ok-first-in-Two.ensures.leaves tells)) fault
-    (end_blames m t from to c.in-Two.target.node (inr enters) fault (c.in_err-last-in-Two.ensures.found tells)))
+    (end_blames s t from to b (inr enters) fault
+    (blames_more (IsChainDamage m t (IsOfNodes b b)) (IsChainDamage s t (IsOfNodes b b)) (chain_then s m t (IsOfNodes b b)
+    (rels_beside s m a (g.met.S.Reads.onward_shape _ _ c.in_ok-first-in-Two.ensures.onward) beside)
+    (other_beside s m a b (λ (e : b ≡ a). differ (sym e)) beside)) fault (c.in_err-last-in-Two.ensures.found tells)))
+
+-- ---- an end whose chain begins at its node
+
+pub returns-in_ok-only-in-Loop-clause-bare : goal.returns-in_ok-only-in-Loop-clause-bare
+returns-in_ok-only-in-Loop-clause-bare g c tells = c.in_ok-only-in-Loop.ensures.bare tells
+
+pub returns-in_ok-last-in-Two-clause-bare : goal.returns-in_ok-last-in-Two-clause-bare
+returns-in_ok-last-in-Two-clause-bare g c tells =
+    let s = g.S.Reads.state c.args.space.now in
+    let m = g.S.Reads.state c.open_end-in-Two.new.space in
+    let t = g.S.Reads.state c.open_end-in-Two-2.new.space in
+    let a = c.in-Two.source.node in
+    let b = c.in-Two.target.node in
+    let differ : a ≢ b = subst (AreApart (λ (end : EndDegree). end.node)) c.in-Two.is c.requires.apart in
+    let first : c.in_ok-first-in-Two.first.node ≡ a = ap (λ (e : EdgeEnd). e.node) c.in_ok-first-in-Two.ensures.is in
+    let last : c.in_ok-last-in-Two.last.node ≡ b = ap (λ (e : EdgeEnd). e.node) c.in_ok-last-in-Two.ensures.is in (
+      (λ own. bare_beside m t b c.in_ok-first-in-Two.first.node (λ (e : c.in_ok-first-in-Two.first.node ≡ b). differ (sym first ∙ e))
+          (c.in_ok-last-in-Two.ensures.beside tells) ∙ c.in_ok-first-in-Two.ensures.bare tells own),
+      (λ own. c.in_ok-last-in-Two.ensures.bare tells own
+          ∙ bare_beside s m a c.in_ok-last-in-Two.last.node (λ (e : c.in_ok-last-in-Two.last.node ≡ a). differ (sym (sym last ∙ e)))
+          (c.in_ok-first-in-Two.ensures.beside tells)),
+    )
+
+pub returns-in_err-only-in-Loop-clause-bare : goal.returns-in_err-only-in-Loop-clause-bare
+returns-in_err-only-in-Loop-clause-bare g c _ = never_ok c.from_residual.result _ _ c.from_residual.ensures.1
+
+pub returns-in_err-first-in-Two-clause-bare : goal.returns-in_err-first-in-Two-clause-bare
+returns-in_err-first-in-Two-clause-bare g c _ = never_ok c.from_residual-in_err-first-in-Two.result _ _ c.from_residual-in_err-first-in-Two.ensures.1
+
+pub returns-in_err-last-in-Two-clause-bare : goal.returns-in_err-last-in-Two-clause-bare
+returns-in_err-last-in-Two-clause-bare g c _ = never_ok c.from_residual-in_err-last-in-Two.result _ _ c.from_residual-in_err-last-in-Two.ensures.1

@@ -23,11 +23,10 @@ use Rattle.change_parts.specs.Damage.{IsBroken}
 use Rattle.edge_changes.specs.EdgeAdding.{HasEndDegree}
 use Rattle.change_parts.specs.Damage.{IsLinkingDamage}
 use Rattle.edge_changes.proofs.EdgeBlames.{if_blames}
-use Rattle.std.proofs.Common.{◌⊎◌}
-use Rattle.change_parts.specs.Damage.{IsAsFound}
-use Rattle.edge_changes.specs.EdgeAdding.{BlamesChains, IsOfChains, KeepsButChains}
+use Rattle.edge_changes.specs.EdgeAdding.{BlamesChains, IsChainDamage, IsOfNodes, KeepsButChains}
+use Rattle.edge_changes.specs.EdgeJoining.{IsOfBare}
 use Rattle.edge_changes.specs.EdgeEnds.{target_of}
-use Rattle.edge_changes.proofs.EdgeFound.{found_then, on_ok, step_found}
+use Rattle.edge_changes.proofs.EdgeFound.{bare_kept, bare_nodes, chain_more, chain_then, found_then, marks_kept, on_ok}
 use Rattle.rec_bytes.proofs.Causes.{never_ok}
 use Rattle.edge_changes.proofs.edge_placing.put_edge.Goals as goal
 
@@ -151,9 +150,9 @@ returns-clause-found g c tells used =
     let to = to_of c.args.joint in
     let ends = c.in_ok-ends.ends in
     let nodes = c.in_ok-ends.ensures.nodes in
-    if_blames c.join_edge.result (λ damage. IsAsFound t u damage ⊎ IsOfChains (source_of ends).node (target_of ends).node damage)
-    (λ damage. IsAsFound s u damage ⊎ IsOfChains from to damage)
-    (λ damage told. step_found s t u from to (c.in_ok-ends.ensures.leaves tells) damage
-    (subst (λ n. IsAsFound t u damage ⊎ IsOfChains n to damage) nodes.0
-    (subst (λ n. IsAsFound t u damage ⊎ IsOfChains (source_of ends).node n damage) nodes.1 told)))
+    let marks = marks_kept s t from to (c.in_ok-ends.ensures.leaves tells) (c.in_ok-ends.ensures.beside tells) in
+    let keeps = bare_kept s t ends marks (c.in_ok-ends.ensures.bare tells) in
+    if_blames c.join_edge.result (IsChainDamage t u (IsOfBare ends)) (IsChainDamage s u (IsOfNodes from to))
+    (λ damage told. chain_more s u (IsOfBare ends) (IsOfNodes from to) (bare_nodes ends from to nodes.0 nodes.1) damage
+    (chain_then s t u (IsOfBare ends) (c.in_ok-ends.ensures.rels tells) keeps damage told))
     (c.join_edge.ensures.found tells (c.in_ok-ends.ensures.has tells used))
