@@ -3,13 +3,13 @@ use Rattle.std.specs.Prelude.{◌≡◌, ◌⊎◌, ℕ, ◌<◌, Bool, true, fa
 use Rattle.std.specs.Bool.{Decides}
 use Rattle.std.specs.List.{All}
 use Rattle.store_rules.specs.Chains.{In}
-use Rattle.record_lists.specs.Marks.{marked}
+use Rattle.record_lists.specs.Seen.{is_seen}
 use Rattle.record_lists.specs.declared.heads.Found.{Found}
 use Rattle.record_lists.specs.declared.heads.Found.TheVariants.{Nothing, Missing, Items}
 use Rattle.record_lists.specs.declared.heads.Broke.{Broke}
 use Rattle.record_lists.specs.declared.heads.Broke.TheVariants.{Head, Item}
 use Rattle.record_lists.specs.declared.heads.Told.{Told}
-use Rattle.record_lists.specs.declared.heads.Told.TheVariants.{Marked, Unlisted, Twice}
+use Rattle.record_lists.specs.declared.heads.Told.TheVariants.{Seen, Unlisted, Twice}
 
 -- The one list that a record must have is found, or there is none, or it needs none.
 abbrev pub FoundIs : Type 0 → (List ℕ → Type 0) → Found → Type 0
@@ -46,23 +46,23 @@ module _ (has : ℕ → Type 0) (lists : ℕ → List ℕ → Type 0) where
   abbrev pub IsOnce : ℕ → ℕ → Type 0
   IsOnce n p = (k l : ℕ) → k < n → l < n → AtHead k p → AtHead l p → k ≡ l
 
-  -- an item is in a list, and was marked or is in a list before
-  pub record IsTwice (n : ℕ) (marks : List Bool) (p : ℕ) : Type 0 where
+  -- an item is in a list, and was seen or is in a list before
+  pub record IsTwice (n : ℕ) (seen : List Bool) (p : ℕ) : Type 0 where
     pub head : ℕ
     pub below : head < n
     pub here : AtHead head p
-    pub before : (marked marks p ≡ true) ⊎ AmongHeads head p
+    pub before : (is_seen seen p ≡ true) ⊎ AmongHeads head p
 
   -- what became of the list of one record
   abbrev pub HeadTold : ℕ → List Bool → List Bool → Told → Type 0
-  HeadTold id old new Marked =
+  HeadTold id old new Seen =
       HeadKeeps id
-      × ((p : ℕ) → Decides (marked new p) ((marked old p ≡ true) ⊎ AtHead id p))
-      × ((p : ℕ) → AtHead id p → marked old p ≡ false)
+      × ((p : ℕ) → Decides (is_seen new p) ((is_seen old p ≡ true) ⊎ AtHead id p))
+      × ((p : ℕ) → AtHead id p → is_seen old p ≡ false)
   HeadTold id old new Unlisted = ¬ HeadKeeps id
-  HeadTold id old new (Twice p) = AtHead id p × (marked old p ≡ true)
+  HeadTold id old new (Twice p) = AtHead id p × (is_seen old p ≡ true)
 
   -- the record, or the item, that breaks the rule
   abbrev pub BrokeIs : ℕ → List Bool → Broke → Type 0
-  BrokeIs n marks (Head id) = (id < n) × (¬ HeadKeeps id)
-  BrokeIs n marks (Item p) = IsTwice n marks p
+  BrokeIs n seen (Head id) = (id < n) × (¬ HeadKeeps id)
+  BrokeIs n seen (Item p) = IsTwice n seen p

@@ -1,6 +1,6 @@
 pub mod Deciding
 pub mod Heads
 pub mod Lines
-pub mod Marks
+pub mod Seen
 pub mod Numbers
-pub mod Unmarked
+pub mod Unseen

@@ -4,7 +4,7 @@ ghost use Rattle.std.specs.Bool.{Decides};
 ghost use Rattle.rec_bytes.specs.Frame.{IsRead};
 ghost use Rattle.rec_bytes.specs.Space.{HasCause};
 ghost use Rattle.store_rules.specs.Views.{Records};
-ghost use Rattle.record_lists.specs.Marks.{marked};
+ghost use Rattle.record_lists.specs.Seen.{is_seen};
 ghost use Rattle.record_lists.specs.Heads.{
   AmongHeads,
   AtHead,
@@ -16,7 +16,7 @@ ghost use Rattle.record_lists.specs.Heads.{
   IsOnce,
 };
 
-use crate::marks::{first_marked, mark_all};
+use crate::seen::{first_seen, see_all};
 use rec_bytes::{Reads, SpaceFault};
 use std::alloc::Global;
 
@@ -35,11 +35,11 @@ pub enum Broke {
     Item(u32),
 }
 
-/// What became of the list of a record: its items are marked now, there is no list, or an item was
-/// marked before.
+/// What became of the list of a record: its items are seen now, there is no list, or an item was
+/// seen before.
 #[derive(Clone, Copy)]
 pub enum Told {
-    Marked,
+    Seen,
     Unlisted,
     Twice(u32),
 }
@@ -56,14 +56,14 @@ pub trait Heads {
     ghost suits: { Self → Records → Type 0 };
 
     /// So many records may be heads.
-    ghost mark: { Self → ℕ };
+    ghost count: { Self → ℕ };
 
     /// Items are below it.
     ghost bound: { Self → ℕ };
 
     /// The list of a record.
     fn list<R: Reads>(&self, alloc: Global, space: &mut R, id: u32) -> Result<Found, SpaceFault>
-        requires id { id < mark self.now }
+        requires id { id < count self.now }
         requires suits { suits self.now (R.state space.old).records }
         ensures told { R.tells → IfOk result (FoundIs
             (has self.now (R.state space.old).records id)
@@ -73,54 +73,54 @@ pub trait Heads {
         ensures cause { HasCause (R.faults space.old) (R.faults space.new) result };
 }
 
-/// Marks the items in the list of a record.
-fn mark_head<R: Reads, H: Heads>(
+/// Sees the items in the list of a record.
+fn see_head<R: Reads, H: Heads>(
     alloc: Global,
     space: &mut R,
     heads: &H,
     id: u32,
-    marks: &mut [bool],
+    seen: &mut [bool],
 ) -> Result<Told, SpaceFault>
-    requires id { id < H.mark heads.now }
+    requires id { id < H.count heads.now }
     requires suits { H.suits heads.now (R.state space.old).records }
-    requires marks { H.bound heads.now ≤ length marks.old }
+    requires seen { H.bound heads.now ≤ length seen.old }
     ensures told { R.tells → IfOk result (HeadTold
         (H.has heads.now (R.state space.old).records)
-        (H.lists heads.now (R.state space.old).records) id marks.old marks.new) }
-    ensures len { length marks.new ≡ length marks.old }
+        (H.lists heads.now (R.state space.old).records) id seen.old seen.new) }
+    ensures len { length seen.new ≡ length seen.old }
     ensures read { IsRead R.Reads space.old space.new }
     ensures cause { HasCause (R.faults space.old) (R.faults space.new) result }
 {
     match heads.list(alloc, space, id)? {
-        Found::Nothing => Ok(Told::Marked),
+        Found::Nothing => Ok(Told::Seen),
         Found::Missing => Ok(Told::Unlisted),
         Found::Items(items) => {
-            if let Some(item) = first_marked(marks, &items) {
+            if let Some(item) = first_seen(seen, &items) {
                 return Ok(Told::Twice(item));
             }
-            mark_all(marks, &items);
-            Ok(Told::Marked)
+            see_all(seen, &items);
+            Ok(Told::Seen)
         }
     }
 }
 
-/// Marks the items in the lists of the first so many records, or finds what breaks the rule: a
+/// Sees the items in the lists of the first so many records, or finds what breaks the rule: a
 /// record without its list, or an item that is in two lists.
 pub fn list_heads<R: Reads, H: Heads>(
     alloc: Global,
     space: &mut R,
     heads: &H,
     count: u32,
-    marks: &mut [bool],
+    seen: &mut [bool],
 ) -> Result<Option<Broke>, SpaceFault>
-    requires count { count ≤ H.mark heads.now }
+    requires count { count ≤ H.count heads.now }
     requires suits { H.suits heads.now (R.state space.old).records }
-    requires marks { H.bound heads.now ≤ length marks.old }
+    requires seen { H.bound heads.now ≤ length seen.old }
     ensures keeps { R.tells → IfOk result (λ found. IfNone found ((k : ℕ) → k < count → HeadKeeps
         (H.has heads.now (R.state space.old).records)
         (H.lists heads.now (R.state space.old).records) k)) }
-    ensures marks { R.tells → IfOk result (λ found. IfNone found ((p : ℕ) → Decides
-        (marked marks.new p) ((marked marks.old p ≡ true) ⊎ AmongHeads
+    ensures seen { R.tells → IfOk result (λ found. IfNone found ((p : ℕ) → Decides
+        (is_seen seen.new p) ((is_seen seen.old p ≡ true) ⊎ AmongHeads
         (H.has heads.now (R.state space.old).records)
         (H.lists heads.now (R.state space.old).records) count p))) }
     ensures once { R.tells → IfOk result (λ found. IfNone found ((p : ℕ) → IsOnce
@@ -128,17 +128,17 @@ pub fn list_heads<R: Reads, H: Heads>(
         (H.lists heads.now (R.state space.old).records) count p)) }
     ensures fresh { R.tells → IfOk result (λ found. IfNone found ((k : ℕ) → k < count → (p : ℕ)
         → AtHead (H.has heads.now (R.state space.old).records)
-        (H.lists heads.now (R.state space.old).records) k p → marked marks.old p ≡ false)) }
+        (H.lists heads.now (R.state space.old).records) k p → is_seen seen.old p ≡ false)) }
     ensures broken { R.tells → IfOk result (λ found. IfSome found (BrokeIs
         (H.has heads.now (R.state space.old).records)
-        (H.lists heads.now (R.state space.old).records) count marks.old)) }
-    ensures len { length marks.new ≡ length marks.old }
+        (H.lists heads.now (R.state space.old).records) count seen.old)) }
+    ensures len { length seen.new ≡ length seen.old }
     ensures read { IsRead R.Reads space.old space.new }
     ensures cause { HasCause (R.faults space.old) (R.faults space.new) result }
 {
     for id in 0..count {
-        match mark_head(alloc, space, heads, id, marks)? {
-            Told::Marked => {}
+        match see_head(alloc, space, heads, id, seen)? {
+            Told::Seen => {}
             Told::Unlisted => return Ok(Some(Broke::Head(id))),
             Told::Twice(item) => return Ok(Some(Broke::Item(item))),
         }

@@ -12,14 +12,14 @@ pub trait Sentence {
     ghost suits: { Self → Records → Type 0 };
 
     /// So many records it speaks of.
-    ghost mark: { Self → ℕ };
+    ghost count: { Self → ℕ };
 
     /// What it says of a record.
     ghost says: { Self → Records → ℕ → Type 0 };
 
     /// Whether it is true of a record.
     fn holds<R: Reads>(&self, space: &mut R, id: u32) -> Result<bool, SpaceFault>
-        requires id { id < mark self.now }
+        requires id { id < count self.now }
         requires suits { suits self.now (R.state space.old).records }
         ensures told { R.tells → IfOk result
             (λ holds. Decides holds (says self.now (R.state space.old).records id)) }
@@ -33,7 +33,7 @@ pub fn find_false<R: Reads, S: Sentence>(
     sentence: &S,
     count: u32,
 ) -> Result<Option<u32>, SpaceFault>
-    requires count { count ≤ S.mark sentence.now }
+    requires count { count ≤ S.count sentence.now }
     requires suits { S.suits sentence.now (R.state space.old).records }
     ensures none { R.tells → IfOk result (λ found. IfNone found
         ((x : ℕ) → x < count → S.says sentence.now (R.state space.old).records x)) }

@@ -2,10 +2,10 @@ use Rattle.std.proofs.Common.{rules, subst, arith}
 use Rattle.record_lists.proofs.LineLaws.{in_from_among}
 use Rattle.record_lists.specs.declared.heads.Found.TheVariants.{Items}
 use Rattle.record_lists.specs.Heads.{FoundIs}
-use Rattle.record_lists.proofs.HeadLaws.{told_marked}
+use Rattle.record_lists.proofs.HeadLaws.{told_seen}
 use Rattle.rec_bytes.proofs.Causes.{never_ok, ok_cause}
 use Rattle.record_lists.proofs.Causes.{cause_passed}
-use Rattle.record_lists.proofs.heads.mark_head.Goals as goal
+use Rattle.record_lists.proofs.heads.see_head.Goals as goal
 
 pub returns-in-Some-clause-told : goal.returns-in-Some-clause-told
 returns-in-Some-clause-told g c tells =
@@ -24,7 +24,7 @@ returns-in_default-clause-told g c tells =
     let lists = g.H.Heads.lists heads records in
     let found : FoundIs (has c.args.id) (lists c.args.id) (Items c.in-Items.items) =
     subst (FoundIs (has c.args.id) (lists c.args.id)) c.in-Items.is (c.in_ok-list.ensures.told tells) in
-    told_marked has lists c.args.id c.in-Items.items.items c.args.marks.now c.mark_all.new.marks found.0 found.1 found.2 (search rules) (search rules)
+    told_seen has lists c.args.id c.in-Items.items.items c.args.seen.now c.see_all.new.seen found.0 found.1 found.2 (search rules) (search rules)
 
 pub returns-in_err-list-clause-told : goal.returns-in_err-list-clause-told
 returns-in_err-list-clause-told g c _ = never_ok c.from_residual.result _ _ c.from_residual.ensures.1

@@ -4,52 +4,52 @@ ghost use Rattle.rec_bytes.specs.Frame.{IsRead};
 ghost use Rattle.rec_bytes.specs.RecordFiles.{is_meta_file};
 ghost use Rattle.rec_bytes.specs.Space.{HasCause};
 ghost use Rattle.store_rules.specs.Views.{high, is_live};
-ghost use Rattle.record_lists.specs.Marks.{marked};
-ghost use Rattle.record_lists.specs.Unmarked.{IsMarked, IsOnMarked};
+ghost use Rattle.record_lists.specs.Seen.{is_seen};
+ghost use Rattle.record_lists.specs.Unseen.{IsSeen, IsOnSeen};
 
 use crate::sentence::{Sentence, find_false};
 use rec_bytes::{FREE, KIND, Key, Reads, SpaceFault};
 
-/// A record in use has a mark.
+/// A record in use is seen.
 #[derive(Drop)]
 pub struct Held<'a> {
     pub(crate) file: u8,
-    pub(crate) marks: &'a [bool],
+    pub(crate) seen: &'a [bool],
 }
 
 impl<'a> Sentence for Held<'a> {
-    ghost suits = { IsOnMarked };
+    ghost suits = { IsOnSeen };
 
-    ghost mark = { λ held. length held.marks.now };
+    ghost count = { λ held. length held.seen.now };
 
-    ghost says = { IsMarked };
+    ghost says = { IsSeen };
 
     fn holds<R: Reads>(&self, space: &mut R, id: u32) -> Result<bool, SpaceFault> {
         let rec = space.get(Key {
             file: self.file,
             id,
         })?;
-        Ok(rec.byte(KIND) == FREE || self.marks[id as usize])
+        Ok(rec.byte(KIND) == FREE || self.seen[id as usize])
     }
 }
 
-/// The first record of a file that is in use and has no mark.
-pub fn find_unmarked<R: Reads>(
+/// The first record of a file that is in use and not seen.
+pub fn find_unseen<R: Reads>(
     space: &mut R,
     file: u8,
-    marks: &[bool],
+    seen: &[bool],
 ) -> Result<Option<u32>, SpaceFault>
     requires file { is_meta_file file ≡ true }
     requires low { high (R.state space.old).records file ≤ most_ids }
-    requires marks { length marks.now ≡ high (R.state space.old).records file }
+    requires seen { length seen.now ≡ high (R.state space.old).records file }
     ensures none { R.tells → IfOk result (λ found. IfNone found
         ((x : ℕ) → x < high (R.state space.old).records file
-        → is_live (R.state space.old).records file x ≡ true → marked marks.now x ≡ true)) }
+        → is_live (R.state space.old).records file x ≡ true → is_seen seen.now x ≡ true)) }
     ensures found { R.tells → IfOk result (λ found. IfSome found
-        (λ x. ¬ (is_live (R.state space.old).records file x ≡ true → marked marks.now x ≡ true))) }
+        (λ x. ¬ (is_live (R.state space.old).records file x ≡ true → is_seen seen.now x ≡ true))) }
     ensures read { IsRead R.Reads space.old space.new }
     ensures cause { HasCause (R.faults space.old) (R.faults space.new) result }
 {
     let count = space.meta(file).high;
-    find_false(space, &Held { file, marks }, count)
+    find_false(space, &Held { file, seen }, count)
 }

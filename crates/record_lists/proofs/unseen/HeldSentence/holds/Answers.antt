@@ -4,7 +4,7 @@ use Rattle.store_rules.proofs.NumberLaws.{eq_true}
 use Rattle.record_lists.proofs.RecordLaws.{free_read, live_read}
 use Rattle.record_lists.proofs.Causes.{cause_passed}
 use Rattle.record_lists.proofs.OnlyReads.{is_read-get}
-use Rattle.record_lists.proofs.unmarked.HeldSentence.holds.Goals as goal
+use Rattle.record_lists.proofs.unseen.HeldSentence.holds.Goals as goal
 
 pub returns-then-byte-eq-FREE-clause-told : goal.returns-then-byte-eq-FREE-clause-told
 returns-then-byte-eq-FREE-clause-told g c = λ tells.
