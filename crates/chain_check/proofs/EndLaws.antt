@@ -1,4 +1,4 @@
--- The ends of relationships in the chains of nodes and of groups, and what marks of them say.
+-- The ends of relationships in the chains of nodes and of groups, and what it says that they are seen.
 use Rattle.std.proofs.Common.{◌≡◌, ◌≢◌, ◌⊎◌, ℕ, ◌+◌, ◌*◌, ◌/◌, ◌<◌, Bool, true, false, cond, ◌||◌, Some, List, map, sym}
 use Rattle.std.proofs.Common.{ap, ◌∙◌, subst, inl, inr, ⊎_elim, arith, refl}
 use Rattle.std.specs.Bool.{Decides}
@@ -18,8 +18,8 @@ use Rattle.store_rules.specs.Breaking.{ChainedHead, EndKeeps, GroupKeeps, IsChai
 use Rattle.store_rules.specs.Breaking.{IsOnChain, IsOnOwnChain, NodeKeeps, RelKeeps, group_head}
 use Rattle.chain_check.specs.declared.chains.Side.TheVariants.{Any}
 use Rattle.record_lists.specs.Heads.{AmongHeads, AtHead, HeadKeeps, IsOnce, IsTwice}
-use Rattle.chain_check.specs.Chained.{MarksChains}
-use Rattle.record_lists.specs.Marks.{marked}
+use Rattle.chain_check.specs.Chained.{SeesChains}
+use Rattle.record_lists.specs.Seen.{is_seen}
 use Rattle.chain_check.specs.NodeChains.{AreGroupEnds, AreHeadEnds, AreNodeEnds, EndHolds, IsChained, IsMet, IsSparse}
 use Rattle.chain_check.specs.NodeChains.{RelHolds, end_in, end_of, enters, group_of, leaves, owner_at, place_of}
 use Rattle.chain_check.proofs.ChainedLaws.{owned_low}
@@ -125,9 +125,9 @@ module _ (records : Records) where
   node_end n p a = let m = met_in (rules.node_head n) n p a.items (node_own n a.must) a.listed a.member in m.end
 
   -- so no end is met twice in the chains of sparse nodes
-  pub never_twice : (n : ℕ) (marks : List Bool) (p : ℕ) → ((q : ℕ) → marked marks q ≡ false) → ¬ IsTwice (IsSparse records) (AreNodeEnds records) n marks p
-  never_twice n marks p clear t = ⊎_elim
-      (λ (m : marked marks p ≡ true). true≢false (sym m ∙ clear p))
+  pub never_twice : (n : ℕ) (seen : List Bool) (p : ℕ) → ((q : ℕ) → is_seen seen q ≡ false) → ¬ IsTwice (IsSparse records) (AreNodeEnds records) n seen p
+  never_twice n seen p clear t = ⊎_elim
+      (λ (m : is_seen seen p ≡ true). true≢false (sym m ∙ clear p))
       (λ (a : AmongHeads (IsSparse records) (AreNodeEnds records) t.head p).
       let same = end_node a.id t.head p (node_end a.id p a.here) (node_end t.head p t.here) in
       let below : a.id < t.head = a.below in
@@ -142,17 +142,17 @@ module _ (records : Records) where
 
   -- ---- the chains of groups
 
-  module _ (chained : List Bool) (right : MarksChains records chained) where
+  module _ (chained : List Bool) (right : SeesChains records chained) where
     abbrev pub Begins : ℕ → Type 0
     Begins id = IsChained chained records (group_of id)
 
-    -- a group that has a mark is on the chain of the node that its record names
+    -- a group that is seen is on the chain of the node that its record names
     on_own : (g : ℕ) → IsChained chained records g → IsOnChain records (owner_at records g) g
-    on_own g c = let k = (right g).0 c.mark in let o = on_owned records k.0 g k.1 in subst (λ n. IsOnChain records n g) (sym o.owner) k.1
+    on_own g c = let k = (right g).0 c.seen in let o = on_owned records k.0 g k.1 in subst (λ n. IsOnChain records n g) (sym o.owner) k.1
 
-    -- and one that is there has a mark
+    -- and one that is there is seen
     chained_of : (n g : ℕ) → IsOnChain records n g → IsChained chained records g
-    chained_of n g on = let o = on_owned records n g on in record { live = o.used; mark = (right g).1 (n, on) }
+    chained_of n g on = let o = on_owned records n g on in record { live = o.used; seen = (right g).1 (n, on) }
 
     abbrev own_of : (id : ℕ) → Begins id → ChainedHead records (group_head (group_of id) (place_of id)) (owner_at records (group_of id))
     own_of id c =
@@ -220,11 +220,11 @@ module _ (records : Records) where
         half_end {k} {q} e = half_of e.rel q (leaves (rec_at records format.relationships_file e.rel) k) e.end
 
     -- so what is met twice doesn't
-    pub group_twice : (mark count : ℕ) (marks : List Bool) (p : ℕ) → ((q : ℕ) → Decides (marked marks q) (AmongHeads (IsSparse records) (AreNodeEnds records)
-        mark q)) → IsTwice Begins (AreGroupEnds records) count marks p
+    pub group_twice : (mark count : ℕ) (seen : List Bool) (p : ℕ) → ((q : ℕ) → Decides (is_seen seen q) (AmongHeads (IsSparse records) (AreNodeEnds records)
+        mark q)) → IsTwice Begins (AreGroupEnds records) count seen p
         → (x : ℕ) × (x ≡ p / 2) × (x < high records format.relationships_file) × (¬ RelKeeps records x)
-    group_twice mark count marks p told t = ⊎_elim
-        (λ (m : marked marks p ≡ true). let a = (told p).0 m in absurd (apart a.id t.head p a.here t.here))
+    group_twice mark count seen p told t = ⊎_elim
+        (λ (m : is_seen seen p ≡ true). let a = (told p).0 m in absurd (apart a.id t.head p a.here t.here))
         (λ (a : AmongHeads Begins (AreGroupEnds records) t.head p). two_heads a.id t.head p a.below a.here t.here)
         t.before
 
@@ -276,15 +276,15 @@ module _ (records : Records) where
     -- a group without a chain that it needs is on its owner's chain
     pub own_chain : (id : ℕ) → ¬ HeadKeeps Begins (AreGroupEnds records) id → IsOnOwnChain records (group_of id)
     own_chain id bad = ⊎_elim
-        (λ (m : marked chained (group_of id) ≡ true). (right (group_of id)).0 m)
-        (λ (f : marked chained (group_of id) ≡ false). absurd (bad (record { list = λ c. absurd (true≢false (sym c.mark ∙ f)) })))
-        (cases_Bool (marked chained (group_of id)))
+        (λ (m : is_seen chained (group_of id) ≡ true). (right (group_of id)).0 m)
+        (λ (f : is_seen chained (group_of id) ≡ false). absurd (bad (record { list = λ c. absurd (true≢false (sym c.seen ∙ f)) })))
+        (cases_Bool (is_seen chained (group_of id)))
 
-    -- ---- the marks of all chains
+    -- ---- what is seen in all chains
 
     module _ (first last : List Bool)
-        (nodes : (p : ℕ) → Decides (marked first p) (AmongHeads (IsSparse records) (AreNodeEnds records) (high records format.nodes_file) p))
-        (groups : (p : ℕ) → Decides (marked last p) ((marked first p ≡ true) ⊎ AmongHeads Begins (AreGroupEnds records) (3 * high records format.groups_file)
+        (nodes : (p : ℕ) → Decides (is_seen first p) (AmongHeads (IsSparse records) (AreNodeEnds records) (high records format.nodes_file) p))
+        (groups : (p : ℕ) → Decides (is_seen last p) ((is_seen first p ≡ true) ⊎ AmongHeads Begins (AreGroupEnds records) (3 * high records format.groups_file)
         p)) where
       node_met : (p : ℕ) → AmongHeads (IsSparse records) (AreNodeEnds records) (high records format.nodes_file) p → IsMet records p
       node_met p a = record {
@@ -334,9 +334,9 @@ module _ (records : Records) where
             };
           }
 
-      pub all_met : (p : ℕ) → Decides (marked last p) (IsMet records p)
+      pub all_met : (p : ℕ) → Decides (is_seen last p) (IsMet records p)
       all_met p = (
-        (λ t. ⊎_elim (λ (f : marked first p ≡ true). node_met p ((nodes p).0 f)) (λ a. among_met p a) ((groups p).0 t)),
+        (λ t. ⊎_elim (λ (f : is_seen first p ≡ true). node_met p ((nodes p).0 f)) (λ a. among_met p a) ((groups p).0 t)),
         (λ m. (groups p).1 (⊎_elim
             (λ s. inl ((nodes p).1 (record {
               id = m.node;
@@ -365,9 +365,9 @@ module _ (records : Records) where
               let same = once p k.id l.id k.low l.low k.here l.here in
               k.is ∙ ap (λ i. group_head (group_of i) (place_of i)) same ∙ sym l.is
 
-  -- ---- what the marks say of a relationship
+  -- ---- what is seen of a relationship
 
-  module _ (marks : List Bool) (told : (p : ℕ) → Decides (marked marks p) (IsMet records p))
+  module _ (seen : List Bool) (told : (p : ℕ) → Decides (is_seen seen p) (IsMet records p))
       (once : (p : ℕ) (one other : IsMet records p) → one.head ≡ other.head) where
     -- what is in a chain of the node is met
     abbrev in_met : (n x : ℕ) → IsInChain records n x → IsMet records (end_of records n x)
@@ -381,7 +381,7 @@ module _ (records : Records) where
     }
 
     end_keeps : (x n : ℕ) (row : RelRow) → rel_at records x ≡ Some row → rules.IsEnd n row
-        → EndHolds (kind_at records format.nodes_file) n (marked marks (end_of records n x)) → EndKeeps records n x
+        → EndHolds (kind_at records format.nodes_file) n (is_seen seen (end_of records n x)) → EndKeeps records n x
     end_keeps x n row live end h = record {
       node = h.node;
       chain = λ has.
@@ -396,19 +396,19 @@ module _ (records : Records) where
       once = λ one other. once (end_of records n x) (in_met n x one) (in_met n x other);
     }
 
-    end_holds : (x n : ℕ) → EndKeeps records n x → EndHolds (kind_at records format.nodes_file) n (marked marks (end_of records n x))
+    end_holds : (x n : ℕ) → EndKeeps records n x → EndHolds (kind_at records format.nodes_file) n (is_seen seen (end_of records n x))
     end_holds x n k = record {
       node = k.node;
       chain = λ has. (told (end_of records n x)).1 (in_met n x (k.chain has));
     }
 
-    pub rel_kept : (x : ℕ) → RelHolds (kind_at records format.nodes_file) records marks x → RelKeeps records x
+    pub rel_kept : (x : ℕ) → RelHolds (kind_at records format.nodes_file) records seen x → RelKeeps records x
     rel_kept x h = record {
       from = λ row live. end_keeps x row.from row live (inl refl) (h.from row live);
       to = λ row live. end_keeps x row.to row live (inr refl) (h.to row live);
     }
 
-    pub rel_holds : (x : ℕ) → RelKeeps records x → RelHolds (kind_at records format.nodes_file) records marks x
+    pub rel_holds : (x : ℕ) → RelKeeps records x → RelHolds (kind_at records format.nodes_file) records seen x
     rel_holds x k = record {
       from = λ row live. end_holds x row.from (k.from row live);
       to = λ row live. end_holds x row.to (k.to row live);
@@ -416,7 +416,7 @@ module _ (records : Records) where
 
 -- ---- the test of a relationship
 
-module _ (kind : ℕ → ℕ) (records : Records) (marks : List Bool) (x : ℕ) (r : Rec) (lt : x < high records format.relationships_file)
+module _ (kind : ℕ → ℕ) (records : Records) (seen : List Bool) (x : ℕ) (r : Rec) (lt : x < high records format.relationships_file)
     (e : r ≡ rec_at records format.relationships_file x) (some : field 1 r format.kind ≢ 0) where
   read_row : rel_at records x ≡ Some (rel_in r x)
   read_row =
@@ -428,28 +428,28 @@ module _ (kind : ℕ → ℕ) (records : Records) (marks : List Bool) (x : ℕ) 
   one_row row live = let same : Some (rel_in r x) ≡ Some row = sym read_row ∙ live in cc
 
   abbrev pub Holds : ℕ → Type 0
-  Holds n = EndHolds kind n (marked marks (end_in r n x))
+  Holds n = EndHolds kind n (is_seen seen (end_in r n x))
 
-  pub hold_both : Holds (field 4 r format.relationship_source) → Holds (field 4 r format.relationship_target) → RelHolds kind records marks x
+  pub hold_both : Holds (field 4 r format.relationship_source) → Holds (field 4 r format.relationship_target) → RelHolds kind records seen x
   hold_both a b = record {
-    from = λ row live. subst (λ (o : RelRow). EndHolds kind o.from (marked marks (end_of records o.from x))) (one_row row live)
-        (subst (λ q. EndHolds kind (field 4 r format.relationship_source) (marked marks (end_in q (field 4 r format.relationship_source) x))) e a);
-    to = λ row live. subst (λ (o : RelRow). EndHolds kind o.to (marked marks (end_of records o.to x))) (one_row row live)
-        (subst (λ q. EndHolds kind (field 4 r format.relationship_target) (marked marks (end_in q (field 4 r format.relationship_target) x))) e b);
+    from = λ row live. subst (λ (o : RelRow). EndHolds kind o.from (is_seen seen (end_of records o.from x))) (one_row row live)
+        (subst (λ q. EndHolds kind (field 4 r format.relationship_source) (is_seen seen (end_in q (field 4 r format.relationship_source) x))) e a);
+    to = λ row live. subst (λ (o : RelRow). EndHolds kind o.to (is_seen seen (end_of records o.to x))) (one_row row live)
+        (subst (λ q. EndHolds kind (field 4 r format.relationship_target) (is_seen seen (end_in q (field 4 r format.relationship_target) x))) e b);
   }
 
-  pub hold_from : RelHolds kind records marks x → Holds (field 4 r format.relationship_source)
-  hold_from h = subst (λ q. EndHolds kind (field 4 r format.relationship_source) (marked marks (end_in q (field 4 r format.relationship_source) x))) (sym e)
+  pub hold_from : RelHolds kind records seen x → Holds (field 4 r format.relationship_source)
+  hold_from h = subst (λ q. EndHolds kind (field 4 r format.relationship_source) (is_seen seen (end_in q (field 4 r format.relationship_source) x))) (sym e)
       (h.from (rel_in r x) read_row)
 
-  pub hold_to : RelHolds kind records marks x → Holds (field 4 r format.relationship_target)
-  hold_to h = subst (λ q. EndHolds kind (field 4 r format.relationship_target) (marked marks (end_in q (field 4 r format.relationship_target) x))) (sym e)
+  pub hold_to : RelHolds kind records seen x → Holds (field 4 r format.relationship_target)
+  hold_to h = subst (λ q. EndHolds kind (field 4 r format.relationship_target) (is_seen seen (end_in q (field 4 r format.relationship_target) x))) (sym e)
       (h.to (rel_in r x) read_row)
 
 -- a record that isn't in use is no relationship
-pub none_holds : (kind : ℕ → ℕ) (records : Records) (marks : List Bool) (x : ℕ) → kind_at records format.relationships_file x ≡ 0
-    → RelHolds kind records marks x
-none_holds kind records marks x e = record { from = λ row live. absurd (none row live); to = λ row live. absurd (none row live) }
+pub none_holds : (kind : ℕ → ℕ) (records : Records) (seen : List Bool) (x : ℕ) → kind_at records format.relationships_file x ≡ 0
+    → RelHolds kind records seen x
+none_holds kind records seen x e = record { from = λ row live. absurd (none row live); to = λ row live. absurd (none row live) }
   where
     none : (row : RelRow) → rel_at records x ≡ Some row → ⊥
     none row live = (some_row (kind_at records format.relationships_file x) (rel_in (rec_at records format.relationships_file x) x) row live).0 e

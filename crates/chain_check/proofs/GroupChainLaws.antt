@@ -22,7 +22,7 @@ use Rattle.record_lists.specs.declared.heads.Found.TheVariants.{Items, Missing, 
 use Rattle.chain_check.specs.Groups.{AreGroups, GroupsFound, group_line, is_group_of}
 use Rattle.record_lists.specs.Heads.{AmongHeads, AtHead, FoundIs, HeadKeeps, IsTwice}
 use Rattle.record_lists.specs.Lines.{IsLineIn}
-use Rattle.record_lists.specs.Marks.{marked}
+use Rattle.record_lists.specs.Seen.{is_seen}
 use Rattle.chain_check.specs.NodeChains.{IsDense}
 use Rattle.chain_check.proofs.ChainLaws.{chain_of_line, chain_one, line_of_chain, test_of_line}
 use Rattle.record_lists.proofs.LineLaws.{below_in, line_one}
@@ -183,7 +183,7 @@ module _ (records : Records) where
         (subst (λ (r : Records). AreGroups r mark n first v.items) read h)) in
         (dense, groups, (λ xs k. group_chain_one n xs v.items k groups))
 
-  -- ---- what the marks say
+  -- ---- what it says that they are seen
 
   -- a group is in the group chain of its owner alone
   owner_of : (n g : ℕ) → AtHead (IsDense records) (IsGroupChain records) n g → (row : GroupRow) × (group_at records g ≡ Some row) × (row.owner ≡ n)
@@ -195,9 +195,9 @@ module _ (records : Records) where
       let k = owner_of n g b in
       sym h.2 ∙ ap (λ (r : GroupRow). r.owner) (same_group h.0 k.0 (sym h.1 ∙ k.1)) ∙ k.2
 
-  pub never_twice : (n : ℕ) (marks : List Bool) (p : ℕ) → ((q : ℕ) → marked marks q ≡ false) → ¬ IsTwice (IsDense records) (IsGroupChain records) n marks p
-  never_twice n marks p clear t = ⊎_elim
-      (λ (m : marked marks p ≡ true). true≢false (sym m ∙ clear p))
+  pub never_twice : (n : ℕ) (seen : List Bool) (p : ℕ) → ((q : ℕ) → is_seen seen q ≡ false) → ¬ IsTwice (IsDense records) (IsGroupChain records) n seen p
+  never_twice n seen p clear t = ⊎_elim
+      (λ (m : is_seen seen p ≡ true). true≢false (sym m ∙ clear p))
       (λ (a : AmongHeads (IsDense records) (IsGroupChain records) t.head p).
       let same = owner_same a.id t.head p a.here t.here in
       let below : a.id < t.head = a.below in
@@ -210,18 +210,18 @@ module _ (records : Records) where
   pub head_of_keeps : (n : ℕ) → OwnerKeeps records n → HeadKeeps (IsDense records) (IsGroupChain records) n
   head_of_keeps n k = record { list = k.groups }
 
-  module _ (marks : List Bool) (told : (p : ℕ) → Decides (marked marks p) (AmongHeads (IsDense records) (IsGroupChain records) (high records format.nodes_file)
+  module _ (seen : List Bool) (told : (p : ℕ) → Decides (is_seen seen p) (AmongHeads (IsDense records) (IsGroupChain records) (high records format.nodes_file)
       p)) where
-    pub member_of_mark : (g : ℕ) → (is_live records format.groups_file g ≡ true → marked marks g ≡ true) → HasOwner g
-    member_of_mark g h row live =
+    pub member_of_seen : (g : ℕ) → (is_live records format.groups_file g ≡ true → is_seen seen g ≡ true) → HasOwner g
+    member_of_seen g h row live =
         let kind = some_row (kind_at records format.groups_file g) (group_in (group_rec g) g) row live in
         let a = (told g).0 (h (ap not (eq_false (kind_at records format.groups_file g) 0 kind.0))) in
         let o = owner_of a.id g a.here in
         let same : a.id ≡ row.owner = sym o.2 ∙ ap (λ (r : GroupRow). r.owner) (same_group o.0 row (sym o.1 ∙ live)) in
         subst (λ m. IsGroupOf records m g) same (record { dense = a.here.must; members = a.here.items; groups = a.here.listed; member = a.here.member })
 
-    pub mark_of_member : (g : ℕ) → MemberKeeps records g → is_live records format.groups_file g ≡ true → marked marks g ≡ true
-    mark_of_member g k live =
+    pub seen_of_member : (g : ℕ) → MemberKeeps records g → is_live records format.groups_file g ≡ true → is_seen seen g ≡ true
+    seen_of_member g k live =
         let row = row_some (kind_at records format.groups_file g) (group_in (group_rec g) g) (used_of_live records format.groups_file g live) in
         let o = k.owner (group_in (group_rec g) g) row in
         let n = field 4 (group_rec g) format.group_owner in

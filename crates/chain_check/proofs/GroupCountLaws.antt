@@ -220,11 +220,11 @@ as_long records high r first count xs b room line e = (
 )
 
 -- and of the three, where the record has counts
-pub counts_decided : (records after : Records) (marked g : ℕ) (r : Rec) (b : Bool) → after ≡ records → marked ≡ high records format.relationships_file
+pub counts_decided : (records after : Records) (is_seen g : ℕ) (r : Rec) (b : Bool) → after ≡ records → is_seen ≡ high records format.relationships_file
     → r ≡ rec_at records format.groups_file g
-    → kind_at records format.groups_file g ≡ format.counted → Decides b (AreAsLong after marked r) → Decides b (CountsHold records g)
-counts_decided records after marked g r b same at read counted d =
+    → kind_at records format.groups_file g ≡ format.counted → Decides b (AreAsLong after is_seen r) → Decides b (CountsHold records g)
+counts_decided records after is_seen g r b same at read counted d =
     let here : Decides b (AreAsLong records (high records format.relationships_file) (rec_at records format.groups_file g))
     = subst (λ q. Decides b (AreAsLong records (high records format.relationships_file) q)) read
-    (subst (λ m. Decides b (AreAsLong records m r)) at (subst (λ (rs : Records). Decides b (AreAsLong rs marked r)) same d)) in
+    (subst (λ m. Decides b (AreAsLong records m r)) at (subst (λ (rs : Records). Decides b (AreAsLong rs is_seen r)) same d)) in
     ((λ t _. here.0 t), (λ h. here.1 (h counted)))

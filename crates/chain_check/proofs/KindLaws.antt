@@ -33,26 +33,26 @@ end_by f g same n met h = record {
   chain = λ has. h.chain (⊎_elim (λ s. inl (same n ∙ s)) (λ d. inr (same n ∙ d)) has);
 }
 
-pub rel_by : (f g : ℕ → ℕ) → ((n : ℕ) → f n ≡ g n) → (records : Records) (marks : List Bool) (x : ℕ) → RelHolds f records marks x → RelHolds g records marks x
-rel_by f g same records marks x h = record {
+pub rel_by : (f g : ℕ → ℕ) → ((n : ℕ) → f n ≡ g n) → (records : Records) (seen : List Bool) (x : ℕ) → RelHolds f records seen x → RelHolds g records seen x
+rel_by f g same records seen x h = record {
   from = λ row live. end_by f g same row.from _ (h.from row live);
   to = λ row live. end_by f g same row.to _ (h.to row live);
 }
 
 -- so what a walk by the list finds is found by the records
-module _ (records after : Records) (kinds : List ℕ) (marks : List Bool) (count : ℕ)
+module _ (records after : Records) (kinds : List ℕ) (seen : List Bool) (count : ℕ)
     (same : after ≡ records) (is : count ≡ high records format.relationships_file) (are : AreKinds records kinds) where
-  pub none_loose : (found : Option ℕ) → IfNone found ((x : ℕ) → x < count → RelHolds (kind_of kinds) after marks x)
-      → IfNone found ((x : ℕ) → x < high records format.relationships_file → RelHolds (kind_at records format.nodes_file) records marks x)
+  pub none_loose : (found : Option ℕ) → IfNone found ((x : ℕ) → x < count → RelHolds (kind_of kinds) after seen x)
+      → IfNone found ((x : ℕ) → x < high records format.relationships_file → RelHolds (kind_at records format.nodes_file) records seen x)
   none_loose (Some y) h = tt
-  none_loose None h = λ x lt. rel_by (kind_of kinds) (kind_at records format.nodes_file) are records marks x
-      (subst (λ (r : Records). RelHolds (kind_of kinds) r marks x) same (h x (omega arith)))
+  none_loose None h = λ x lt. rel_by (kind_of kinds) (kind_at records format.nodes_file) are records seen x
+      (subst (λ (r : Records). RelHolds (kind_of kinds) r seen x) same (h x (omega arith)))
 
-  pub one_loose : (found : Option ℕ) → IfSome found (λ x. (x < count) × (¬ RelHolds (kind_of kinds) after marks x))
-      → IfSome found (λ x. (x < high records format.relationships_file) × (¬ RelHolds (kind_at records format.nodes_file) records marks x))
+  pub one_loose : (found : Option ℕ) → IfSome found (λ x. (x < count) × (¬ RelHolds (kind_of kinds) after seen x))
+      → IfSome found (λ x. (x < high records format.relationships_file) × (¬ RelHolds (kind_at records format.nodes_file) records seen x))
   one_loose None h = tt
   one_loose (Some y) h = (
     omega (arith, h.0),
-    (λ k. h.1 (subst (λ (r : Records). RelHolds (kind_of kinds) r marks y) (sym same)
-        (rel_by (kind_at records format.nodes_file) (kind_of kinds) (λ n. sym (are n)) records marks y k))),
+    (λ k. h.1 (subst (λ (r : Records). RelHolds (kind_of kinds) r seen y) (sym same)
+        (rel_by (kind_at records format.nodes_file) (kind_of kinds) (λ n. sym (are n)) records seen y k))),
   )

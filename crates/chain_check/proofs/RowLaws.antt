@@ -18,7 +18,7 @@ use Rattle.record_lists.specs.declared.heads.Found.{Found}
 use Rattle.record_lists.specs.declared.heads.Found.TheVariants.{Items, Missing, Nothing}
 use Rattle.record_lists.specs.Heads.{AmongHeads, AtHead, BrokeIs, FoundIs, HeadKeeps, IsTwice}
 use Rattle.record_lists.specs.Lines.{IsLine, IsLineIn}
-use Rattle.record_lists.specs.Marks.{marked}
+use Rattle.record_lists.specs.Seen.{is_seen}
 use Rattle.record_lists.proofs.LineLaws.{line_one}
 use Rattle.chain_check.specs.declared.chains.Side.TheVariants.{Any}
 use Rattle.chain_check.specs.declared.link_rows.LinkRow.{LinkRow}
@@ -181,8 +181,8 @@ module _ (has : ℕ → Type 0) (lists other : ℕ → List ℕ → Type 0) (to 
   pub among_by : (n p : ℕ) → AmongHeads has lists n p → AmongHeads has other n p
   among_by n p a = record { id = a.id; below = a.below; here = at_by a.id p a.here }
 
-  pub twice_by : (n : ℕ) (marks : List Bool) (p : ℕ) → IsTwice has lists n marks p → IsTwice has other n marks p
-  twice_by n marks p t = record {
+  pub twice_by : (n : ℕ) (seen : List Bool) (p : ℕ) → IsTwice has lists n seen p → IsTwice has other n seen p
+  twice_by n seen p t = record {
     head = t.head;
     below = t.below;
     here = at_by t.head p t.here;
@@ -212,28 +212,28 @@ module _ (records after : Records) (rows : List LinkRow) (nodes : ℕ) (same : a
   keeps_found None h = λ k lt. keeps_by (IsSparse records) (AreRowEndsOf rows records) (AreNodeEnds records) to_node k
       (subst (λ (r : Records). HeadKeeps (IsSparse r) (AreRowEndsOf rows r) k) same (h k (omega arith)))
 
-  pub marks_found : (old new : List Bool) (found : Option Broke)
-      → IfNone found ((p : ℕ) → Decides (marked new p) ((marked old p ≡ true) ⊎ AmongHeads (IsSparse after) (AreRowEndsOf rows after) nodes p))
-      → IfNone found ((p : ℕ) → Decides (marked new p) ((marked old p ≡ true) ⊎ AmongHeads (IsSparse records) (AreNodeEnds records)
+  pub seen_found : (old new : List Bool) (found : Option Broke)
+      → IfNone found ((p : ℕ) → Decides (is_seen new p) ((is_seen old p ≡ true) ⊎ AmongHeads (IsSparse after) (AreRowEndsOf rows after) nodes p))
+      → IfNone found ((p : ℕ) → Decides (is_seen new p) ((is_seen old p ≡ true) ⊎ AmongHeads (IsSparse records) (AreNodeEnds records)
       (high records format.nodes_file) p))
-  marks_found old new (Some b) h = tt
-  marks_found old new None h = λ p.
-      let d : Decides (marked new p) ((marked old p ≡ true) ⊎ AmongHeads (IsSparse records) (AreRowEndsOf rows records) (high records format.nodes_file) p)
-      = subst (λ m. Decides (marked new p) ((marked old p ≡ true) ⊎ AmongHeads (IsSparse records) (AreRowEndsOf rows records) m p)) is
-      (subst (λ (r : Records). Decides (marked new p) ((marked old p ≡ true) ⊎ AmongHeads (IsSparse r) (AreRowEndsOf rows r) nodes p)) same (h p)) in (
+  seen_found old new (Some b) h = tt
+  seen_found old new None h = λ p.
+      let d : Decides (is_seen new p) ((is_seen old p ≡ true) ⊎ AmongHeads (IsSparse records) (AreRowEndsOf rows records) (high records format.nodes_file) p)
+      = subst (λ m. Decides (is_seen new p) ((is_seen old p ≡ true) ⊎ AmongHeads (IsSparse records) (AreRowEndsOf rows records) m p)) is
+      (subst (λ (r : Records). Decides (is_seen new p) ((is_seen old p ≡ true) ⊎ AmongHeads (IsSparse r) (AreRowEndsOf rows r) nodes p)) same (h p)) in (
         (λ t. ⊎_elim (λ o. inl o) (λ (a : AmongHeads (IsSparse records) (AreRowEndsOf rows records) (high records format.nodes_file) p).
             inr (among_by (IsSparse records) (AreRowEndsOf rows records) (AreNodeEnds records) to_node (high records format.nodes_file) p a)) (d.0 t)),
         (λ i. d.1 (⊎_elim (λ o. inl o) (λ (a : AmongHeads (IsSparse records) (AreNodeEnds records) (high records format.nodes_file) p).
             inr (among_by (IsSparse records) (AreNodeEnds records) (AreRowEndsOf rows records) from_node (high records format.nodes_file) p a)) i)),
       )
 
-  broke_is : (marks : List Bool) (b : Broke) → BrokeIs (IsSparse records) (AreRowEndsOf rows records) nodes marks b
-      → BrokeIs (IsSparse records) (AreNodeEnds records) (high records format.nodes_file) marks b
-  broke_is marks (Head id) h = (omega (arith, h.0), (λ k. h.1 (keeps_by (IsSparse records) (AreNodeEnds records) (AreRowEndsOf rows records) from_node id k)))
-  broke_is marks (Item p) h = subst (λ m. IsTwice (IsSparse records) (AreNodeEnds records) m marks p) is
-      (twice_by (IsSparse records) (AreRowEndsOf rows records) (AreNodeEnds records) to_node nodes marks p h)
+  broke_is : (seen : List Bool) (b : Broke) → BrokeIs (IsSparse records) (AreRowEndsOf rows records) nodes seen b
+      → BrokeIs (IsSparse records) (AreNodeEnds records) (high records format.nodes_file) seen b
+  broke_is seen (Head id) h = (omega (arith, h.0), (λ k. h.1 (keeps_by (IsSparse records) (AreNodeEnds records) (AreRowEndsOf rows records) from_node id k)))
+  broke_is seen (Item p) h = subst (λ m. IsTwice (IsSparse records) (AreNodeEnds records) m seen p) is
+      (twice_by (IsSparse records) (AreRowEndsOf rows records) (AreNodeEnds records) to_node nodes seen p h)
 
-  pub broken_found : (marks : List Bool) (found : Option Broke) → IfSome found (BrokeIs (IsSparse after) (AreRowEndsOf rows after) nodes marks)
-      → IfSome found (BrokeIs (IsSparse records) (AreNodeEnds records) (high records format.nodes_file) marks)
-  broken_found marks None h = tt
-  broken_found marks (Some b) h = broke_is marks b (subst (λ (r : Records). BrokeIs (IsSparse r) (AreRowEndsOf rows r) nodes marks b) same h)
+  pub broken_found : (seen : List Bool) (found : Option Broke) → IfSome found (BrokeIs (IsSparse after) (AreRowEndsOf rows after) nodes seen)
+      → IfSome found (BrokeIs (IsSparse records) (AreNodeEnds records) (high records format.nodes_file) seen)
+  broken_found seen None h = tt
+  broken_found seen (Some b) h = broke_is seen b (subst (λ (r : Records). BrokeIs (IsSparse r) (AreRowEndsOf rows r) nodes seen b) same h)

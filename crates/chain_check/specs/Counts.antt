@@ -30,7 +30,7 @@ CountsHold records g =
     → AreAsLong records (high records format.relationships_file)
     (rec_at records format.groups_file g)
 
--- the marks are those of the records, and low
+-- the bits are those of the records, whose high-water mark is low
 pub record AreOfGroups (counts : Counts) (records : Records) : Type 0 where
   pub groups : counts.groups ≡ high records format.groups_file
   pub relationships : counts.relationships ≡ high records format.relationships_file

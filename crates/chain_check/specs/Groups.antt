@@ -36,7 +36,7 @@ GroupsFound records high n first Nothing = ⊥
 GroupsFound records high n first Missing = (xs : List ℕ) → ¬ AreGroups records high n first xs
 GroupsFound records high n first (Items v) = AreGroups records high n first v.items
 
--- the marks are those of the records, and low
+-- the bits are those of the records, whose high-water mark is low
 pub record AreOwners (owners : Owners) (records : Records) : Type 0 where
   pub nodes : owners.nodes ≡ high records format.nodes_file
   pub groups : owners.groups ≡ high records format.groups_file

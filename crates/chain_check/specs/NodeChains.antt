@@ -19,7 +19,7 @@ use Rattle.store_rules.specs.Breaking.{GroupKeeps, IsChainHead, IsHeadChain}
 use Rattle.store_rules.specs.Breaking.{IsOnOwnChain, NodeKeeps}
 use Rattle.store_rules.specs.Breaking.{group_head}
 use Rattle.record_lists.specs.Lines.{IsLineIn, LineKind}
-use Rattle.record_lists.specs.Marks.{marked}
+use Rattle.record_lists.specs.Seen.{is_seen}
 
 abbrev pub leaves : Rec → ℕ → Bool
 leaves r node = nat_eq (field 4 r format.relationship_source) node
@@ -113,10 +113,10 @@ place_of id = format.group_first_out + 4 * (id % 3)
 abbrev pub owner_at : Records → ℕ → ℕ
 owner_at records g = field 4 (rec_at records format.groups_file g) format.group_owner
 
--- the group is in use and has a mark
+-- the group is in use and seen
 pub record IsChained (chained : List Bool) (records : Records) (g : ℕ) : Type 0 where
   pub live : kind_at records format.groups_file g ≢ format.free_kind
-  pub mark : marked chained g ≡ true
+  pub seen : is_seen chained g ≡ true
 
 -- these are the ends in the chain of a group at this head
 abbrev pub AreGroupEnds : Records → ℕ → List ℕ → Type 0
@@ -130,7 +130,7 @@ pub record AreGroupHeads (heads : GroupHeads) (records : Records) : Type 0 where
   pub few_groups : high records format.groups_file ≤ format.most_ids
   pub few_relationships : high records format.relationships_file ≤ format.most_ids
 
--- ---- what the marks say
+-- ---- what it says that they are seen
 
 -- the end of this number is in a chain of its node
 pub record IsMet (records : Records) (p : ℕ) : Type 0 where
@@ -141,12 +141,12 @@ pub record IsMet (records : Records) (p : ℕ) : Type 0 where
   pub here : AreHeadEnds records head node ends
   pub member : In p ends
 
--- Nodes and the groups on group chains keep the third rule. The ends in their chains are marked,
+-- Nodes and the groups on group chains keep the third rule. The ends in their chains are seen,
 -- each in one.
-pub record AreMet (records : Records) (marks : List Bool) : Type 0 where
+pub record AreMet (records : Records) (seen : List Bool) : Type 0 where
   pub nodes : (n : ℕ) → NodeKeeps records n
   pub groups : (g : ℕ) → IsOnOwnChain records g → GroupKeeps records g
-  pub told : (p : ℕ) → Decides (marked marks p) (IsMet records p)
+  pub told : (p : ℕ) → Decides (is_seen seen p) (IsMet records p)
   pub once : (p : ℕ) (one other : IsMet records p) → one.head ≡ other.head
 
 -- where nodes have these kinds, the end of a relationship is a node, and met in a chain
@@ -155,14 +155,14 @@ pub record EndHolds (kind : ℕ → ℕ) (n : ℕ) (met : Bool) : Type 0 where
   pub chain : (kind n ≡ format.sparse) ⊎ (kind n ≡ format.dense) → met ≡ true
 
 -- so it is of both ends of a relationship, if the record is one
-pub record RelHolds (kind : ℕ → ℕ) (records : Records) (marks : List Bool) (x : ℕ) : Type 0 where
+pub record RelHolds (kind : ℕ → ℕ) (records : Records) (seen : List Bool) (x : ℕ) : Type 0 where
   pub from : (row : RelRow) → rel_at records x ≡ Some row
-      → EndHolds kind row.from (marked marks (end_of records row.from x))
+      → EndHolds kind row.from (is_seen seen (end_of records row.from x))
   pub to : (row : RelRow) → rel_at records x ≡ Some row
-      → EndHolds kind row.to (marked marks (end_of records row.to x))
+      → EndHolds kind row.to (is_seen seen (end_of records row.to x))
 
--- there are two marks for each relationship
+-- there are two bits for each relationship
 pub record AreAttached (attached : Attached) (records : Records) : Type 0 where
   pub relationships : attached.relationships ≡ high records format.relationships_file
   pub few_relationships : high records format.relationships_file ≤ format.most_ids
-  pub ends : length attached.marks.now ≡ 2 * high records format.relationships_file
+  pub ends : length attached.seen.now ≡ 2 * high records format.relationships_file

@@ -8,15 +8,15 @@ ghost use Rattle.rec_bytes.specs.Space.{HasCause};
 ghost use Rattle.store_rules.specs.Breaking.{IsOwnedBy};
 ghost use Rattle.store_rules.specs.Views.{first_link, high};
 ghost use Rattle.record_lists.specs.Deciding.{AreMarksLow};
-ghost use Rattle.record_lists.specs.Marks.{marked};
-ghost use Rattle.chain_check.specs.Chained.{MarksChain, MarksChains, next_group};
+ghost use Rattle.record_lists.specs.Seen.{is_seen};
+ghost use Rattle.chain_check.specs.Chained.{SeesChain, SeesChains, next_group};
 ghost use Rattle.chain_check.specs.NodeChains.{IsDense};
 
 use rec_bytes::{
     DENSE, FREE, GROUP_NEXT, GROUP_OWNER, GROUPS, KIND, Key, NODE_FIRST_LINK, NODES, Reads,
     SpaceFault,
 };
-use record_lists::no_marks;
+use record_lists::none_seen;
 use std::alloc::Global;
 
 /// The link of a group to the next one, if the record is in use and the node owns it.
@@ -41,46 +41,46 @@ fn next_owned<R: Reads>(space: &mut R, node: u32, id: u32) -> Result<Option<u32>
     Ok(Some(rec.number(GROUP_NEXT)))
 }
 
-/// Marks the groups on the chain from a dense node's first link on, none of which has a mark.
-fn mark_from<R: Reads>(
+/// Sees the groups on the chain from a dense node's first link on, none of which was seen.
+fn see_from<R: Reads>(
     space: &mut R,
     node: u32,
     first: u32,
-    marks: &mut [bool],
+    seen: &mut [bool],
 ) -> Result<(), SpaceFault>
     requires low { AreMarksLow (R.state space.old).records }
-    requires marks { length marks.old ≡ high (R.state space.old).records groups_file }
+    requires seen { length seen.old ≡ high (R.state space.old).records groups_file }
     requires dense { R.tells → IsDense (R.state space.old).records node }
     requires first { R.tells → first_link (R.state space.old).records node ≡ first }
     requires clear { R.tells → (g : ℕ) → IsOwnedBy (R.state space.old).records node g
-        → marked marks.old g ≡ false }
-    ensures marks { R.tells
-        → OnOk result (MarksChain (R.state space.old).records node marks.old marks.new) }
-    ensures len { length marks.new ≡ length marks.old }
+        → is_seen seen.old g ≡ false }
+    ensures seen { R.tells
+        → OnOk result (SeesChain (R.state space.old).records node seen.old seen.new) }
+    ensures len { length seen.new ≡ length seen.old }
     ensures read { IsRead R.Reads space.old space.new }
     ensures cause { HasCause (R.faults space.old) (R.faults space.new) result }
 {
     let mut at = first;
-    while (at as usize) < marks.len() && !marks[at as usize] {
+    while (at as usize) < seen.len() && !seen[at as usize] {
         let Some(next) = next_owned(space, node, at)? else {
             return Ok(());
         };
-        marks[at as usize] = true;
+        seen[at as usize] = true;
         at = next;
     }
     Ok(())
 }
 
-/// Marks the groups on the group chain of a node, none of which has a mark.
-fn mark_chain<R: Reads>(space: &mut R, node: u32, marks: &mut [bool]) -> Result<(), SpaceFault>
+/// Sees the groups on the group chain of a node, none of which was seen.
+fn see_chain<R: Reads>(space: &mut R, node: u32, seen: &mut [bool]) -> Result<(), SpaceFault>
     requires low { AreMarksLow (R.state space.old).records }
     requires node { node < high (R.state space.old).records nodes_file }
-    requires marks { length marks.old ≡ high (R.state space.old).records groups_file }
+    requires seen { length seen.old ≡ high (R.state space.old).records groups_file }
     requires clear { R.tells → (g : ℕ) → IsOwnedBy (R.state space.old).records node g
-        → marked marks.old g ≡ false }
-    ensures marks { R.tells
-        → OnOk result (MarksChain (R.state space.old).records node marks.old marks.new) }
-    ensures len { length marks.new ≡ length marks.old }
+        → is_seen seen.old g ≡ false }
+    ensures seen { R.tells
+        → OnOk result (SeesChain (R.state space.old).records node seen.old seen.new) }
+    ensures len { length seen.new ≡ length seen.old }
     ensures read { IsRead R.Reads space.old space.new }
     ensures cause { HasCause (R.faults space.old) (R.faults space.new) result }
 {
@@ -91,42 +91,42 @@ fn mark_chain<R: Reads>(space: &mut R, node: u32, marks: &mut [bool]) -> Result<
     if rec.byte(KIND) != DENSE {
         return Ok(());
     }
-    mark_from(space, node, rec.number(NODE_FIRST_LINK), marks)
+    see_from(space, node, rec.number(NODE_FIRST_LINK), seen)
 }
 
-/// Marks the groups that are on the group chain of their owner, where none has a mark.
-fn mark_chains<R: Reads>(space: &mut R, marks: &mut [bool]) -> Result<(), SpaceFault>
+/// Sees the groups that are on the group chain of their owner, where none was seen.
+fn see_chains<R: Reads>(space: &mut R, seen: &mut [bool]) -> Result<(), SpaceFault>
     requires low { AreMarksLow (R.state space.old).records }
-    requires marks { length marks.old ≡ high (R.state space.old).records groups_file }
-    requires clear { (g : ℕ) → marked marks.old g ≡ false }
-    ensures marks { R.tells → OnOk result (MarksChains (R.state space.old).records marks.new) }
-    ensures len { length marks.new ≡ length marks.old }
+    requires seen { length seen.old ≡ high (R.state space.old).records groups_file }
+    requires clear { (g : ℕ) → is_seen seen.old g ≡ false }
+    ensures seen { R.tells → OnOk result (SeesChains (R.state space.old).records seen.new) }
+    ensures len { length seen.new ≡ length seen.old }
     ensures read { IsRead R.Reads space.old space.new }
     ensures cause { HasCause (R.faults space.old) (R.faults space.new) result }
 {
     for node in 0..space.meta(NODES).high {
-        mark_chain(space, node, marks)?;
+        see_chain(space, node, seen)?;
     }
     Ok(())
 }
 
-/// Marks of the groups that are on the group chain of their owner.
+/// Which groups are on the group chain of their owner.
 pub(crate) fn chained_groups<R: Reads>(
     alloc: Global,
     space: &mut R,
 ) -> Result<Vec<bool>, SpaceFault>
     requires { AreMarksLow (R.state space.old).records }
-    ensures marks { R.tells → IfOk result
-        (λ marks. MarksChains (R.state space.old).records marks.items) }
+    ensures seen { R.tells → IfOk result
+        (λ seen. SeesChains (R.state space.old).records seen.items) }
     ensures len { IfOk result
-        (λ marks. length marks.items ≡ high (R.state space.old).records groups_file) }
+        (λ seen. length seen.items ≡ high (R.state space.old).records groups_file) }
     ensures read { IsRead R.Reads space.old space.new }
     ensures cause { HasCause (R.faults space.old) (R.faults space.new) result }
 {
     let groups = space.meta(GROUPS).high as usize;
-    let Ok(mut marks) = no_marks(alloc, groups) else {
+    let Ok(mut seen) = none_seen(alloc, groups) else {
         return Err(SpaceFault::Memory);
     };
-    mark_chains(space, &mut marks)?;
-    Ok(marks)
+    see_chains(space, &mut seen)?;
+    Ok(seen)
 }

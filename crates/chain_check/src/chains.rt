@@ -10,10 +10,10 @@ ghost use Rattle.rec_bytes.specs.Frame.{IsRead};
 ghost use Rattle.rec_bytes.specs.Space.{HasCause};
 ghost use Rattle.store_rules.specs.Views.{high, kind_at};
 ghost use Rattle.record_lists.specs.Heads.{AmongHeads, BrokeIs, FoundBelow, HeadKeeps};
-ghost use Rattle.chain_check.specs.Chained.{MarksChains};
+ghost use Rattle.chain_check.specs.Chained.{SeesChains};
 ghost use Rattle.chain_check.specs.Kinds.{kind_of};
 ghost use Rattle.chain_check.specs.LinkRows.{AreRowEndsOf};
-ghost use Rattle.record_lists.specs.Marks.{marked};
+ghost use Rattle.record_lists.specs.Seen.{is_seen};
 ghost use Rattle.chain_check.specs.NodeChains.{
   AreAttached,
   AreChainHeads,
@@ -45,7 +45,7 @@ use rec_bytes::{
     RELATIONSHIP_TYPE, RELATIONSHIPS, Reads, Rec, SPARSE, SpaceFault,
 };
 use record_lists::{
-    Broke, Found, Heads, Line, Sentence, broken, find_false, follow, list_heads, no_marks,
+    Broke, Found, Heads, Line, Sentence, broken, find_false, follow, list_heads, none_seen,
 };
 use rel_store::place_of;
 use std::alloc::Global;
@@ -171,7 +171,7 @@ impl<'a> Heads for ChainHeads<'a> {
 
     ghost suits = { AreChainHeads };
 
-    ghost mark = { λ heads. heads.nodes };
+    ghost count = { λ heads. heads.nodes };
 
     ghost bound = { λ heads. 2 * length heads.rows.now };
 
@@ -201,7 +201,7 @@ pub(crate) fn side_at(place: u8, label: u32) -> Side
     }
 }
 
-/// The groups that have a mark, which are on the group chain of their owner. Three chains start at
+/// The groups that are seen, which are on the group chain of their owner. Three chains start at
 /// each.
 #[derive(Drop)]
 pub struct GroupHeads<'a> {
@@ -216,7 +216,7 @@ impl<'a> Heads for GroupHeads<'a> {
 
     ghost suits = { AreGroupHeads };
 
-    ghost mark = { λ heads. 3 * length heads.chained.now };
+    ghost count = { λ heads. 3 * length heads.chained.now };
 
     ghost bound = { λ heads. 2 * heads.relationships };
 
@@ -272,21 +272,21 @@ fn end_of(rec: &Rec, node: u32, id: u32) -> usize
     }
 }
 
-/// The ends of a relationship are nodes, and marked.
+/// The ends of a relationship are nodes, and seen.
 #[derive(Drop)]
 pub struct Attached<'a> {
     relationships: u32,
     kinds: &'a [u8],
-    marks: &'a [bool],
+    seen: &'a [bool],
 }
 
 impl<'a> Sentence for Attached<'a> {
     ghost suits = { AreAttached };
 
-    ghost mark = { λ attached. attached.relationships };
+    ghost count = { λ attached. attached.relationships };
 
     ghost says = { λ attached records.
-        RelHolds (kind_of attached.kinds.now) records attached.marks.now };
+        RelHolds (kind_of attached.kinds.now) records attached.seen.now };
 
     fn holds<R: Reads>(&self, space: &mut R, id: u32) -> Result<bool, SpaceFault> {
         let rec = space.get(Key {
@@ -298,8 +298,8 @@ impl<'a> Sentence for Attached<'a> {
         }
         let source = rec.number(RELATIONSHIP_SOURCE);
         let target = rec.number(RELATIONSHIP_TARGET);
-        let leaves = end_holds(self.kinds, source, self.marks[end_of(&rec, source, id)]);
-        let enters = end_holds(self.kinds, target, self.marks[end_of(&rec, target, id)]);
+        let leaves = end_holds(self.kinds, source, self.seen[end_of(&rec, source, id)]);
+        let enters = end_holds(self.kinds, target, self.seen[end_of(&rec, target, id)]);
         Ok(leaves && enters)
     }
 }
@@ -308,19 +308,19 @@ impl<'a> Sentence for Attached<'a> {
 fn find_loose<R: Reads>(
     alloc: Global,
     space: &mut R,
-    marks: &[bool],
+    seen: &[bool],
 ) -> Result<Option<u32>, SpaceFault>
     requires low { AreMarksLow (R.state space.old).records }
-    requires marks { length marks.now
+    requires seen { length seen.now
         ≡ 2 * high (R.state space.old).records relationships_file }
     ensures none { R.tells → IfOk result (λ found. IfNone found
         ((x : ℕ) → x < high (R.state space.old).records relationships_file
         → RelHolds (kind_at (R.state space.old).records nodes_file) (R.state space.old).records
-        marks.now x)) }
+        seen.now x)) }
     ensures found { R.tells → IfOk result (λ found. IfSome found
         (λ x. (x < high (R.state space.old).records relationships_file)
         × (¬ RelHolds (kind_at (R.state space.old).records nodes_file)
-        (R.state space.old).records marks.now x))) }
+        (R.state space.old).records seen.now x))) }
     ensures read { IsRead R.Reads space.old space.new }
     ensures cause { HasCause (R.faults space.old) (R.faults space.new) result }
 {
@@ -329,64 +329,64 @@ fn find_loose<R: Reads>(
     let attached = Attached {
         relationships,
         kinds: &kinds,
-        marks,
+        seen,
     };
     find_false(space, &attached, relationships)
 }
 
-/// Marks the ends in the chains of sparse nodes, or finds a node without its chain.
-fn mark_node_ends<R: Reads>(
+/// Sees the ends in the chains of sparse nodes, or finds a node without its chain.
+fn see_node_ends<R: Reads>(
     alloc: Global,
     space: &mut R,
-    marks: &mut [bool],
+    seen: &mut [bool],
 ) -> Result<Option<Broke>, SpaceFault>
     requires low { AreMarksLow (R.state space.old).records }
-    requires marks { length marks.old
+    requires seen { length seen.old
         ≡ 2 * high (R.state space.old).records relationships_file }
     ensures keeps { R.tells → IfOk result (λ found. IfNone found
         ((k : ℕ) → k < high (R.state space.old).records nodes_file → HeadKeeps
         (IsSparse (R.state space.old).records) (AreNodeEnds (R.state space.old).records) k)) }
-    ensures marks { R.tells → IfOk result (λ found. IfNone found ((p : ℕ) → Decides
-        (marked marks.new p) ((marked marks.old p ≡ true) ⊎ AmongHeads
+    ensures seen { R.tells → IfOk result (λ found. IfNone found ((p : ℕ) → Decides
+        (is_seen seen.new p) ((is_seen seen.old p ≡ true) ⊎ AmongHeads
         (IsSparse (R.state space.old).records) (AreNodeEnds (R.state space.old).records)
         (high (R.state space.old).records nodes_file) p))) }
     ensures broken { R.tells → IfOk result (λ found. IfSome found (BrokeIs
         (IsSparse (R.state space.old).records) (AreNodeEnds (R.state space.old).records)
-        (high (R.state space.old).records nodes_file) marks.old)) }
-    ensures len { length marks.new ≡ length marks.old }
+        (high (R.state space.old).records nodes_file) seen.old)) }
+    ensures len { length seen.new ≡ length seen.old }
     ensures read { IsRead R.Reads space.old space.new }
     ensures cause { HasCause (R.faults space.old) (R.faults space.new) result }
 {
     let rows = link_rows(alloc, space)?;
     let nodes = space.meta(NODES).high;
     let heads = ChainHeads { nodes, rows: &rows };
-    list_heads(alloc, space, &heads, nodes, marks)
+    list_heads(alloc, space, &heads, nodes, seen)
 }
 
-/// Marks the ends in the chains of all nodes and groups, or finds what breaks the third rule.
-fn mark_ends<R: Reads>(
+/// Sees the ends in the chains of all nodes and groups, or finds what breaks the third rule.
+fn see_ends<R: Reads>(
     alloc: Global,
     space: &mut R,
     chained: &[bool],
-    marks: &mut [bool],
+    seen: &mut [bool],
 ) -> Result<Option<Damage>, SpaceFault>
     requires low { AreMarksLow (R.state space.old).records }
     requires groups { length chained.now ≡ high (R.state space.old).records groups_file }
-    requires chained { R.tells → MarksChains (R.state space.old).records chained.now }
-    requires marks { length marks.old
+    requires chained { R.tells → SeesChains (R.state space.old).records chained.now }
+    requires seen { length seen.old
         ≡ 2 * high (R.state space.old).records relationships_file }
-    requires clear { (p : ℕ) → marked marks.old p ≡ false }
+    requires clear { (p : ℕ) → is_seen seen.old p ≡ false }
     ensures met { R.tells → IfOk result
-        (λ found. IfNone found (AreMet (R.state space.old).records marks.new)) }
+        (λ found. IfNone found (AreMet (R.state space.old).records seen.new)) }
     ensures broken { R.tells → IfOk result (λ found. IfSome found
         (BreaksRule (R.state space.old).records (R.state space.old).shape 3)) }
-    ensures len { length marks.new ≡ length marks.old }
+    ensures len { length seen.new ≡ length seen.old }
     ensures read { IsRead R.Reads space.old space.new }
     ensures cause { HasCause (R.faults space.old) (R.faults space.new) result }
 {
     let groups = space.meta(GROUPS).high;
     let relationships = space.meta(RELATIONSHIPS).high;
-    match mark_node_ends(alloc, space, marks)? {
+    match see_node_ends(alloc, space, seen)? {
         Some(Broke::Head(id)) => return Ok(Some(broken(NODES, id, CHAIN_RULE))),
         Some(Broke::Item(end)) => return Ok(Some(broken(RELATIONSHIPS, end / 2, CHAIN_RULE))),
         None => {}
@@ -395,35 +395,35 @@ fn mark_ends<R: Reads>(
         chained,
         relationships,
     };
-    match list_heads(alloc, space, &heads, 3 * groups, marks)? {
+    match list_heads(alloc, space, &heads, 3 * groups, seen)? {
         Some(Broke::Head(id)) => Ok(Some(broken(GROUPS, id / 3, CHAIN_RULE))),
         Some(Broke::Item(end)) => Ok(Some(broken(RELATIONSHIPS, end / 2, CHAIN_RULE))),
         None => Ok(None),
     }
 }
 
-/// Decides the third rule, with marks for the ends of all relationships, none of them set.
-fn check_marked<R: Reads>(
+/// Decides the third rule, with a bit for each end of a relationship, none of them seen.
+fn check_seen<R: Reads>(
     alloc: Global,
     space: &mut R,
     chained: &[bool],
-    marks: &mut [bool],
+    seen: &mut [bool],
 ) -> Result<Option<Damage>, SpaceFault>
     requires low { AreMarksLow (R.state space.old).records }
     requires groups { length chained.now ≡ high (R.state space.old).records groups_file }
-    requires chained { R.tells → MarksChains (R.state space.old).records chained.now }
-    requires marks { length marks.old
+    requires chained { R.tells → SeesChains (R.state space.old).records chained.now }
+    requires seen { length seen.old
         ≡ 2 * high (R.state space.old).records relationships_file }
-    requires clear { (p : ℕ) → marked marks.old p ≡ false }
+    requires clear { (p : ℕ) → is_seen seen.old p ≡ false }
     ensures decided { R.tells → IfOk result
         (DecidesRule (R.state space.old).records (R.state space.old).shape 3) }
     ensures read { IsRead R.Reads space.old space.new }
     ensures cause { HasCause (R.faults space.old) (R.faults space.new) result }
 {
-    if let Some(damage) = mark_ends(alloc, space, chained, marks)? {
+    if let Some(damage) = see_ends(alloc, space, chained, seen)? {
         return Ok(Some(damage));
     }
-    match find_loose(alloc, space, marks)? {
+    match find_loose(alloc, space, seen)? {
         Some(id) => Ok(Some(broken(RELATIONSHIPS, id, CHAIN_RULE))),
         None => Ok(None),
     }
@@ -439,8 +439,8 @@ pub fn check_chains<R: Reads>(alloc: Global, space: &mut R) -> Result<Option<Dam
 {
     let chained = chained_groups(alloc, space)?;
     let ends = 2 * space.meta(RELATIONSHIPS).high as usize;
-    let Ok(mut marks) = no_marks(alloc, ends) else {
+    let Ok(mut seen) = none_seen(alloc, ends) else {
         return Err(SpaceFault::Memory);
     };
-    check_marked(alloc, space, &chained, &mut marks)
+    check_seen(alloc, space, &chained, &mut seen)
 }

@@ -78,7 +78,7 @@ pub struct Counts {
 impl Sentence for Counts {
     ghost suits = { AreOfGroups };
 
-    ghost mark = { λ counts. counts.groups };
+    ghost count = { λ counts. counts.groups };
 
     ghost says = { λ _. CountsHold };
 

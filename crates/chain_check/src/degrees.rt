@@ -81,7 +81,7 @@ pub struct Degrees {
 impl Sentence for Degrees {
     ghost suits = { AreOfNodes };
 
-    ghost mark = { λ degrees. length degrees.counts.items };
+    ghost count = { λ degrees. length degrees.counts.items };
 
     ghost says = { HasDegree };
 

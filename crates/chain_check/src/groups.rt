@@ -10,7 +10,7 @@ ghost use Rattle.store_rules.specs.Views.{first_link, group_at, high, kind_at, r
 ghost use Rattle.store_rules.specs.Breaking.{AreChained, IsGroupChain};
 ghost use Rattle.chain_check.specs.Groups.{AreOwners, GroupsFound, group_line};
 ghost use Rattle.record_lists.specs.Heads.{FoundBelow};
-ghost use Rattle.record_lists.specs.Marks.{marked};
+ghost use Rattle.record_lists.specs.Seen.{is_seen};
 ghost use Rattle.chain_check.specs.NodeChains.{IsDense};
 ghost use Rattle.record_lists.specs.Deciding.{AreMarksLow, BreaksRule, DecidesRule};
 
@@ -21,7 +21,7 @@ use rec_bytes::{
     NODES, Reads, Rec, SpaceFault,
 };
 use record_lists::{
-    Broke, Found, Heads, Line, are_distinct, broken, find_unmarked, follow, list_heads, no_marks,
+    Broke, Found, Heads, Line, are_distinct, broken, find_unseen, follow, list_heads, none_seen,
     numbers_of,
 };
 use std::alloc::Global;
@@ -99,7 +99,7 @@ impl Heads for Owners {
 
     ghost suits = { AreOwners };
 
-    ghost mark = { λ owners. owners.nodes };
+    ghost count = { λ owners. owners.nodes };
 
     ghost bound = { λ owners. owners.groups };
 
@@ -114,16 +114,16 @@ impl Heads for Owners {
     }
 }
 
-/// Finds a dense node that has no group chain, or a group that is in none, with a mark for each
+/// Finds a dense node that has no group chain, or a group that is in none, with a bit for each
 /// group, none of them set.
 fn find_ungrouped<R: Reads>(
     alloc: Global,
     space: &mut R,
-    marks: &mut [bool],
+    seen: &mut [bool],
 ) -> Result<Option<Damage>, SpaceFault>
     requires low { AreMarksLow (R.state space.old).records }
-    requires marks { length marks.old ≡ high (R.state space.old).records groups_file }
-    requires clear { (p : ℕ) → marked marks.old p ≡ false }
+    requires seen { length seen.old ≡ high (R.state space.old).records groups_file }
+    requires clear { (p : ℕ) → is_seen seen.old p ≡ false }
     ensures grouped { R.tells → IfOk result (λ found. IfNone found (IsGrouped
         (kind_at (R.state space.old).records nodes_file) (first_link (R.state space.old).records)
         (rec_at (R.state space.old).records groups_file)
@@ -135,12 +135,12 @@ fn find_ungrouped<R: Reads>(
 {
     let nodes = space.meta(NODES).high;
     let groups = space.meta(GROUPS).high;
-    match list_heads(alloc, space, &Owners { nodes, groups }, nodes, marks)? {
+    match list_heads(alloc, space, &Owners { nodes, groups }, nodes, seen)? {
         Some(Broke::Head(id)) => return Ok(Some(broken(NODES, id, GROUP_RULE))),
         Some(Broke::Item(group)) => return Ok(Some(broken(GROUPS, group, GROUP_RULE))),
         None => {}
     }
-    match find_unmarked(space, GROUPS, marks)? {
+    match find_unseen(space, GROUPS, seen)? {
         Some(id) => Ok(Some(broken(GROUPS, id, GROUP_RULE))),
         None => Ok(None),
     }
@@ -156,10 +156,10 @@ pub fn check_groups<R: Reads>(alloc: Global, space: &mut R) -> Result<Option<Dam
     ensures cause { HasCause (R.faults space.old) (R.faults space.new) result }
 {
     let groups = space.meta(GROUPS).high as usize;
-    let Ok(mut marks) = no_marks(alloc, groups) else {
+    let Ok(mut seen) = none_seen(alloc, groups) else {
         return Err(SpaceFault::Memory);
     };
-    if let Some(damage) = find_ungrouped(alloc, space, &mut marks)? {
+    if let Some(damage) = find_ungrouped(alloc, space, &mut seen)? {
         return Ok(Some(damage));
     }
     match find_inexact(alloc, space)? {

@@ -1,4 +1,4 @@
-use Rattle.std.proofs.Common.{arith, ap, sym, ◌∙◌, rules}
+use Rattle.std.proofs.Common.{arith, ap, sym, ◌∙◌}
 use Rattle.rec_bytes.specs.Format.{group_next, group_owner, groups_file}
 use Rattle.rec_bytes.specs.Record.{field}
 use Rattle.record_lists.proofs.RecordLaws.{kind_read}

@@ -1,25 +1,25 @@
-use Rattle.std.proofs.Common.{◌≡◌, ◌∙◌, ap, arith, refl, subst, rules}
+use Rattle.std.proofs.Common.{◌≡◌, ap, arith, subst}
 use Rattle.rec_bytes.specs.declared.meta.Meta.{Meta}
 use Rattle.rec_bytes.specs.Format.{nodes_file}
 use Rattle.store_rules.specs.Breaking.{IsOwnedBy}
 use Rattle.store_rules.specs.Views.{Records, high}
-use Rattle.chain_check.specs.Chained.{MarksChain}
-use Rattle.chain_check.proofs.ChainedLaws.{MarksBelow, below_all, below_clear, below_more, below_none}
+use Rattle.chain_check.specs.Chained.{SeesChain}
+use Rattle.chain_check.proofs.ChainedLaws.{SeenBelow, below_all, below_clear, below_more, below_none}
 use Rattle.record_lists.proofs.Causes.{cause_passed}
 use Rattle.record_lists.proofs.OnlyReads.{is_read-none, is_read-on}
 use Rattle.rec_bytes.proofs.Causes.{ok_cause}
-use Rattle.chain_check.proofs.chained.mark_chains.Goals as goal
+use Rattle.chain_check.proofs.chained.see_chains.Goals as goal
 
 pub loop-node-init : goal.loop-node-init
 loop-node-init g c = record {
-  marks = λ t. below_none (g.R.Reads.state c.args.space.now).records c.args.marks.now c.requires.clear;
+  seen = λ t. below_none (g.R.Reads.state c.args.space.now).records c.args.seen.now c.requires.clear;
   read = is_read-none g.R.Reads g.met.R.Reads.stays_onward c.args.space.now;
 }
 
-pub mark_chain-requires-clause-clear : goal.mark_chain-requires-clause-clear
-mark_chain-requires-clause-clear g c = λ t k own.
+pub see_chain-requires-clause-clear : goal.see_chain-requires-clause-clear
+see_chain-requires-clause-clear g c = λ t k own.
     let inv = c.loop-node.invariant in
-    below_clear (g.R.Reads.state c.args.space.now).records c.loop-node.node c.loop-node.marks (inv.marks t) k
+    below_clear (g.R.Reads.state c.args.space.now).records c.loop-node.node c.loop-node.seen (inv.seen t) k
     (subst (λ (r : Records). IsOwnedBy r c.loop-node.node k) inv.read.records own)
 
 pub loop-node-preserved : goal.loop-node-preserved
@@ -27,27 +27,27 @@ loop-node-preserved g c =
     let records = (g.R.Reads.state c.args.space.now).records in
     let inv = c.loop-node.invariant in
     record {
-      marks = λ t. below_more records c.loop-node.node c.loop-node.marks c.mark_chain.new.marks (inv.marks t)
-          (subst (λ (r : Records). MarksChain r c.loop-node.node c.loop-node.marks c.mark_chain.new.marks) inv.read.records
-          (c.in_ok-mark_chain.ensures.marks t));
-      read = is_read-on g.R.Reads g.met.R.Reads.further_onward c.args.space.now c.loop-node.space c.mark_chain.new.space inv.read
-          c.in_ok-mark_chain.ensures.read;
+      seen = λ t. below_more records c.loop-node.node c.loop-node.seen c.see_chain.new.seen (inv.seen t)
+          (subst (λ (r : Records). SeesChain r c.loop-node.node c.loop-node.seen c.see_chain.new.seen) inv.read.records
+          (c.in_ok-see_chain.ensures.seen t));
+      read = is_read-on g.R.Reads g.met.R.Reads.further_onward c.args.space.now c.loop-node.space c.see_chain.new.space inv.read
+          c.in_ok-see_chain.ensures.read;
     }
 
-pub returns-clause-marks : goal.returns-clause-marks
-returns-clause-marks g c = λ t.
+pub returns-clause-seen : goal.returns-clause-seen
+returns-clause-seen g c = λ t.
     let records = (g.R.Reads.state c.args.space.now).records in
     let mark : c.meta-node-end.result.high ≡ high records nodes_file = ap (λ (m : Meta). m.high) c.meta-node-end.ensures in
-    below_all records c.loop-node.marks (subst (λ n. MarksBelow records n c.loop-node.marks) (omega arith) (c.loop-node.invariant.marks t))
+    below_all records c.loop-node.seen (subst (λ n. SeenBelow records n c.loop-node.seen) (omega arith) (c.loop-node.invariant.seen t))
 
-pub returns-in_err-mark_chain-clause-cause : goal.returns-in_err-mark_chain-clause-cause
-returns-in_err-mark_chain-clause-cause g c =
-    cause_passed _ _ _ c.from_residual.result c.in_err-mark_chain.field-0.0 c.loop-node.invariant.read.later c.in_err-mark_chain.ensures.cause
+pub returns-in_err-see_chain-clause-cause : goal.returns-in_err-see_chain-clause-cause
+returns-in_err-see_chain-clause-cause g c =
+    cause_passed _ _ _ c.from_residual.result c.in_err-see_chain.field-0.0 c.loop-node.invariant.read.later c.in_err-see_chain.ensures.cause
     c.from_residual.ensures.1
 
-pub returns-in_err-mark_chain-clause-read : goal.returns-in_err-mark_chain-clause-read
-returns-in_err-mark_chain-clause-read g c =
-    is_read-on g.R.Reads g.met.R.Reads.further_onward _ _ _ c.loop-node.invariant.read c.in_err-mark_chain.ensures.read
+pub returns-in_err-see_chain-clause-read : goal.returns-in_err-see_chain-clause-read
+returns-in_err-see_chain-clause-read g c =
+    is_read-on g.R.Reads g.met.R.Reads.further_onward _ _ _ c.loop-node.invariant.read c.in_err-see_chain.ensures.read
 
 pub returns-clause-read : goal.returns-clause-read
 returns-clause-read g c = c.loop-node.invariant.read

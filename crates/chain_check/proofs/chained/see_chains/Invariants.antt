@@ -1,12 +1,11 @@
-use Rattle.std.proofs.Common.{◌≡◌, ◌≤◌}
-use Rattle.chain_check.proofs.ChainedLaws.{MarksBelow}
+use Rattle.chain_check.proofs.ChainedLaws.{SeenBelow}
 use Rattle.rec_bytes.specs.Frame.{IsRead}
-use Rattle.chain_check.proofs.chained.mark_chains.Given as goal
+use Rattle.chain_check.proofs.chained.see_chains.Given as goal
 
 abbrev pub invariant-loop-node : goal.invariant-loop-node
 invariant-loop-node g l =
     let s = g.R.Reads.state l.fn.space in
     record {
       read : IsRead g.R.Reads l.fn.space l.space;
-      marks : g.R.Reads.tells → MarksBelow s.records l.node l.marks;
+      seen : g.R.Reads.tells → SeenBelow s.records l.node l.seen;
     }

@@ -1,4 +1,4 @@
-use Rattle.std.proofs.Common.{arith, rules}
+use Rattle.std.proofs.Common.{arith}
 use Rattle.rec_bytes.proofs.Causes.{never_ok}
 use Rattle.record_lists.proofs.Causes.{cause_passed}
 use Rattle.chain_check.proofs.Causes.{cause_later, no_memory}
@@ -17,10 +17,10 @@ returns-in_err-chained-clause-cause g c =
     cause_passed _ _ _ c.from_residual.result c.in_err-chained.field-0.0 (omega arith) c.in_err-chained.ensures.cause c.from_residual.ensures.1
 
 pub returns-clause-read : goal.returns-clause-read
-returns-clause-read g c = is_read-on g.R.Reads g.met.R.Reads.further_onward _ _ _ c.chained_groups.ensures.read c.check_marked.ensures.read
+returns-clause-read g c = is_read-on g.R.Reads g.met.R.Reads.further_onward _ _ _ c.chained_groups.ensures.read c.check_seen.ensures.read
 
 pub returns-clause-cause : goal.returns-clause-cause
-returns-clause-cause g c = cause_later _ _ _ c.check_marked.result c.chained_groups.ensures.read.later c.check_marked.ensures.cause
+returns-clause-cause g c = cause_later _ _ _ c.check_seen.result c.chained_groups.ensures.read.later c.check_seen.ensures.cause
 
 pub returns-in_default-clause-read : goal.returns-in_default-clause-read
 returns-in_default-clause-read g c = c.chained_groups.ensures.read

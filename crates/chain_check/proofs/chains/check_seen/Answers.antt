@@ -9,31 +9,31 @@ use Rattle.record_lists.proofs.DecidingLaws.{breaks_by}
 use Rattle.record_lists.proofs.Causes.{cause_passed}
 use Rattle.rec_bytes.proofs.Causes.{never_ok, ok_cause}
 use Rattle.record_lists.proofs.OnlyReads.{is_read-on}
-use Rattle.chain_check.proofs.chains.check_marked.Goals as goal
+use Rattle.chain_check.proofs.chains.check_seen.Goals as goal
 
 pub returns-in-Some-2-clause-decided : goal.returns-in-Some-2-clause-decided
 returns-in-Some-2-clause-decided g c = λ tells.
     let s = g.R.Reads.state c.args.space.now in
-    let marks = c.mark_ends.new.marks in
+    let seen = c.see_ends.new.seen in
     let id = c.in-Some-2.id in
-    let met : AreMet s.records marks = search (rules, c.in_ok-damage.ensures.met tells) in
-    let found : IfSome c.in_ok-id.field-0 (λ x. (x < high s.records relationships_file) × (¬ RelHolds (kind_at s.records nodes_file) s.records marks x))
-    = subst (λ (r : Records). IfSome c.in_ok-id.field-0 (λ x. (x < high r relationships_file) × (¬ RelHolds (kind_at r nodes_file) r marks x)))
+    let met : AreMet s.records seen = search (rules, c.in_ok-damage.ensures.met tells) in
+    let found : IfSome c.in_ok-id.field-0 (λ x. (x < high s.records relationships_file) × (¬ RelHolds (kind_at s.records nodes_file) s.records seen x))
+    = subst (λ (r : Records). IfSome c.in_ok-id.field-0 (λ x. (x < high r relationships_file) × (¬ RelHolds (kind_at r nodes_file) r seen x)))
     c.in_ok-damage.ensures.read.records (c.in_ok-id.ensures.found tells) in
-    let bad : (id < high s.records relationships_file) × (¬ RelHolds (kind_at s.records nodes_file) s.records marks id) = search (rules, found) in
+    let bad : (id < high s.records relationships_file) × (¬ RelHolds (kind_at s.records nodes_file) s.records seen id) = search (rules, found) in
     breaks_by s.records s.shape 3 c.broken.result (damage 2 id 3) c.broken.ensures refl
-    (RelEnds id bad.0 (λ k. bad.1 (rel_holds s.records marks met.told met.once id k)))
+    (RelEnds id bad.0 (λ k. bad.1 (rel_holds s.records seen met.told met.once id k)))
 
 pub returns-in-None-clause-decided : goal.returns-in-None-clause-decided
 returns-in-None-clause-decided g c = λ tells.
     let s = g.R.Reads.state c.args.space.now in
-    let marks = c.mark_ends.new.marks in
-    let met : AreMet s.records marks = search (rules, c.in_ok-damage.ensures.met tells) in
-    let none : IfNone c.in_ok-id.field-0 ((x : ℕ) → x < high s.records relationships_file → RelHolds (kind_at s.records nodes_file) s.records marks x)
-    = subst (λ (r : Records). IfNone c.in_ok-id.field-0 ((x : ℕ) → x < high r relationships_file → RelHolds (kind_at r nodes_file) r marks x))
+    let seen = c.see_ends.new.seen in
+    let met : AreMet s.records seen = search (rules, c.in_ok-damage.ensures.met tells) in
+    let none : IfNone c.in_ok-id.field-0 ((x : ℕ) → x < high s.records relationships_file → RelHolds (kind_at s.records nodes_file) s.records seen x)
+    = subst (λ (r : Records). IfNone c.in_ok-id.field-0 ((x : ℕ) → x < high r relationships_file → RelHolds (kind_at r nodes_file) r seen x))
     c.in_ok-damage.ensures.read.records (c.in_ok-id.ensures.none tells) in
-    let holds : (x : ℕ) → x < high s.records relationships_file → RelHolds (kind_at s.records nodes_file) s.records marks x = search (rules, none) in
-    record { nodes = met.nodes; groups = met.groups; rels = all_keep s.records (λ x lt. rel_kept s.records marks met.told met.once x (holds x lt)) }
+    let holds : (x : ℕ) → x < high s.records relationships_file → RelHolds (kind_at s.records nodes_file) s.records seen x = search (rules, none) in
+    record { nodes = met.nodes; groups = met.groups; rels = all_keep s.records (λ x lt. rel_kept s.records seen met.told met.once x (holds x lt)) }
 
 pub returns-in_err-damage-clause-cause : goal.returns-in_err-damage-clause-cause
 returns-in_err-damage-clause-cause g c =
@@ -56,22 +56,22 @@ returns-in_err-id-clause-decided g c _ = never_ok c.from_residual-in_err-id.resu
 
 pub returns-in_err-id-clause-read : goal.returns-in_err-id-clause-read
 returns-in_err-id-clause-read g c =
-    is_read-on g.R.Reads g.met.R.Reads.further_onward _ _ _ c.mark_ends.ensures.read c.in_err-id.ensures.read
+    is_read-on g.R.Reads g.met.R.Reads.further_onward _ _ _ c.see_ends.ensures.read c.in_err-id.ensures.read
 
 pub returns-in-Some-clause-read : goal.returns-in-Some-clause-read
-returns-in-Some-clause-read g c = c.mark_ends.ensures.read
+returns-in-Some-clause-read g c = c.see_ends.ensures.read
 
 pub returns-in-Some-clause-cause : goal.returns-in-Some-clause-cause
 returns-in-Some-clause-cause g c = ok_cause _ _ _ _ (returns-in-Some-clause-read g c).later
 
 pub returns-in-Some-2-clause-read : goal.returns-in-Some-2-clause-read
-returns-in-Some-2-clause-read g c = is_read-on g.R.Reads g.met.R.Reads.further_onward _ _ _ c.mark_ends.ensures.read c.find_loose.ensures.read
+returns-in-Some-2-clause-read g c = is_read-on g.R.Reads g.met.R.Reads.further_onward _ _ _ c.see_ends.ensures.read c.find_loose.ensures.read
 
 pub returns-in-Some-2-clause-cause : goal.returns-in-Some-2-clause-cause
 returns-in-Some-2-clause-cause g c = ok_cause _ _ _ _ (returns-in-Some-2-clause-read g c).later
 
 pub returns-in-None-clause-read : goal.returns-in-None-clause-read
-returns-in-None-clause-read g c = is_read-on g.R.Reads g.met.R.Reads.further_onward _ _ _ c.mark_ends.ensures.read c.find_loose.ensures.read
+returns-in-None-clause-read g c = is_read-on g.R.Reads g.met.R.Reads.further_onward _ _ _ c.see_ends.ensures.read c.find_loose.ensures.read
 
 pub returns-in-None-clause-cause : goal.returns-in-None-clause-cause
 returns-in-None-clause-cause g c = ok_cause _ _ _ _ (returns-in-None-clause-read g c).later

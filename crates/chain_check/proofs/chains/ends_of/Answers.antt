@@ -1,4 +1,4 @@
-use Rattle.std.proofs.Common.{ap, arith, get_or, map, refl, rules, take, ◌∙◌, ◌≡◌}
+use Rattle.std.proofs.Common.{ap, arith, get_or, map, rules, take, ◌∙◌, ◌≡◌}
 use Rattle.std.proofs.lemmas.Grind.{common_steps}
 use Rattle.std.proofs.lemmas.List.{take_all}
 use Rattle.chain_check.specs.NodeChains.{end_of}

@@ -1,4 +1,4 @@
-use Rattle.std.proofs.Common.{◌≡◌, ◌≤◌, ◌<◌, ◌*◌, take, map}
+use Rattle.std.proofs.Common.{◌≡◌, ◌<◌, ◌*◌, take, map}
 use Rattle.std.specs.List.{All}
 use Rattle.chain_check.specs.NodeChains.{end_of}
 use Rattle.rec_bytes.specs.Frame.{IsRead}

@@ -1,4 +1,4 @@
-use Rattle.std.proofs.Common.{arith, ap, rules, subst, sym, ◌≡◌, ◌<◌, ◌∙◌, ℕ, IfNone, IfSome}
+use Rattle.std.proofs.Common.{arith, ap, subst, sym, ◌≡◌, ◌<◌, ◌∙◌, ℕ, IfNone, IfSome}
 use Rattle.std.proofs.lemmas.Result.{IfOk-weaker}
 use Rattle.rec_bytes.specs.declared.meta.Meta.{Meta}
 use Rattle.rec_bytes.specs.Format.{relationships_file}
@@ -22,8 +22,8 @@ returns-clause-none g c = λ tells.
     let same = c.in_ok-kinds.ensures.read.records in
     let mark : count ≡ high records relationships_file = ap (λ (m : Meta). m.high) c.meta-relationships.ensures
     ∙ ap (λ (r : Records). high r relationships_file) same in
-    IfOk-weaker c.find_false.result (λ found. IfNone found ((x : ℕ) → x < count → RelHolds (kind_of kinds) after c.args.marks.now x)) _
-    (none_loose records after kinds c.args.marks.now count same mark (subst (AreKinds records) (sym is) (c.in_ok-kinds.ensures.kinds tells)))
+    IfOk-weaker c.find_false.result (λ found. IfNone found ((x : ℕ) → x < count → RelHolds (kind_of kinds) after c.args.seen.now x)) _
+    (none_loose records after kinds c.args.seen.now count same mark (subst (AreKinds records) (sym is) (c.in_ok-kinds.ensures.kinds tells)))
     (c.find_false.ensures.none tells)
 
 pub returns-clause-found : goal.returns-clause-found
@@ -36,8 +36,8 @@ returns-clause-found g c = λ tells.
     let same = c.in_ok-kinds.ensures.read.records in
     let mark : count ≡ high records relationships_file = ap (λ (m : Meta). m.high) c.meta-relationships.ensures
     ∙ ap (λ (r : Records). high r relationships_file) same in
-    IfOk-weaker c.find_false.result (λ found. IfSome found (λ x. (x < count) × (¬ RelHolds (kind_of kinds) after c.args.marks.now x))) _
-    (one_loose records after kinds c.args.marks.now count same mark (subst (AreKinds records) (sym is) (c.in_ok-kinds.ensures.kinds tells)))
+    IfOk-weaker c.find_false.result (λ found. IfSome found (λ x. (x < count) × (¬ RelHolds (kind_of kinds) after c.args.seen.now x))) _
+    (one_loose records after kinds c.args.seen.now count same mark (subst (AreKinds records) (sym is) (c.in_ok-kinds.ensures.kinds tells)))
     (c.find_false.ensures.found tells)
 
 pub returns-in_err-kinds-clause-none : goal.returns-in_err-kinds-clause-none

@@ -7,7 +7,7 @@ use Rattle.record_lists.specs.declared.heads.Broke.TheVariants.{Head, Item}
 use Rattle.store_rules.specs.Breaking.{damage}
 use Rattle.store_rules.specs.Breaking.Breaks.{GroupChains, NodeChain, RelEnds}
 use Rattle.record_lists.specs.Heads.{AmongHeads, BrokeIs, HeadKeeps, IsOnce}
-use Rattle.record_lists.specs.Marks.{marked}
+use Rattle.record_lists.specs.Seen.{is_seen}
 use Rattle.chain_check.specs.NodeChains.{AreGroupEnds, AreNodeEnds, IsChained, IsSparse, group_of}
 use Rattle.chain_check.proofs.EndLaws.{all_met, group_twice, head_of_keeps, heads_of_keeps, keeps_of_head}
 use Rattle.chain_check.proofs.EndLaws.{keeps_of_heads, met_once, never_twice, nodes_keep, own_chain}
@@ -16,13 +16,13 @@ use Rattle.record_lists.proofs.DecidingLaws.{breaks_by}
 use Rattle.record_lists.proofs.Causes.{cause_passed}
 use Rattle.rec_bytes.proofs.Causes.{never_ok, ok_cause}
 use Rattle.record_lists.proofs.OnlyReads.{is_read-on}
-use Rattle.chain_check.proofs.chains.mark_ends.Goals as goal
+use Rattle.chain_check.proofs.chains.see_ends.Goals as goal
 
 pub returns-in-Some-Head-clause-broken : goal.returns-in-Some-Head-clause-broken
 returns-in-Some-Head-clause-broken g c = λ tells.
     let s = g.R.Reads.state c.args.space.now in
     let id = c.in-Some-Head.id in
-    let b : BrokeIs (IsSparse s.records) (AreNodeEnds s.records) (high s.records nodes_file) c.args.marks.now (Head id) =
+    let b : BrokeIs (IsSparse s.records) (AreNodeEnds s.records) (high s.records nodes_file) c.args.seen.now (Head id) =
     search (rules, c.in_ok-id.ensures.broken tells) in
     breaks_by s.records s.shape 3 c.broken.result (damage 1 id 3) (c.broken.ensures ∙ ap (λ i. damage 1 i 3) c.in-Some-Head.id-is) refl
     (NodeChain id b.0 (λ k. b.1 (head_of_keeps s.records id k)))
@@ -30,9 +30,9 @@ returns-in-Some-Head-clause-broken g c = λ tells.
 pub returns-in-Some-Item-clause-broken : goal.returns-in-Some-Item-clause-broken
 returns-in-Some-Item-clause-broken g c = λ tells.
     let s = g.R.Reads.state c.args.space.now in
-    let b : BrokeIs (IsSparse s.records) (AreNodeEnds s.records) (high s.records nodes_file) c.args.marks.now (Item c.in-Some-Item.end) =
+    let b : BrokeIs (IsSparse s.records) (AreNodeEnds s.records) (high s.records nodes_file) c.args.seen.now (Item c.in-Some-Item.end) =
     search (rules, c.in_ok-id.ensures.broken tells) in
-    absurd (never_twice s.records (high s.records nodes_file) c.args.marks.now c.in-Some-Item.end c.requires.clear b)
+    absurd (never_twice s.records (high s.records nodes_file) c.args.seen.now c.in-Some-Item.end c.requires.clear b)
 
 pub returns-in-Some-Head-2-clause-broken : goal.returns-in-Some-Head-2-clause-broken
 returns-in-Some-Head-2-clause-broken g c = λ tells.
@@ -40,7 +40,7 @@ returns-in-Some-Head-2-clause-broken g c = λ tells.
     let id = c.in-Some-Head-2.id in
     let chained = c.args.chained.now in
     let right = c.requires.chained tells in
-    let first = c.mark_node_ends.new.marks in
+    let first = c.see_node_ends.new.seen in
     let groups = 3 * c.meta-groups.result.high in
     let group_mark : c.meta-groups.result.high ≡ high s.records groups_file = ap (λ (m : Meta). m.high) c.meta-groups.ensures in
     let told : IfSome c.in_ok-id-2.field-0 (BrokeIs (λ k. IsChained chained s.records (group_of k)) (AreGroupEnds s.records) groups first)
@@ -54,18 +54,18 @@ pub returns-in-Some-Item-2-clause-broken : goal.returns-in-Some-Item-2-clause-br
 returns-in-Some-Item-2-clause-broken g c = λ tells.
     let s = g.R.Reads.state c.args.space.now in
     let chained = c.args.chained.now in
-    let first = c.mark_node_ends.new.marks in
+    let first = c.see_node_ends.new.seen in
     let end = c.in-Some-Item-2.end in
     let nodes = high s.records nodes_file in
     let groups = 3 * c.meta-groups.result.high in
-    let told : (p : ℕ) → Decides (marked first p) ((marked c.args.marks.now p ≡ true) ⊎ AmongHeads (IsSparse s.records) (AreNodeEnds s.records) nodes p) =
-    search (rules, c.in_ok-id.ensures.marks tells) in
+    let told : (p : ℕ) → Decides (is_seen first p) ((is_seen c.args.seen.now p ≡ true) ⊎ AmongHeads (IsSparse s.records) (AreNodeEnds s.records) nodes p) =
+    search (rules, c.in_ok-id.ensures.seen tells) in
     let twice : IfSome c.in_ok-id-2.field-0 (BrokeIs (λ k. IsChained chained s.records (group_of k)) (AreGroupEnds s.records) groups first)
     = subst (λ (r : Records). IfSome c.in_ok-id-2.field-0 (BrokeIs (λ k. IsChained chained r (group_of k)) (AreGroupEnds r) groups first))
     c.in_ok-id.ensures.read.records (c.in_ok-id-2.ensures.broken tells) in
     let b : BrokeIs (λ k. IsChained chained s.records (group_of k)) (AreGroupEnds s.records) groups first (Item end) = search (rules, twice) in
     let bad = group_twice s.records chained (c.requires.chained tells) nodes groups first end
-    (told_clear (IsSparse s.records) (AreNodeEnds s.records) nodes c.args.marks.now first c.requires.clear told) b in
+    (told_clear (IsSparse s.records) (AreNodeEnds s.records) nodes c.args.seen.now first c.requires.clear told) b in
     breaks_by s.records s.shape 3 c.broken-in-Some-Item-2.result (damage 2 bad.0 3) (c.broken-in-Some-Item-2.ensures ∙ ap (λ x. damage 2 x 3) (sym bad.1)) refl
     (RelEnds bad.0 bad.2 bad.3)
 
@@ -74,22 +74,22 @@ returns-in-None-2-clause-met g c = λ tells.
     let s = g.R.Reads.state c.args.space.now in
     let chained = c.args.chained.now in
     let right = c.requires.chained tells in
-    let first = c.mark_node_ends.new.marks in
-    let last = c.list_heads.new.marks in
+    let first = c.see_node_ends.new.seen in
+    let last = c.list_heads.new.seen in
     let nodes = high s.records nodes_file in
     let groups = 3 * c.meta-groups.result.high in
     let group_mark : c.meta-groups.result.high ≡ high s.records groups_file = ap (λ (m : Meta). m.high) c.meta-groups.ensures in
-    let told : (p : ℕ) → Decides (marked first p) ((marked c.args.marks.now p ≡ true) ⊎ AmongHeads (IsSparse s.records) (AreNodeEnds s.records) nodes p) =
-    search (rules, c.in_ok-id.ensures.marks tells) in
-    let node_told : (p : ℕ) → Decides (marked first p) (AmongHeads (IsSparse s.records) (AreNodeEnds s.records) nodes p) =
-    told_clear (IsSparse s.records) (AreNodeEnds s.records) nodes c.args.marks.now first c.requires.clear told in
+    let told : (p : ℕ) → Decides (is_seen first p) ((is_seen c.args.seen.now p ≡ true) ⊎ AmongHeads (IsSparse s.records) (AreNodeEnds s.records) nodes p) =
+    search (rules, c.in_ok-id.ensures.seen tells) in
+    let node_told : (p : ℕ) → Decides (is_seen first p) (AmongHeads (IsSparse s.records) (AreNodeEnds s.records) nodes p) =
+    told_clear (IsSparse s.records) (AreNodeEnds s.records) nodes c.args.seen.now first c.requires.clear told in
     let node_heads : (k : ℕ) → k < nodes → HeadKeeps (IsSparse s.records) (AreNodeEnds s.records) k = search (rules, c.in_ok-id.ensures.keeps tells) in
-    let marks : IfNone c.in_ok-id-2.field-0 ((p : ℕ) → Decides (marked last p) ((marked first p ≡ true) ⊎ AmongHeads (λ k. IsChained chained s.records
+    let seen : IfNone c.in_ok-id-2.field-0 ((p : ℕ) → Decides (is_seen last p) ((is_seen first p ≡ true) ⊎ AmongHeads (λ k. IsChained chained s.records
     (group_of k)) (AreGroupEnds s.records) groups p))
-    = subst (λ (r : Records). IfNone c.in_ok-id-2.field-0 ((p : ℕ) → Decides (marked last p) ((marked first p ≡ true) ⊎ AmongHeads
-    (λ k. IsChained chained r (group_of k)) (AreGroupEnds r) groups p))) c.in_ok-id.ensures.read.records (c.in_ok-id-2.ensures.marks tells) in
-    let group_told : (p : ℕ) → Decides (marked last p) ((marked first p ≡ true) ⊎ AmongHeads (λ k. IsChained chained s.records (group_of k))
-    (AreGroupEnds s.records) groups p) = search (rules, marks) in
+    = subst (λ (r : Records). IfNone c.in_ok-id-2.field-0 ((p : ℕ) → Decides (is_seen last p) ((is_seen first p ≡ true) ⊎ AmongHeads
+    (λ k. IsChained chained r (group_of k)) (AreGroupEnds r) groups p))) c.in_ok-id.ensures.read.records (c.in_ok-id-2.ensures.seen tells) in
+    let group_told : (p : ℕ) → Decides (is_seen last p) ((is_seen first p ≡ true) ⊎ AmongHeads (λ k. IsChained chained s.records (group_of k))
+    (AreGroupEnds s.records) groups p) = search (rules, seen) in
     let keeps : IfNone c.in_ok-id-2.field-0 ((k : ℕ) → k < groups → HeadKeeps (λ k. IsChained chained s.records (group_of k)) (AreGroupEnds s.records) k)
     = subst (λ (r : Records). IfNone c.in_ok-id-2.field-0 ((k : ℕ) → k < groups → HeadKeeps (λ k. IsChained chained r (group_of k)) (AreGroupEnds r) k))
     c.in_ok-id.ensures.read.records (c.in_ok-id-2.ensures.keeps tells) in
@@ -98,7 +98,7 @@ returns-in-None-2-clause-met g c = λ tells.
     = subst (λ (r : Records). IfNone c.in_ok-id-2.field-0 ((p : ℕ) → IsOnce (λ k. IsChained chained r (group_of k)) (AreGroupEnds r) groups p))
     c.in_ok-id.ensures.read.records (c.in_ok-id-2.ensures.once tells) in
     let group_once : (p : ℕ) → IsOnce (λ k. IsChained chained s.records (group_of k)) (AreGroupEnds s.records) groups p = search (rules, once) in
-    let all_told = subst (λ m. (p : ℕ) → Decides (marked last p) ((marked first p ≡ true) ⊎ AmongHeads (λ k. IsChained chained s.records (group_of k))
+    let all_told = subst (λ m. (p : ℕ) → Decides (is_seen last p) ((is_seen first p ≡ true) ⊎ AmongHeads (λ k. IsChained chained s.records (group_of k))
     (AreGroupEnds s.records) (3 * m) p)) group_mark group_told in
     record {
       nodes = nodes_keep s.records (λ n lt. keeps_of_head s.records n (node_heads n lt));

@@ -6,14 +6,14 @@ use Rattle.rec_bytes.specs.Format.{most_ids, nodes_file, relationships_file}
 use Rattle.rec_bytes.proofs.Causes.{never_ok}
 use Rattle.store_rules.specs.Views.{Records, high}
 use Rattle.record_lists.specs.Heads.{AmongHeads, BrokeIs, HeadKeeps}
-use Rattle.record_lists.specs.Marks.{marked}
+use Rattle.record_lists.specs.Seen.{is_seen}
 use Rattle.record_lists.proofs.Causes.{cause_passed}
 use Rattle.chain_check.proofs.Causes.{cause_later}
 use Rattle.chain_check.specs.LinkRows.{AreLinkRows, AreRowEndsOf}
 use Rattle.chain_check.specs.NodeChains.{IsSparse}
-use Rattle.chain_check.proofs.RowLaws.{broken_found, keeps_found, marks_found}
+use Rattle.chain_check.proofs.RowLaws.{broken_found, keeps_found, seen_found}
 use Rattle.record_lists.proofs.OnlyReads.{is_read-on}
-use Rattle.chain_check.proofs.chains.mark_node_ends.Goals as goal
+use Rattle.chain_check.proofs.chains.see_node_ends.Goals as goal
 
 pub returns-clause-keeps : goal.returns-clause-keeps
 returns-clause-keeps g c = λ tells.
@@ -28,21 +28,21 @@ returns-clause-keeps g c = λ tells.
     (keeps_found records after rows nodes same mark (subst (AreLinkRows records) (sym is) (c.in_ok-rows.ensures.rows tells))
     (ap length is ∙ c.in_ok-rows.ensures.len) (c.requires.low nodes_file refl) (c.requires.low relationships_file refl)) (c.list_heads.ensures.keeps tells)
 
-pub returns-clause-marks : goal.returns-clause-marks
-returns-clause-marks g c = λ tells.
+pub returns-clause-seen : goal.returns-clause-seen
+returns-clause-seen g c = λ tells.
     let records = (g.R.Reads.state c.args.space.now).records in
     let after = (g.R.Reads.state c.link_rows.new.space).records in
     let rows = c.deref.result.now in
     let is : rows ≡ c.in_ok-rows.rows.items = c.deref.ensures.value in
     let nodes = c.meta-nodes.result.high in
     let same = c.in_ok-rows.ensures.read.records in
-    let old = c.args.marks.now in
-    let new = c.list_heads.new.marks in
+    let old = c.args.seen.now in
+    let new = c.list_heads.new.seen in
     let mark : nodes ≡ high records nodes_file = ap (λ (m : Meta). m.high) c.meta-nodes.ensures ∙ ap (λ (r : Records). high r nodes_file) same in
-    IfOk-weaker c.list_heads.result (λ found. IfNone found ((p : ℕ) → Decides (marked new p) ((marked old p ≡ true) ⊎ AmongHeads (IsSparse after)
+    IfOk-weaker c.list_heads.result (λ found. IfNone found ((p : ℕ) → Decides (is_seen new p) ((is_seen old p ≡ true) ⊎ AmongHeads (IsSparse after)
     (AreRowEndsOf rows after) nodes p))) _
-    (marks_found records after rows nodes same mark (subst (AreLinkRows records) (sym is) (c.in_ok-rows.ensures.rows tells))
-    (ap length is ∙ c.in_ok-rows.ensures.len) (c.requires.low nodes_file refl) (c.requires.low relationships_file refl) old new) (c.list_heads.ensures.marks
+    (seen_found records after rows nodes same mark (subst (AreLinkRows records) (sym is) (c.in_ok-rows.ensures.rows tells))
+    (ap length is ∙ c.in_ok-rows.ensures.len) (c.requires.low nodes_file refl) (c.requires.low relationships_file refl) old new) (c.list_heads.ensures.seen
     tells)
 
 pub returns-clause-broken : goal.returns-clause-broken
@@ -53,7 +53,7 @@ returns-clause-broken g c = λ tells.
     let is : rows ≡ c.in_ok-rows.rows.items = c.deref.ensures.value in
     let nodes = c.meta-nodes.result.high in
     let same = c.in_ok-rows.ensures.read.records in
-    let old = c.args.marks.now in
+    let old = c.args.seen.now in
     let mark : nodes ≡ high records nodes_file = ap (λ (m : Meta). m.high) c.meta-nodes.ensures ∙ ap (λ (r : Records). high r nodes_file) same in
     IfOk-weaker c.list_heads.result (λ found. IfSome found (BrokeIs (IsSparse after) (AreRowEndsOf rows after) nodes old)) _
     (broken_found records after rows nodes same mark (subst (AreLinkRows records) (sym is) (c.in_ok-rows.ensures.rows tells))
@@ -72,8 +72,8 @@ list_heads-requires-clause-suits g c =
 pub returns-in_err-rows-clause-keeps : goal.returns-in_err-rows-clause-keeps
 returns-in_err-rows-clause-keeps g c _ = never_ok c.from_residual.result _ _ c.from_residual.ensures.1
 
-pub returns-in_err-rows-clause-marks : goal.returns-in_err-rows-clause-marks
-returns-in_err-rows-clause-marks g c _ = never_ok c.from_residual.result _ _ c.from_residual.ensures.1
+pub returns-in_err-rows-clause-seen : goal.returns-in_err-rows-clause-seen
+returns-in_err-rows-clause-seen g c _ = never_ok c.from_residual.result _ _ c.from_residual.ensures.1
 
 pub returns-in_err-rows-clause-broken : goal.returns-in_err-rows-clause-broken
 returns-in_err-rows-clause-broken g c _ = never_ok c.from_residual.result _ _ c.from_residual.ensures.1

@@ -7,9 +7,9 @@ use Rattle.record_lists.specs.declared.heads.Broke.TheVariants.{Head, Item}
 use Rattle.store_rules.specs.Breaking.{IsGroupChain, damage}
 use Rattle.store_rules.specs.Breaking.Breaks.{GroupOwner, OwnerGroups}
 use Rattle.record_lists.specs.Heads.{AmongHeads, BrokeIs, HeadKeeps}
-use Rattle.record_lists.specs.Marks.{marked}
+use Rattle.record_lists.specs.Seen.{is_seen}
 use Rattle.chain_check.specs.NodeChains.{IsDense}
-use Rattle.chain_check.proofs.GroupChainLaws.{are_grouped, head_of_keeps, keeps_of_head, mark_of_member, member_of_mark, never_twice}
+use Rattle.chain_check.proofs.GroupChainLaws.{are_grouped, head_of_keeps, keeps_of_head, seen_of_member, member_of_seen, never_twice}
 use Rattle.record_lists.proofs.HeadLaws.{told_clear}
 use Rattle.record_lists.proofs.DecidingLaws.{breaks_by}
 use Rattle.record_lists.proofs.Causes.{cause_passed}
@@ -22,7 +22,7 @@ returns-in-Some-Head-clause-broken g c = λ tells.
     let s = g.R.Reads.state c.args.space.now in
     let id = c.in-Some-Head.id in
     let mark : c.meta-nodes.result.high ≡ high s.records nodes_file = ap (λ (m : Meta). m.high) c.meta-nodes.ensures in
-    let b : BrokeIs (IsDense s.records) (IsGroupChain s.records) c.meta-nodes.result.high c.args.marks.now (Head id) =
+    let b : BrokeIs (IsDense s.records) (IsGroupChain s.records) c.meta-nodes.result.high c.args.seen.now (Head id) =
     search (rules, c.in_ok-id.ensures.broken tells) in
     breaks_by s.records s.shape 4 c.broken.result (damage 1 id 4) c.broken.ensures refl
     (OwnerGroups id (omega (arith, b.0)) (λ k. b.1 (head_of_keeps s.records id k)))
@@ -30,45 +30,45 @@ returns-in-Some-Head-clause-broken g c = λ tells.
 pub returns-in-Some-Item-clause-broken : goal.returns-in-Some-Item-clause-broken
 returns-in-Some-Item-clause-broken g c = λ tells.
     let s = g.R.Reads.state c.args.space.now in
-    let b : BrokeIs (IsDense s.records) (IsGroupChain s.records) c.meta-nodes.result.high c.args.marks.now (Item c.in-Some-Item.group) =
+    let b : BrokeIs (IsDense s.records) (IsGroupChain s.records) c.meta-nodes.result.high c.args.seen.now (Item c.in-Some-Item.group) =
     search (rules, c.in_ok-id.ensures.broken tells) in
-    absurd (never_twice s.records c.meta-nodes.result.high c.args.marks.now c.in-Some-Item.group c.requires.clear b)
+    absurd (never_twice s.records c.meta-nodes.result.high c.args.seen.now c.in-Some-Item.group c.requires.clear b)
 
 pub returns-in-Some-clause-broken : goal.returns-in-Some-clause-broken
 returns-in-Some-clause-broken g c = λ tells.
     let s = g.R.Reads.state c.args.space.now in
-    let marks = c.list_heads.new.marks in
+    let seen = c.list_heads.new.seen in
     let id = c.in-Some.id in
     let mark : c.meta-nodes.result.high ≡ high s.records nodes_file = ap (λ (m : Meta). m.high) c.meta-nodes.ensures in
-    let told : (p : ℕ) → Decides (marked marks p) ((marked c.args.marks.now p ≡ true) ⊎ AmongHeads (IsDense s.records) (IsGroupChain s.records)
-    c.meta-nodes.result.high p) = search (rules, c.in_ok-id.ensures.marks tells) in
-    let told2 : (p : ℕ) → Decides (marked marks p) (AmongHeads (IsDense s.records) (IsGroupChain s.records) (high s.records nodes_file) p)
-    = subst (λ m. (p : ℕ) → Decides (marked marks p) (AmongHeads (IsDense s.records) (IsGroupChain s.records) m p)) mark
-    (told_clear (IsDense s.records) (IsGroupChain s.records) c.meta-nodes.result.high c.args.marks.now marks c.requires.clear told) in
-    let found : IfSome c.in_ok-id-2.field-0 (λ x. ¬ (is_live s.records groups_file x ≡ true → marked marks x ≡ true))
-    = subst (λ (r : Records). IfSome c.in_ok-id-2.field-0 (λ x. ¬ (is_live r groups_file x ≡ true → marked marks x ≡ true))) c.in_ok-id.ensures.read.records
+    let told : (p : ℕ) → Decides (is_seen seen p) ((is_seen c.args.seen.now p ≡ true) ⊎ AmongHeads (IsDense s.records) (IsGroupChain s.records)
+    c.meta-nodes.result.high p) = search (rules, c.in_ok-id.ensures.seen tells) in
+    let told2 : (p : ℕ) → Decides (is_seen seen p) (AmongHeads (IsDense s.records) (IsGroupChain s.records) (high s.records nodes_file) p)
+    = subst (λ m. (p : ℕ) → Decides (is_seen seen p) (AmongHeads (IsDense s.records) (IsGroupChain s.records) m p)) mark
+    (told_clear (IsDense s.records) (IsGroupChain s.records) c.meta-nodes.result.high c.args.seen.now seen c.requires.clear told) in
+    let found : IfSome c.in_ok-id-2.field-0 (λ x. ¬ (is_live s.records groups_file x ≡ true → is_seen seen x ≡ true))
+    = subst (λ (r : Records). IfSome c.in_ok-id-2.field-0 (λ x. ¬ (is_live r groups_file x ≡ true → is_seen seen x ≡ true))) c.in_ok-id.ensures.read.records
     (c.in_ok-id-2.ensures.found tells) in
-    let bad : ¬ (is_live s.records groups_file id ≡ true → marked marks id ≡ true) = search (rules, found) in
+    let bad : ¬ (is_live s.records groups_file id ≡ true → is_seen seen id ≡ true) = search (rules, found) in
     breaks_by s.records s.shape 4 c.broken-in-Some.result (damage 3 id 4) c.broken-in-Some.ensures refl
-    (GroupOwner id (λ k. bad (mark_of_member s.records marks told2 id k)))
+    (GroupOwner id (λ k. bad (seen_of_member s.records seen told2 id k)))
 
 pub returns-in-None-2-clause-grouped : goal.returns-in-None-2-clause-grouped
 returns-in-None-2-clause-grouped g c = λ tells.
     let s = g.R.Reads.state c.args.space.now in
-    let marks = c.list_heads.new.marks in
+    let seen = c.list_heads.new.seen in
     let mark : c.meta-nodes.result.high ≡ high s.records nodes_file = ap (λ (m : Meta). m.high) c.meta-nodes.ensures in
-    let told : (p : ℕ) → Decides (marked marks p) ((marked c.args.marks.now p ≡ true) ⊎ AmongHeads (IsDense s.records) (IsGroupChain s.records)
-    c.meta-nodes.result.high p) = search (rules, c.in_ok-id.ensures.marks tells) in
-    let told2 : (p : ℕ) → Decides (marked marks p) (AmongHeads (IsDense s.records) (IsGroupChain s.records) (high s.records nodes_file) p)
-    = subst (λ m. (p : ℕ) → Decides (marked marks p) (AmongHeads (IsDense s.records) (IsGroupChain s.records) m p)) mark
-    (told_clear (IsDense s.records) (IsGroupChain s.records) c.meta-nodes.result.high c.args.marks.now marks c.requires.clear told) in
+    let told : (p : ℕ) → Decides (is_seen seen p) ((is_seen c.args.seen.now p ≡ true) ⊎ AmongHeads (IsDense s.records) (IsGroupChain s.records)
+    c.meta-nodes.result.high p) = search (rules, c.in_ok-id.ensures.seen tells) in
+    let told2 : (p : ℕ) → Decides (is_seen seen p) (AmongHeads (IsDense s.records) (IsGroupChain s.records) (high s.records nodes_file) p)
+    = subst (λ m. (p : ℕ) → Decides (is_seen seen p) (AmongHeads (IsDense s.records) (IsGroupChain s.records) m p)) mark
+    (told_clear (IsDense s.records) (IsGroupChain s.records) c.meta-nodes.result.high c.args.seen.now seen c.requires.clear told) in
     let heads : (k : ℕ) → k < c.meta-nodes.result.high → HeadKeeps (IsDense s.records) (IsGroupChain s.records) k =
     search (rules, c.in_ok-id.ensures.keeps tells) in
-    let none : IfNone c.in_ok-id-2.field-0 ((x : ℕ) → x < high s.records groups_file → is_live s.records groups_file x ≡ true → marked marks x ≡ true)
-    = subst (λ (r : Records). IfNone c.in_ok-id-2.field-0 ((x : ℕ) → x < high r groups_file → is_live r groups_file x ≡ true → marked marks x ≡ true))
+    let none : IfNone c.in_ok-id-2.field-0 ((x : ℕ) → x < high s.records groups_file → is_live s.records groups_file x ≡ true → is_seen seen x ≡ true)
+    = subst (λ (r : Records). IfNone c.in_ok-id-2.field-0 ((x : ℕ) → x < high r groups_file → is_live r groups_file x ≡ true → is_seen seen x ≡ true))
     c.in_ok-id.ensures.read.records (c.in_ok-id-2.ensures.none tells) in
-    let held : (x : ℕ) → x < high s.records groups_file → is_live s.records groups_file x ≡ true → marked marks x ≡ true = search (rules, none) in
-    are_grouped s.records (λ n lt. keeps_of_head s.records n (heads n (omega arith))) (λ x lt. member_of_mark s.records marks told2 x (held x lt))
+    let held : (x : ℕ) → x < high s.records groups_file → is_live s.records groups_file x ≡ true → is_seen seen x ≡ true = search (rules, none) in
+    are_grouped s.records (λ n lt. keeps_of_head s.records n (heads n (omega arith))) (λ x lt. member_of_seen s.records seen told2 x (held x lt))
 
 pub returns-in_err-id-clause-cause : goal.returns-in_err-id-clause-cause
 returns-in_err-id-clause-cause g c =

@@ -1,4 +1,4 @@
-use Rattle.std.proofs.Common.{◌≡◌, ◌≤◌, ◌<◌, ℕ, length}
+use Rattle.std.proofs.Common.{◌≡◌, ◌<◌, ℕ, length}
 use Rattle.rec_bytes.specs.Format.{nodes_file}
 use Rattle.store_rules.specs.Views.{kind_at}
 use Rattle.chain_check.specs.Kinds.{kind_of}

@@ -1,4 +1,4 @@
-use Rattle.std.proofs.Common.{[], ap, arith, length, refl, rules, ℕ, ◌+◌, ◌++◌, ◌<◌, ◌∙◌, ◌∷◌, ◌≡◌, sym}
+use Rattle.std.proofs.Common.{[], ap, arith, length, rules, ℕ, ◌+◌, ◌++◌, ◌<◌, ◌∙◌, ◌∷◌, ◌≡◌, sym}
 use Rattle.std.proofs.lemmas.Grind.{common_steps}
 use Rattle.rec_bytes.specs.Format.{relationships_file}
 use Rattle.store_rules.specs.Views.{Records, rec_at}

@@ -4,7 +4,7 @@ use Rattle.std.proofs.lemmas.Bool.{true≢false}
 use Rattle.rec_bytes.specs.Format.{relationships_file}
 use Rattle.rec_bytes.specs.Record.{field}
 use Rattle.store_rules.specs.Views.{high}
-use Rattle.record_lists.specs.Marks.{marked}
+use Rattle.record_lists.specs.Seen.{is_seen}
 use Rattle.chain_check.specs.Kinds.{kind_of}
 use Rattle.chain_check.specs.NodeChains.{EndHolds, end_in}
 use Rattle.chain_check.proofs.EndLaws.{hold_both, hold_from, hold_to, none_holds}
@@ -19,7 +19,7 @@ returns-then-byte-eq-FREE-clause-told g c = λ tells.
     let records = (g.R.Reads.state c.args.space.now).records in
     let lt : c.args.id < high records relationships_file = omega (arith, c.requires.id, c.requires.suits.relationships) in
     let kind = kind_read records relationships_file c.args.id c.in_ok-rec.rec lt (c.in_ok-rec.ensures.got tells) in (
-      (λ _. none_holds (kind_of c.args.self.now.kinds.now) records c.args.self.now.marks.now c.args.id (kind ∙ sym c.byte.ensures ∙ c.if-byte-eq-FREE.true)),
+      (λ _. none_holds (kind_of c.args.self.now.kinds.now) records c.args.self.now.seen.now c.args.id (kind ∙ sym c.byte.ensures ∙ c.if-byte-eq-FREE.true)),
       (λ _. refl),
     )
 
@@ -28,14 +28,14 @@ returns-then-leaves-clause-told g c = λ tells.
     let records = (g.R.Reads.state c.args.space.now).records in
     let lt : c.args.id < high records relationships_file = omega (arith, c.requires.id, c.requires.suits.relationships) in
     let r = c.in_ok-rec.rec in
-    let marks = c.args.self.now.marks.now in
+    let seen = c.args.self.now.seen.now in
     let kind = kind_of c.args.self.now.kinds.now in
     let some : field 1 r 0 ≢ 0 = λ z. c.if-byte-eq-FREE.false (c.byte.ensures ∙ z) in
     let got = c.in_ok-rec.ensures.got tells in
-    let from : Decides c.end_holds-leaves.result (EndHolds kind (field 4 r 8) (marked marks (end_in r (field 4 r 8) c.args.id))) = search rules in
-    let to : Decides c.end_holds-enters.result (EndHolds kind (field 4 r 12) (marked marks (end_in r (field 4 r 12) c.args.id))) = search rules in (
-      (λ e. hold_both kind records marks c.args.id r lt got some (from.0 c.if-leaves.true) (to.0 e)),
-      (λ h. to.1 (hold_to kind records marks c.args.id r lt got
+    let from : Decides c.end_holds-leaves.result (EndHolds kind (field 4 r 8) (is_seen seen (end_in r (field 4 r 8) c.args.id))) = search rules in
+    let to : Decides c.end_holds-enters.result (EndHolds kind (field 4 r 12) (is_seen seen (end_in r (field 4 r 12) c.args.id))) = search rules in (
+      (λ e. hold_both kind records seen c.args.id r lt got some (from.0 c.if-leaves.true) (to.0 e)),
+      (λ h. to.1 (hold_to kind records seen c.args.id r lt got
           some h)),
     )
 
@@ -44,12 +44,12 @@ returns-else-leaves-clause-told g c = λ tells.
     let records = (g.R.Reads.state c.args.space.now).records in
     let lt : c.args.id < high records relationships_file = omega (arith, c.requires.id, c.requires.suits.relationships) in
     let r = c.in_ok-rec.rec in
-    let marks = c.args.self.now.marks.now in
+    let seen = c.args.self.now.seen.now in
     let kind = kind_of c.args.self.now.kinds.now in
     let some : field 1 r 0 ≢ 0 = λ z. c.if-byte-eq-FREE.false (c.byte.ensures ∙ z) in
     let got = c.in_ok-rec.ensures.got tells in
-    let from : Decides c.end_holds-leaves.result (EndHolds kind (field 4 r 8) (marked marks (end_in r (field 4 r 8) c.args.id))) = search rules in
-    ((λ e. absurd (true≢false (sym e ∙ c.if-leaves.false))), (λ h. from.1 (hold_from kind records marks c.args.id r lt got some h)))
+    let from : Decides c.end_holds-leaves.result (EndHolds kind (field 4 r 8) (is_seen seen (end_in r (field 4 r 8) c.args.id))) = search rules in
+    ((λ e. absurd (true≢false (sym e ∙ c.if-leaves.false))), (λ h. from.1 (hold_from kind records seen c.args.id r lt got some h)))
 
 pub returns-in_err-rec-clause-cause : goal.returns-in_err-rec-clause-cause
 returns-in_err-rec-clause-cause g c =

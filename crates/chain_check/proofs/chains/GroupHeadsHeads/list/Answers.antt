@@ -34,7 +34,7 @@ returns-clause-told g c = λ tells.
     let label : c.number-label.result ≡ group_label records id = c.number-label.ensures ∙ ap (λ r. field 4 r format.group_type) got in
     let kind = kind_read records format.groups_file id c.in_ok-rec.rec lt got in
     let live : kind_at records format.groups_file id ≢ 0 = λ z. c.if-byte-eq-FREE.false (c.byte.ensures ∙ sym kind ∙ z) in
-    let has : IsChained chained records id = record { live = live; mark = search rules } in
+    let has : IsChained chained records id = record { live = live; seen = search rules } in
     let row = group_in (rec_at records format.groups_file id) id in
     let fit : IsSideOf records (group_head id place) (owner_at records id) (side_at place (group_label records id)) =
     group_side records id place row (row_some (kind_at records format.groups_file id) row live) (place_first c.args.id) in

@@ -1,4 +1,4 @@
-use Rattle.std.proofs.Common.{arith, ◌≡◌, ◌<◌, ◌∙◌, IfOk, ap, sym, refl, rules}
+use Rattle.std.proofs.Common.{arith, ◌≡◌, ◌<◌, ◌∙◌, IfOk, ap, sym, refl}
 use Rattle.std.specs.Bool.{Decides}
 use Rattle.std.proofs.lemmas.Result.{IfOk-weaker}
 use Rattle.rec_bytes.specs.Format as format
@@ -24,14 +24,14 @@ returns-clause-told g c = λ tells.
     let records = (g.R.Reads.state c.args.space.now).records in
     let after = (g.R.Reads.state c.get.new.self).records in
     let id = c.args.id in
-    let marked = c.args.self.now.relationships in
+    let is_seen = c.args.self.now.relationships in
     let lt : id < high records format.groups_file = omega (arith, c.requires.id, c.requires.suits.groups) in
     let got = c.in_ok-rec.ensures.got tells in
     let counted : kind_at records format.groups_file id ≡ 2 = kind_read records format.groups_file id c.in_ok-rec.rec lt got ∙ sym c.byte.ensures
     ∙ c.if-byte-ne-COUNTED.false in
-    let told : IfOk c.are_as_long.result (λ are. Decides are (AreAsLong after marked c.in_ok-rec.rec)) = c.are_as_long.ensures.told tells in
-    IfOk-weaker c.are_as_long.result (λ are. Decides are (AreAsLong after marked c.in_ok-rec.rec)) (λ holds. Decides holds (CountsHold records id))
-    (λ b d. counts_decided records after marked id c.in_ok-rec.rec b (ap (λ s. s.records) c.in_ok-rec.ensures.state) c.requires.suits.relationships got counted
+    let told : IfOk c.are_as_long.result (λ are. Decides are (AreAsLong after is_seen c.in_ok-rec.rec)) = c.are_as_long.ensures.told tells in
+    IfOk-weaker c.are_as_long.result (λ are. Decides are (AreAsLong after is_seen c.in_ok-rec.rec)) (λ holds. Decides holds (CountsHold records id))
+    (λ b d. counts_decided records after is_seen id c.in_ok-rec.rec b (ap (λ s. s.records) c.in_ok-rec.ensures.state) c.requires.suits.relationships got counted
     d) told
 
 pub returns-in_err-rec-clause-read : goal.returns-in_err-rec-clause-read
