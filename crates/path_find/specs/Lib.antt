@@ -9,3 +9,4 @@ pub mod Reading
 pub mod Reads
 pub mod Search
 pub mod Tree
+pub mod WalkSearch

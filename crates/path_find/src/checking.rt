@@ -16,21 +16,29 @@ ghost use Rattle.path_find.specs.Checking.{
 };
 ghost use Rattle.path_find.specs.Damage.{BlamesBroken};
 ghost use Rattle.path_find.specs.Reading.{node_of};
-ghost use Rattle.path_find.specs.Reads.{StandFor, adjacency_of, neighbours_at};
+ghost use Rattle.path_find.specs.Reads.{StandFor, adjacency_of};
+ghost use Rattle.path_find.specs.WalkSearch.{neighbours_for};
 
-use crate::Answer;
 use crate::known::{are_held, have_ends, places_of};
 use crate::neighbours::neighbours;
 use crate::node_test::is_node;
 use crate::places::Places;
 use crate::stepping::is_walk;
-use plain_graph::{Direction, NodeLevel};
+use crate::{Answer, WalkSearch};
+use plain_graph::NodeLevel;
 use rec_bytes::{Fault, Reads};
 use std::alloc::Global;
 
-/// Whether the levels prove that no walk from a node to another is shorter, or where no walk is
-/// given, that there is none. The edges are of a direction and of the types with these numbers, or
-/// of all types where none is given.
+/// Levels, and the number of edges of the walk that they are to prove shortest; none where they are
+/// to prove that there is no walk.
+#[derive(Clone, Copy)]
+struct Claim<'a> {
+    levels: &'a [NodeLevel],
+    edges: Option<usize>,
+}
+
+/// Whether the levels prove that no walk that is sought is shorter, or where no walk is given, that
+/// there is none.
 ///
 /// It costs what `expand` reads at each node of the walk but the last, and once more at each node
 /// of the levels that is nearer than the target, or at each of them where no walk is given. The
@@ -38,21 +46,20 @@ use std::alloc::Global;
 pub fn check_levels<R: Reads>(
     alloc: Global,
     reads: &mut R,
-    from: u32,
-    to: u32,
-    direction: Direction,
-    labels: &[u32],
+    sought: &WalkSearch,
     answer: &Answer,
 ) -> Result<bool, Fault>
     ensures decides { R.tells → IsStore (R.state reads.old) → (types : List (List ℕ))
-        → StandFor (R.state reads.old).records labels.now types → IfOk result (λ yes. IsTrue yes
-        ↔ IsCertified (adjacency_of (R.state reads.old) direction types) from to
-        answer.now.walk answer.now.levels) }
+        → StandFor (R.state reads.old).records sought.now.labels.now types
+        → IfOk result (λ yes. IsTrue yes
+        ↔ IsCertified (adjacency_of (R.state reads.old) sought.now.direction types)
+        sought.now.from sought.now.to answer.now.walk answer.now.levels) }
     // so it is true only of a shortest walk, or where there is none
     ensures proves { R.tells → IsStore (R.state reads.old) → (types : List (List ℕ))
-        → StandFor (R.state reads.old).records labels.now types → IfOk result (λ yes. IsTrue yes
-        → IsShortestOrNone (adjacency_of (R.state reads.old) direction types) from to
-        answer.now.walk) }
+        → StandFor (R.state reads.old).records sought.now.labels.now types
+        → IfOk result (λ yes. IsTrue yes
+        → IsShortestOrNone (adjacency_of (R.state reads.old) sought.now.direction types)
+        sought.now.from sought.now.to answer.now.walk) }
     ensures damaged { R.tells → IfErr result (BlamesBroken (R.state reads.old)) }
     ensures read { IsRead R.Reads reads.old reads.new }
     ensures cause { HasFaultCause (R.faults reads.old) (R.faults reads.new) result }
@@ -64,14 +71,14 @@ pub fn check_levels<R: Reads>(
     let Some(places) = found else {
         return Ok(false);
     };
-    if !have_ends(&places, levels, from, to, edges) {
+    if !have_ends(&places, levels, sought.from, sought.to, edges) {
         return Ok(false);
     }
-    let leads = is_walk(alloc, reads, walk, from, to, direction, labels)?;
+    let leads = is_walk(alloc, reads, walk, sought)?;
     if !leads {
         return Ok(false);
     }
-    all_spread(alloc, reads, &places, levels, edges, direction, labels)
+    all_spread(alloc, reads, &places, &Claim { levels, edges }, sought)
 }
 
 /// The number of edges of a walk, and none where no walk is given.
@@ -90,23 +97,23 @@ fn all_spread<R: Reads>(
     alloc: Global,
     reads: &mut R,
     places: &Places,
-    levels: &[NodeLevel],
-    edges: Option<usize>,
-    direction: Direction,
-    labels: &[u32],
+    claim: &Claim,
+    sought: &WalkSearch,
 ) -> Result<bool, Fault>
-    requires places { places.now ≡ map node_of levels.now }
-    requires distinct { AreDistinct levels.now }
+    requires places { places.now ≡ map node_of claim.now.levels.now }
+    requires distinct { AreDistinct claim.now.levels.now }
     ensures yes { R.tells → IsStore (R.state reads.old) → IfOk result (λ yes. OnTrue yes
-        (AllSpread (neighbours_at (R.state reads.old) direction labels.now) levels.now edges)) }
+        (AllSpread (neighbours_for (R.state reads.old) sought.now)
+        claim.now.levels.now claim.now.edges)) }
     ensures no { R.tells → IsStore (R.state reads.old) → IfOk result (λ yes. OnFalse yes
-        (¬ AllSpread (neighbours_at (R.state reads.old) direction labels.now) levels.now edges)) }
+        (¬ AllSpread (neighbours_for (R.state reads.old) sought.now)
+        claim.now.levels.now claim.now.edges)) }
     ensures damaged { R.tells → IfErr result (BlamesBroken (R.state reads.old)) }
     ensures read { IsRead R.Reads reads.old reads.new }
     ensures cause { HasFaultCause (R.faults reads.old) (R.faults reads.new) result }
 {
-    for row in levels {
-        let spreads = is_spread(alloc, reads, places, levels, *row, edges, direction, labels)?;
+    for row in claim.levels {
+        let spreads = is_spread(alloc, reads, places, claim, *row, sought)?;
         if !spreads {
             return Ok(false);
         }
@@ -119,34 +126,32 @@ fn is_spread<R: Reads>(
     alloc: Global,
     reads: &mut R,
     places: &Places,
-    levels: &[NodeLevel],
+    claim: &Claim,
     row: NodeLevel,
-    edges: Option<usize>,
-    direction: Direction,
-    labels: &[u32],
+    sought: &WalkSearch,
 ) -> Result<bool, Fault>
-    requires places { places.now ≡ map node_of levels.now }
-    requires distinct { AreDistinct levels.now }
+    requires places { places.now ≡ map node_of claim.now.levels.now }
+    requires distinct { AreDistinct claim.now.levels.now }
     ensures yes { R.tells → IsStore (R.state reads.old) → IfOk result (λ yes. OnTrue yes
-        (IsSpreadAt (neighbours_at (R.state reads.old) direction labels.now)
-        levels.now edges row)) }
+        (IsSpreadAt (neighbours_for (R.state reads.old) sought.now)
+        claim.now.levels.now claim.now.edges row)) }
     ensures no { R.tells → IsStore (R.state reads.old) → IfOk result (λ yes. OnFalse yes
-        (¬ IsSpreadAt (neighbours_at (R.state reads.old) direction labels.now)
-        levels.now edges row)) }
+        (¬ IsSpreadAt (neighbours_for (R.state reads.old) sought.now)
+        claim.now.levels.now claim.now.edges row)) }
     ensures damaged { R.tells → IfErr result (BlamesBroken (R.state reads.old)) }
     ensures read { IsRead R.Reads reads.old reads.new }
     ensures cause { HasFaultCause (R.faults reads.old) (R.faults reads.new) result }
 {
-    if is_past(row, edges) {
+    if is_past(row, claim.edges) {
         return Ok(false);
     }
-    if is_last(row, edges) {
+    if is_last(row, claim.edges) {
         let there = is_node(reads, row.node)?;
         return Ok(there);
     }
-    let found = neighbours(alloc, reads, row.node, direction, labels)?;
+    let found = neighbours(alloc, reads, row.node, sought.direction, sought.labels)?;
     match found {
-        Some(ends) => Ok(are_held(places, levels, &ends, row, edges)),
+        Some(ends) => Ok(are_held(places, claim.levels, &ends, row, claim.edges)),
         None => Ok(false),
     }
 }

@@ -15,12 +15,12 @@ ghost use Rattle.path_find.specs.Meeting.{
   SomeAtLevel,
 };
 ghost use Rattle.path_find.specs.Reading.{IsSomeTree};
-ghost use Rattle.path_find.specs.Reads.{neighbours_at};
 ghost use Rattle.path_find.specs.Tree.{level_at, row_count};
+ghost use Rattle.path_find.specs.WalkSearch.{neighbours_for};
 
+use crate::WalkSearch;
 use crate::neighbours::neighbours;
 use crate::tree::Tree;
-use plain_graph::Direction;
 use rec_bytes::{Fault, Reads};
 use std::alloc::Global;
 
@@ -31,17 +31,16 @@ pub(crate) fn descend<R: Reads>(
     space: &mut R,
     tree: &Tree,
     row: usize,
-    direction: Direction,
-    labels: &[u32],
+    sought: &WalkSearch,
 ) -> Result<Vec<u32>, Fault>
     requires low { row < row_count tree.now }
     requires tree { IsSomeTree tree.now }
     ensures descends { R.tells → IsStore (R.state space.old)
-        → CanDescend (neighbours_at (R.state space.old) direction labels.now) tree.now
+        → CanDescend (neighbours_for (R.state space.old) sought.now) tree.now
         → IfOk result (λ way.
-        IsDescent (neighbours_at (R.state space.old) direction labels.now) tree.now row way.items) }
+        IsDescent (neighbours_for (R.state space.old) sought.now) tree.now row way.items) }
     ensures long { R.tells → IsStore (R.state space.old)
-        → CanDescend (neighbours_at (R.state space.old) direction labels.now) tree.now
+        → CanDescend (neighbours_for (R.state space.old) sought.now) tree.now
         → IfOk result (λ way. length way.items ≡ level_at tree.now row) }
     ensures damaged { R.tells → IfErr result (BlamesBroken (R.state space.old)) }
     ensures read { IsRead R.Reads space.old space.new }
@@ -52,7 +51,7 @@ pub(crate) fn descend<R: Reads>(
     let mut level = tree.level(row);
     while level > 0 {
         level -= 1;
-        let next = next_row(alloc, space, tree, at, level, direction, labels)?;
+        let next = next_row(alloc, space, tree, at, level, sought)?;
         way.push(tree.node(next))?;
         at = next;
     }
@@ -67,22 +66,21 @@ fn next_row<R: Reads>(
     tree: &Tree,
     at: usize,
     level: usize,
-    direction: Direction,
-    labels: &[u32],
+    sought: &WalkSearch,
 ) -> Result<usize, Fault>
     requires low { at < row_count tree.now }
     requires tree { IsSomeTree tree.now }
     ensures low { IfOk result (λ row. row < row_count tree.now) }
     ensures next { R.tells → IsStore (R.state space.old) → IfOk result (λ row.
-        HasNearer (neighbours_at (R.state space.old) direction labels.now) tree.now at level
-        → IsNextRow (neighbours_at (R.state space.old) direction labels.now) tree.now at level
+        HasNearer (neighbours_for (R.state space.old) sought.now) tree.now at level
+        → IsNextRow (neighbours_for (R.state space.old) sought.now) tree.now at level
         row) }
     ensures damaged { R.tells → IfErr result (BlamesBroken (R.state space.old)) }
     ensures read { IsRead R.Reads space.old space.new }
     ensures cause { HasFaultCause (R.faults space.old) (R.faults space.new) result }
 {
     let node = tree.node(at);
-    let found = neighbours(alloc, space, node, direction, labels)?;
+    let found = neighbours(alloc, space, node, sought.direction, sought.labels)?;
     match found {
         Some(ends) => Ok(first_at_level(tree, at, level, &ends)),
         None => Ok(at),

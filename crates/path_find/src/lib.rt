@@ -20,6 +20,7 @@ mod sharing;
 mod stepping;
 mod tree;
 mod walk;
+mod walk_search;
 mod walking;
 
 pub use answer::Answer;
@@ -27,4 +28,5 @@ pub use checking::check_levels;
 pub use finding::find_path;
 pub use levels::Levels;
 pub use walk::Walk;
+pub use walk_search::WalkSearch;
 pub use walking::find_walk;

@@ -18,9 +18,10 @@ ghost use Rattle.path_find.specs.Meeting.{
 };
 ghost use Rattle.path_find.specs.Reach.{AreLayers, begun};
 ghost use Rattle.path_find.specs.Reading.{IsSomeTree};
-ghost use Rattle.path_find.specs.Reads.{neighbours_at};
 ghost use Rattle.path_find.specs.Tree.{IsTree, Spans, row_count};
+ghost use Rattle.path_find.specs.WalkSearch.{neighbours_back, neighbours_for};
 
+use crate::WalkSearch;
 use crate::descending::descend;
 use crate::reach::{Reach, grow, is_over, width_of};
 use crate::reading::walk_to;
@@ -30,36 +31,25 @@ use plain_graph::Direction;
 use rec_bytes::{Fault, Reads};
 use std::alloc::Global;
 
-/// The least of the shortest walks from a node to another, or none where none leads there. Of the
-/// two searches the one goes on that has fewer farthest nodes, until both have found a node.
+/// The least of the shortest walks that are sought, or none where there is none. Of the two
+/// searches the one goes on that has fewer farthest nodes, until both have found a node.
 pub(crate) fn meet<R: Reads>(
     alloc: Global,
     space: &mut R,
-    from: u32,
-    to: u32,
-    direction: Direction,
-    labels: &[u32],
+    sought: &WalkSearch,
 ) -> Result<Vec<u32>, Fault>
     ensures found { R.tells → IsStore (R.state space.old)
-        → has_node (graph_in (R.state space.old)) from ≡ true
-        → has_node (graph_in (R.state space.old)) to ≡ true → IfOk result (λ walk.
-        IsLeastOrNone (neighbours_at (R.state space.old) direction labels.now) from to walk.items) }
+        → has_node (graph_in (R.state space.old)) sought.now.from ≡ true
+        → has_node (graph_in (R.state space.old)) sought.now.to ≡ true → IfOk result (λ walk.
+        IsLeastOrNone (neighbours_for (R.state space.old) sought.now)
+        sought.now.from sought.now.to walk.items) }
     ensures damaged { R.tells → IfErr result (BlamesBroken (R.state space.old)) }
     ensures read { IsRead R.Reads space.old space.new }
     ensures cause { HasFaultCause (R.faults space.old) (R.faults space.new) result }
 {
-    let mut ahead = Reach::new(alloc, from)?;
-    let mut behind = Reach::new(alloc, to)?;
-    meet_between(
-        alloc,
-        space,
-        &mut ahead,
-        &mut behind,
-        from,
-        to,
-        direction,
-        labels,
-    )
+    let mut ahead = Reach::new(alloc, sought.from)?;
+    let mut behind = Reach::new(alloc, sought.to)?;
+    meet_between(alloc, space, &mut ahead, &mut behind, sought)
 }
 
 /// The same by two searches that begin at these nodes.
@@ -68,32 +58,30 @@ fn meet_between<R: Reads>(
     space: &mut R,
     ahead: &mut Reach,
     behind: &mut Reach,
-    from: u32,
-    to: u32,
-    direction: Direction,
-    labels: &[u32],
+    sought: &WalkSearch,
 ) -> Result<Vec<u32>, Fault>
-    requires ahead { ahead.old ≡ begun from }
-    requires behind { behind.old ≡ begun to }
+    requires ahead { ahead.old ≡ begun sought.now.from }
+    requires behind { behind.old ≡ begun sought.now.to }
     ensures found { R.tells → IsStore (R.state space.old)
-        → has_node (graph_in (R.state space.old)) from ≡ true
-        → has_node (graph_in (R.state space.old)) to ≡ true → IfOk result (λ walk.
-        IsLeastOrNone (neighbours_at (R.state space.old) direction labels.now) from to walk.items) }
+        → has_node (graph_in (R.state space.old)) sought.now.from ≡ true
+        → has_node (graph_in (R.state space.old)) sought.now.to ≡ true → IfOk result (λ walk.
+        IsLeastOrNone (neighbours_for (R.state space.old) sought.now)
+        sought.now.from sought.now.to walk.items) }
     ensures damaged { R.tells → IfErr result (BlamesBroken (R.state space.old)) }
     ensures read { IsRead R.Reads space.old space.new }
     ensures cause { HasFaultCause (R.faults space.old) (R.faults space.new) result }
 {
-    let mut has_met = from == to;
+    let mut has_met = sought.from == sought.to;
     while !has_met {
         let over = is_over(ahead, behind);
         if over {
             let none = Vec::new(alloc);
             return Ok(none);
         }
-        let met = approach(alloc, space, ahead, behind, direction, labels)?;
+        let met = approach(alloc, space, ahead, behind, sought)?;
         has_met = met;
     }
-    join(alloc, space, &ahead.tree, &behind.tree, direction, labels)
+    join(alloc, space, &ahead.tree, &behind.tree, sought)
 }
 
 /// Lets the search with fewer farthest nodes go on by a level, and tells whether both have found a
@@ -103,8 +91,7 @@ fn approach<R: Reads>(
     space: &mut R,
     ahead: &mut Reach,
     behind: &mut Reach,
-    direction: Direction,
-    labels: &[u32],
+    sought: &WalkSearch,
 ) -> Result<bool, Fault>
     requires ahead { IsTree ahead.old.tree ahead.old.done }
     requires behind { IsTree behind.old.tree behind.old.done }
@@ -121,23 +108,29 @@ fn approach<R: Reads>(
     ensures more { OnOk result (ahead.old.done + behind.old.done
         < ahead.new.done + behind.new.done) }
     ensures ahead_spans { R.tells → IsStore (R.state space.old) → OnOk result (
-        Spans (neighbours_at (R.state space.old) direction labels.now) ahead.old.tree ahead.old.done
-        → Spans (neighbours_at (R.state space.old) direction labels.now)
+        Spans (neighbours_for (R.state space.old) sought.now) ahead.old.tree ahead.old.done
+        → Spans (neighbours_for (R.state space.old) sought.now)
         ahead.new.tree ahead.new.done) }
     ensures behind_spans { R.tells → IsStore (R.state space.old) → OnOk result (
-        Spans (neighbours_at (R.state space.old) (reversed direction) labels.now)
+        Spans (neighbours_back (R.state space.old) sought.now)
         behind.old.tree behind.old.done
-        → Spans (neighbours_at (R.state space.old) (reversed direction) labels.now)
+        → Spans (neighbours_back (R.state space.old) sought.now)
         behind.new.tree behind.new.done) }
     ensures damaged { R.tells → IfErr result (BlamesBroken (R.state space.old)) }
     ensures read { IsRead R.Reads space.old space.new }
     ensures cause { HasFaultCause (R.faults space.old) (R.faults space.new) result }
 {
     if width_of(ahead) <= width_of(behind) {
-        grow(alloc, space, ahead, direction, labels)?;
+        grow(alloc, space, ahead, sought.direction, sought.labels)?;
         Ok(has_shared(&ahead.tree, ahead.done, &behind.tree))
     } else {
-        grow(alloc, space, behind, reversed(direction), labels)?;
+        grow(
+            alloc,
+            space,
+            behind,
+            reversed(sought.direction),
+            sought.labels,
+        )?;
         Ok(has_shared(&behind.tree, behind.done, &ahead.tree))
     }
 }
@@ -159,15 +152,14 @@ fn join<R: Reads>(
     space: &mut R,
     ahead: &Tree,
     behind: &Tree,
-    direction: Direction,
-    labels: &[u32],
+    sought: &WalkSearch,
 ) -> Result<Vec<u32>, Fault>
     requires ahead { IsSomeTree ahead.now }
     requires behind { IsSomeTree behind.now }
     requires met { HaveMet ahead.now behind.now }
     ensures joins { R.tells → IsStore (R.state space.old) → IfOk result (λ walk.
-        CanDescend (neighbours_at (R.state space.old) direction labels.now) behind.now
-        → AreJoined (neighbours_at (R.state space.old) direction labels.now) ahead.now behind.now
+        CanDescend (neighbours_for (R.state space.old) sought.now) behind.now
+        → AreJoined (neighbours_for (R.state space.old) sought.now) ahead.now behind.now
         walk.items) }
     ensures damaged { R.tells → IfErr result (BlamesBroken (R.state space.old)) }
     ensures read { IsRead R.Reads space.old space.new }
@@ -180,7 +172,7 @@ fn join<R: Reads>(
         unreachable!();
     };
     let mut walk = walk_to(alloc, ahead, row)?;
-    let mut way = descend(alloc, space, behind, last, direction, labels)?;
+    let mut way = descend(alloc, space, behind, last, sought)?;
     walk.append(&mut way)?;
     Ok(walk)
 }

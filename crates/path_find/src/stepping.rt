@@ -7,30 +7,27 @@ ghost use Rattle.rec_bytes.specs.Frame.{IsRead};
 ghost use Rattle.expand.specs.Expanding.{IsStore};
 ghost use Rattle.path_find.specs.Checking.{IsStep, IsWalkOrNone};
 ghost use Rattle.path_find.specs.Damage.{BlamesBroken};
-ghost use Rattle.path_find.specs.Reads.{neighbours_at};
+ghost use Rattle.path_find.specs.WalkSearch.{neighbours_for};
 
+use crate::WalkSearch;
 use crate::neighbours::neighbours;
 use crate::node_test::is_node;
-use plain_graph::Direction;
 use rec_bytes::{Fault, Reads};
 use std::alloc::Global;
 
-/// Whether these nodes are a walk from a node to another. No nodes pass as well.
+/// Whether these nodes are a walk that is sought. No nodes pass as well.
 pub(crate) fn is_walk<R: Reads>(
     alloc: Global,
     reads: &mut R,
     walk: &[u32],
-    from: u32,
-    to: u32,
-    direction: Direction,
-    labels: &[u32],
+    sought: &WalkSearch,
 ) -> Result<bool, Fault>
     ensures yes { R.tells → IsStore (R.state reads.old) → IfOk result (λ yes. OnTrue yes
-        (IsWalkOrNone (neighbours_at (R.state reads.old) direction labels.now)
-        from to walk.now)) }
+        (IsWalkOrNone (neighbours_for (R.state reads.old) sought.now)
+        sought.now.from sought.now.to walk.now)) }
     ensures no { R.tells → IsStore (R.state reads.old) → IfOk result (λ yes. OnFalse yes
-        (¬ IsWalkOrNone (neighbours_at (R.state reads.old) direction labels.now)
-        from to walk.now)) }
+        (¬ IsWalkOrNone (neighbours_for (R.state reads.old) sought.now)
+        sought.now.from sought.now.to walk.now)) }
     ensures damaged { R.tells → IfErr result (BlamesBroken (R.state reads.old)) }
     ensures read { IsRead R.Reads reads.old reads.new }
     ensures cause { HasFaultCause (R.faults reads.old) (R.faults reads.new) result }
@@ -39,19 +36,19 @@ pub(crate) fn is_walk<R: Reads>(
         return Ok(true);
     }
     let last = walk.len() - 1;
-    if walk[0] != from {
+    if walk[0] != sought.from {
         return Ok(false);
     }
-    if walk[last] != to {
+    if walk[last] != sought.to {
         return Ok(false);
     }
     for row in 0..last {
-        let steps = is_step(alloc, reads, walk[row], walk[row + 1], direction, labels)?;
+        let steps = is_step(alloc, reads, walk[row], walk[row + 1], sought)?;
         if !steps {
             return Ok(false);
         }
     }
-    let there = is_node(reads, to)?;
+    let there = is_node(reads, sought.to)?;
     Ok(there)
 }
 
@@ -61,18 +58,17 @@ fn is_step<R: Reads>(
     reads: &mut R,
     node: u32,
     next: u32,
-    direction: Direction,
-    labels: &[u32],
+    sought: &WalkSearch,
 ) -> Result<bool, Fault>
     ensures yes { R.tells → IsStore (R.state reads.old) → IfOk result (λ yes. OnTrue yes
-        (IsStep (neighbours_at (R.state reads.old) direction labels.now) node next)) }
+        (IsStep (neighbours_for (R.state reads.old) sought.now) node next)) }
     ensures no { R.tells → IsStore (R.state reads.old) → IfOk result (λ yes. OnFalse yes
-        (¬ IsStep (neighbours_at (R.state reads.old) direction labels.now) node next)) }
+        (¬ IsStep (neighbours_for (R.state reads.old) sought.now) node next)) }
     ensures damaged { R.tells → IfErr result (BlamesBroken (R.state reads.old)) }
     ensures read { IsRead R.Reads reads.old reads.new }
     ensures cause { HasFaultCause (R.faults reads.old) (R.faults reads.new) result }
 {
-    let found = neighbours(alloc, reads, node, direction, labels)?;
+    let found = neighbours(alloc, reads, node, sought.direction, sought.labels)?;
     match found {
         Some(ends) => Ok(has_node(&ends, next)),
         None => Ok(false),

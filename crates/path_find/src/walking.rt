@@ -7,9 +7,9 @@ ghost use Rattle.expand.specs.Expanding.{IsStore, graph_in};
 ghost use Rattle.path_find.specs.Finding.{IsPathFault, TellsEnds};
 ghost use Rattle.path_find.specs.Reads.{StandFor, adjacency_of};
 
-use crate::Walk;
 use crate::meeting::meet;
 use crate::node_test::is_node;
+use crate::{Walk, WalkSearch};
 use expand::ExpandFault;
 use plain_graph::Direction;
 use rec_bytes::Reads;
@@ -48,6 +48,12 @@ pub fn find_walk<R: Reads>(
     if !to_there {
         return Err(ExpandFault::NoNode { id: to });
     }
-    let walk = meet(alloc, reads, from, to, direction, labels)?;
+    let sought = WalkSearch {
+        from,
+        to,
+        direction,
+        labels,
+    };
+    let walk = meet(alloc, reads, &sought)?;
     Ok(Walk::new(walk))
 }

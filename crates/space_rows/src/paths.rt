@@ -2,7 +2,7 @@ use crate::call::Call;
 use crate::edges_met::direction_in;
 use crate::fault::RowFault;
 use crate::spelling::{spell, spell_fault};
-use path_find::{Answer, Levels, Walk, check_levels, find_path};
+use path_find::{Answer, Levels, Walk, WalkSearch, check_levels, find_path};
 use plain_graph::NodeLevel;
 use rec_bytes::MapSpace;
 use std::alloc::{AllocError, Global};
@@ -64,8 +64,13 @@ fn check(
     found: &Answer,
     call: &Call,
 ) -> Result<String, RowFault> {
-    let (from, to, direction) = (call.at(0), call.at(1), direction_in(call, 2));
-    let passes = check_levels(alloc, space, from, to, direction, call.after(3), found);
+    let sought = WalkSearch {
+        from: call.at(0),
+        to: call.at(1),
+        direction: direction_in(call, 2),
+        labels: call.after(3),
+    };
+    let passes = check_levels(alloc, space, &sought, found);
     spell(alloc, &passes)
 }
 

@@ -6,7 +6,7 @@ use Rattle.std.proofs.lemmas.Result.{err_from_is_err_and}
 use Rattle.plain_graph.specs.Levels.{level_of}
 use Rattle.rec_bytes.specs.Space.{State}
 use Rattle.path_find.specs.Checking.{IsSpreadAt}
-use Rattle.path_find.specs.Reads.{neighbours_at}
+use Rattle.path_find.specs.WalkSearch.{neighbours_for}
 use Rattle.path_find.proofs.OnlyReads.{broken-read, is_read-on, same-read, store-read}
 use Rattle.path_find.proofs.Causes.{cause_passed}
 use Rattle.rec_bytes.proofs.Causes.{never_ok, ok_cause}
@@ -20,13 +20,13 @@ returns-in_err-spreads-clause-damaged g c = λ tells.
 
 pub returns-then-not-spreads-clause-no : goal.returns-then-not-spreads-clause-no
 returns-then-not-spreads-clause-no g c = λ tells store. λ all.
-    let levels = c.args.levels.now in
+    let levels = c.args.claim.now.levels.now in
     let index = c.loop-row.row-index in
     let row = get_or levels index (level_of 0 0) in
     let read = c.loop-row.invariant.read in
     let same = same-read g.R.Reads g.met.R.Reads.onward_shape c.args.reads.now c.loop-row.reads read in
     let there = store-read g.R.Reads g.met.R.Reads.onward_shape c.args.reads.now c.loop-row.reads read store in
-    let mid = subst (λ (s : State). IsSpreadAt (neighbours_at s c.args.direction c.args.labels.now) levels c.args.edges row) (sym same)
+    let mid = subst (λ (s : State). IsSpreadAt (neighbours_for s c.args.sought.now) levels c.args.claim.now.edges row) (sym same)
     (all row (Contains-get_or levels index (level_of 0 0) c.loop-row-test.true)) in
     OnFalse_at c.if-not-spreads.true (c.in_ok-spreads.ensures.no tells there) mid
 
@@ -37,31 +37,31 @@ loop-row-preserved g c = record {
   spread = λ tells store k d lt. elim (cases_lt k c.loop-row.row-index) [
     | inl less ↦ c.loop-row.invariant.spread tells store k d less
     | inr ge ↦
-        let levels = c.args.levels.now in
+        let levels = c.args.claim.now.levels.now in
         let index = c.loop-row.row-index in
         let row = get_or levels index (level_of 0 0) in
         let read = c.loop-row.invariant.read in
         let same = same-read g.R.Reads g.met.R.Reads.onward_shape c.args.reads.now c.loop-row.reads read in
         let there = store-read g.R.Reads g.met.R.Reads.onward_shape c.args.reads.now c.loop-row.reads read store in
-        let mid : IsSpreadAt (neighbours_at (g.R.Reads.state c.loop-row.reads) c.args.direction c.args.labels.now) levels c.args.edges row =
+        let mid : IsSpreadAt (neighbours_for (g.R.Reads.state c.loop-row.reads) c.args.sought.now) levels c.args.claim.now.edges row =
         OnTrue_at c.if-not-spreads.false (c.in_ok-spreads.ensures.yes tells there) in
         let old = g.R.Reads.state c.args.reads.now in
-        let at_old = subst (λ (s : State). IsSpreadAt (neighbours_at s c.args.direction c.args.labels.now) levels c.args.edges row) same mid in
+        let at_old = subst (λ (s : State). IsSpreadAt (neighbours_for s c.args.sought.now) levels c.args.claim.now.edges row) same mid in
         let here : index ≡ k = omega arith in
-        subst (λ i. IsSpreadAt (neighbours_at old c.args.direction c.args.labels.now) levels c.args.edges (get_or levels i d)) here
-        (subst (IsSpreadAt (neighbours_at old c.args.direction c.args.labels.now) levels c.args.edges) (sym (get_or_default levels index d (level_of 0 0)
+        subst (λ i. IsSpreadAt (neighbours_for old c.args.sought.now) levels c.args.claim.now.edges (get_or levels i d)) here
+        (subst (IsSpreadAt (neighbours_for old c.args.sought.now) levels c.args.claim.now.edges) (sym (get_or_default levels index d (level_of 0 0)
         c.loop-row-test.true)) at_old)
   ];
 }
 
 pub returns-clause-yes : goal.returns-clause-yes
 returns-clause-yes g c = λ tells store row has.
-    let levels = c.args.levels.now in
+    let levels = c.args.claim.now.levels.now in
     let old = g.R.Reads.state c.args.reads.now in
     let at = at_from_Contains levels row has in
     let test = c.loop-row-test.false in
     let low = at.1 in
-    subst (IsSpreadAt (neighbours_at old c.args.direction c.args.labels.now) levels c.args.edges) (at.2 row)
+    subst (IsSpreadAt (neighbours_for old c.args.sought.now) levels c.args.claim.now.edges) (at.2 row)
     (c.loop-row.invariant.spread tells store at.0 row (omega (arith, test, low)))
 
 pub returns-in_err-spreads-clause-read : goal.returns-in_err-spreads-clause-read

@@ -3,7 +3,7 @@ use Rattle.plain_graph.specs.declared.node_level.NodeLevel.{NodeLevel}
 use Rattle.rec_bytes.specs.Frame.{IsRead}
 use Rattle.expand.specs.Expanding.{IsStore}
 use Rattle.path_find.specs.Checking.{IsSpreadAt}
-use Rattle.path_find.specs.Reads.{neighbours_at}
+use Rattle.path_find.specs.WalkSearch.{neighbours_for}
 use Rattle.path_find.proofs.checking.all_spread.Given as goal
 
 abbrev pub invariant-loop-row : goal.invariant-loop-row
@@ -12,5 +12,5 @@ invariant-loop-row g l =
     record {
       read : IsRead g.R.Reads l.fn.reads l.reads;
       spread : g.R.Reads.tells → IsStore old → (k : ℕ) (d : NodeLevel) → k < l.row-index
-          → IsSpreadAt (neighbours_at old l.direction l.labels) l.levels l.edges (get_or l.levels k d);
+          → IsSpreadAt (neighbours_for old l.sought) l.claim.levels.now l.claim.edges (get_or l.claim.levels.now k d);
     }

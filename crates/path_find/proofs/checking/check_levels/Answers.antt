@@ -8,7 +8,8 @@ use Rattle.plain_graph.specs.Levels.{IsCertified}
 use Rattle.plain_graph.specs.declared.node_level.NodeLevel.{NodeLevel}
 use Rattle.rec_bytes.specs.Space.{State}
 use Rattle.path_find.specs.Checking.{AllSpread, AreDistinct, HaveEnds, IsWalkOrNone, edges_of}
-use Rattle.path_find.specs.Reads.{adjacency_of, neighbours_at}
+use Rattle.path_find.specs.Reads.{adjacency_of}
+use Rattle.path_find.specs.WalkSearch.{neighbours_for}
 use Rattle.path_find.proofs.CheckLaws.{is_certified, not_certified, proves_shortest}
 use Rattle.path_find.proofs.NeighbourLaws.{neighbours_are}
 use Rattle.path_find.proofs.OnlyReads.{broken-read, is_read-on, same-read, store-read, is_read-none}
@@ -22,11 +23,13 @@ returns-then-not-leads-clause-decides g c = λ tells store types stand.
     let s = g.R.Reads.state c.args.reads.now in
     let W = c.args.answer.now.walk in
     let L = c.args.answer.now.levels in
-    let near = neighbours_at s c.args.direction c.args.labels.now in
-    let astray : ¬ IsWalkOrNone near c.args.from c.args.to c.as_slice-walk.result.now = OnFalse_at c.if-not-leads.true (c.in_ok-leads.ensures.no tells store) in
-    subst (λ (adjacency : Adjacency). IsTrue false ↔ IsCertified adjacency c.args.from c.args.to W L)
-    (neighbours_are s store c.args.direction c.args.labels.now types stand)
-    (not_certified near L c.args.from c.args.to W (λ is. astray (subst (IsWalkOrNone near c.args.from c.args.to) (sym c.as_slice-walk.ensures) is.leads)))
+    let near = neighbours_for s c.args.sought.now in
+    let astray : ¬ IsWalkOrNone near c.args.sought.now.from c.args.sought.now.to c.as_slice-walk.result.now = OnFalse_at c.if-not-leads.true
+    (c.in_ok-leads.ensures.no tells store) in
+    subst (λ (adjacency : Adjacency). IsTrue false ↔ IsCertified adjacency c.args.sought.now.from c.args.sought.now.to W L)
+    (neighbours_are s store c.args.sought.now.direction c.args.sought.now.labels.now types stand)
+    (not_certified near L c.args.sought.now.from c.args.sought.now.to W
+    (λ is. astray (subst (IsWalkOrNone near c.args.sought.now.from c.args.sought.now.to) (sym c.as_slice-walk.ensures) is.leads)))
 
 -- both hold of what is answered
 both_ok : {T E : Type 0} (r : Result T E) (P Q : T → Type 0) → IfOk r P → IfOk r Q → IfOk r (λ x. P x × Q x)
@@ -38,33 +41,35 @@ returns-clause-decides g c = λ tells store types stand.
     let s = g.R.Reads.state c.args.reads.now in
     let W = c.args.answer.now.walk in
     let L = c.args.answer.now.levels in
-    let near = neighbours_at s c.args.direction c.args.labels.now in
+    let near = neighbours_for s c.args.sought.now in
     let read = c.is_walk.ensures.read in
     let same = same-read g.R.Reads g.met.R.Reads.onward_shape c.args.reads.now c.is_walk.new.reads read in
     let there = store-read g.R.Reads g.met.R.Reads.onward_shape c.args.reads.now c.is_walk.new.reads read store in
     let edges = c.edges_of-edges.ensures ∙ ap edges_of c.as_slice-walk.ensures in
     let distinct = subst AreDistinct c.as_slice-levels.ensures (rw c.in-Some.is at c.in_ok-found.ensures.distinct) in
-    let Ends : Option ℕ → List NodeLevel → Type 0 = λ e l. HaveEnds l c.args.from c.args.to e in
+    let Ends : Option ℕ → List NodeLevel → Type 0 = λ e l. HaveEnds l c.args.sought.now.from c.args.sought.now.to e in
     let fit : Ends c.edges_of-edges.result c.as_slice-levels.result.now = OnTrue_at c.if-not-have_ends.false c.have_ends.ensures.yes in
     let ends = subst (λ (l : List NodeLevel). Ends (edges_of W) l) c.as_slice-levels.ensures
     (subst (λ (e : Option ℕ). Ends e c.as_slice-levels.result.now) edges fit) in
-    let steps : IsWalkOrNone near c.args.from c.args.to c.as_slice-walk.result.now = OnTrue_at c.if-not-leads.false (c.in_ok-leads.ensures.yes tells store) in
-    let leads = subst (IsWalkOrNone near c.args.from c.args.to) c.as_slice-walk.ensures steps in
-    let Spread : State → Option ℕ → List NodeLevel → Type 0 = λ t e l. AllSpread (neighbours_at t c.args.direction c.args.labels.now) l e in
+    let steps : IsWalkOrNone near c.args.sought.now.from c.args.sought.now.to c.as_slice-walk.result.now = OnTrue_at c.if-not-leads.false
+    (c.in_ok-leads.ensures.yes tells store) in
+    let leads = subst (IsWalkOrNone near c.args.sought.now.from c.args.sought.now.to) c.as_slice-walk.ensures steps in
+    let Spread : State → Option ℕ → List NodeLevel → Type 0 = λ t e l. AllSpread (neighbours_for t c.args.sought.now) l e in
     let Both : Bool → State → Option ℕ → List NodeLevel → Type 0 = λ all t e l. OnTrue all (Spread t e l) × OnFalse all (¬ Spread t e l) in
     IfOk-weaker c.all_spread.result _ _ (λ all spread.
     let both = subst (λ (l : List NodeLevel). Both all s (edges_of W) l) c.as_slice-levels.ensures
     (subst (λ (e : Option ℕ). Both all s e c.as_slice-levels.result.now) edges
     (subst (λ (t : State). Both all t c.edges_of-edges.result c.as_slice-levels.result.now) same spread)) in
-    subst (λ (adjacency : Adjacency). IsTrue all ↔ IsCertified adjacency c.args.from c.args.to W L)
-    (neighbours_are s store c.args.direction c.args.labels.now types stand)
-    (is_certified near L c.args.from c.args.to W all distinct ends leads both.0 both.1))
+    subst (λ (adjacency : Adjacency). IsTrue all ↔ IsCertified adjacency c.args.sought.now.from c.args.sought.now.to W L)
+    (neighbours_are s store c.args.sought.now.direction c.args.sought.now.labels.now types stand)
+    (is_certified near L c.args.sought.now.from c.args.sought.now.to W all distinct ends leads both.0 both.1))
     (both_ok c.all_spread.result _ _ (c.all_spread.ensures.yes tells there) (c.all_spread.ensures.no tells there))
 
 pub returns-clause-proves : goal.returns-clause-proves
 returns-clause-proves g c = λ tells store types stand.
     IfOk-weaker c.all_spread.result _ _
-    (λ all decides. proves_shortest (adjacency_of (g.R.Reads.state c.args.reads.now) c.args.direction types) c.args.answer.now.levels c.args.from c.args.to
+    (λ all decides. proves_shortest (adjacency_of (g.R.Reads.state c.args.reads.now) c.args.sought.now.direction types) c.args.answer.now.levels
+    c.args.sought.now.from c.args.sought.now.to
     c.args.answer.now.walk all decides)
     (returns-clause-decides g c tells store types stand)
 
@@ -83,40 +88,40 @@ returns-clause-cause g c = cause_later _ _ _ c.all_spread.result c.is_walk.ensur
 
 pub returns-in_default-clause-decides : goal.returns-in_default-clause-decides
 returns-in_default-clause-decides g c = λ tells store types stand.
-    let near = adjacency_of (g.R.Reads.state c.args.reads.now) c.args.direction types in
+    let near = adjacency_of (g.R.Reads.state c.args.reads.now) c.args.sought.now.direction types in
     let W = c.args.answer.now.walk in
     let L = c.args.answer.now.levels in
     let gone : ¬ AreDistinct c.as_slice-levels.result.now = search (rules, c.in_ok-found.ensures.none) in
-    not_certified near L c.args.from c.args.to W (λ is. gone (subst AreDistinct (sym c.as_slice-levels.ensures) is.distinct))
+    not_certified near L c.args.sought.now.from c.args.sought.now.to W (λ is. gone (subst AreDistinct (sym c.as_slice-levels.ensures) is.distinct))
 
 pub returns-in_default-clause-proves : goal.returns-in_default-clause-proves
 returns-in_default-clause-proves g c = λ tells store types stand.
-    let near = adjacency_of (g.R.Reads.state c.args.reads.now) c.args.direction types in
-    proves_shortest near c.args.answer.now.levels c.args.from c.args.to c.args.answer.now.walk false
+    let near = adjacency_of (g.R.Reads.state c.args.reads.now) c.args.sought.now.direction types in
+    proves_shortest near c.args.answer.now.levels c.args.sought.now.from c.args.sought.now.to c.args.answer.now.walk false
     (returns-in_default-clause-decides g c tells store types stand)
 
 pub returns-then-not-have_ends-clause-decides : goal.returns-then-not-have_ends-clause-decides
 returns-then-not-have_ends-clause-decides g c = λ tells store types stand.
-    let near = adjacency_of (g.R.Reads.state c.args.reads.now) c.args.direction types in
+    let near = adjacency_of (g.R.Reads.state c.args.reads.now) c.args.sought.now.direction types in
     let W = c.args.answer.now.walk in
     let L = c.args.answer.now.levels in
     let edges = c.edges_of-edges.ensures ∙ ap edges_of c.as_slice-walk.ensures in
-    let off : ¬ HaveEnds c.as_slice-levels.result.now c.args.from c.args.to c.edges_of-edges.result
+    let off : ¬ HaveEnds c.as_slice-levels.result.now c.args.sought.now.from c.args.sought.now.to c.edges_of-edges.result
     = OnFalse_at c.if-not-have_ends.true c.have_ends.ensures.no in
-    not_certified near L c.args.from c.args.to W (λ is. off
-    (subst (λ (e : Option ℕ). HaveEnds c.as_slice-levels.result.now c.args.from c.args.to e) (sym edges)
-    (subst (λ (l : List NodeLevel). HaveEnds l c.args.from c.args.to (edges_of W)) (sym c.as_slice-levels.ensures) is.ends)))
+    not_certified near L c.args.sought.now.from c.args.sought.now.to W (λ is. off
+    (subst (λ (e : Option ℕ). HaveEnds c.as_slice-levels.result.now c.args.sought.now.from c.args.sought.now.to e) (sym edges)
+    (subst (λ (l : List NodeLevel). HaveEnds l c.args.sought.now.from c.args.sought.now.to (edges_of W)) (sym c.as_slice-levels.ensures) is.ends)))
 
 pub returns-then-not-have_ends-clause-proves : goal.returns-then-not-have_ends-clause-proves
 returns-then-not-have_ends-clause-proves g c = λ tells store types stand.
-    let near = adjacency_of (g.R.Reads.state c.args.reads.now) c.args.direction types in
-    proves_shortest near c.args.answer.now.levels c.args.from c.args.to c.args.answer.now.walk false
+    let near = adjacency_of (g.R.Reads.state c.args.reads.now) c.args.sought.now.direction types in
+    proves_shortest near c.args.answer.now.levels c.args.sought.now.from c.args.sought.now.to c.args.answer.now.walk false
     (returns-then-not-have_ends-clause-decides g c tells store types stand)
 
 pub returns-then-not-leads-clause-proves : goal.returns-then-not-leads-clause-proves
 returns-then-not-leads-clause-proves g c = λ tells store types stand.
-    let near = adjacency_of (g.R.Reads.state c.args.reads.now) c.args.direction types in
-    proves_shortest near c.args.answer.now.levels c.args.from c.args.to c.args.answer.now.walk false
+    let near = adjacency_of (g.R.Reads.state c.args.reads.now) c.args.sought.now.direction types in
+    proves_shortest near c.args.answer.now.levels c.args.sought.now.from c.args.sought.now.to c.args.answer.now.walk false
     (returns-then-not-leads-clause-decides g c tells store types stand)
 
 pub returns-in_err-found-clause-decides : goal.returns-in_err-found-clause-decides

@@ -1,7 +1,7 @@
 use Rattle.std.proofs.Common.{ℕ, List, sym, subst, ◌∙◌, arith}
 use Rattle.std.proofs.lemmas.Bool.{OnFalse_at, OnFalse_from, OnTrue_at, OnTrue_from, false≢true}
 use Rattle.path_find.specs.Checking.{AreIn, IsSpreadAt}
-use Rattle.path_find.specs.Reads.{neighbours_at}
+use Rattle.path_find.specs.WalkSearch.{neighbours_for}
 use Rattle.std.proofs.lemmas.Result.{err_from_is_err_and}
 use Rattle.path_find.proofs.Answered.{load_fault}
 use Rattle.path_find.proofs.CheckLaws.{inner_fails, inner_spreads, last_spreads, past_fails}
@@ -12,20 +12,21 @@ use Rattle.path_find.proofs.checking.is_spread.Goals as goal
 
 pub returns-then-is_past-clause-no : goal.returns-then-is_past-clause-no
 returns-then-is_past-clause-no g c = λ tells store.
-    past_fails (neighbours_at (g.R.Reads.state c.args.reads.now) c.args.direction c.args.labels.now) c.args.levels.now c.args.row c.args.edges
+    past_fails (neighbours_for (g.R.Reads.state c.args.reads.now) c.args.sought.now) c.args.claim.now.levels.now c.args.row c.args.claim.now.edges
     (sym c.is_past.ensures ∙ c.if-is_past.true)
 
 pub returns-then-is_last-clause-yes : goal.returns-then-is_last-clause-yes
 returns-then-is_last-clause-yes g c = λ tells store.
-    let near = neighbours_at (g.R.Reads.state c.args.reads.now) c.args.direction c.args.labels.now in
-    OnTrue_from c.in_ok-there.there (IsSpreadAt near c.args.levels.now c.args.edges c.args.row)
-    (λ e. last_spreads near c.args.levels.now c.args.row c.args.edges (sym c.is_past.ensures ∙ c.if-is_past.false) (sym c.is_last.ensures ∙ c.if-is_last.true)
+    let near = neighbours_for (g.R.Reads.state c.args.reads.now) c.args.sought.now in
+    OnTrue_from c.in_ok-there.there (IsSpreadAt near c.args.claim.now.levels.now c.args.claim.now.edges c.args.row)
+    (λ e. last_spreads near c.args.claim.now.levels.now c.args.row c.args.claim.now.edges (sym c.is_past.ensures ∙ c.if-is_past.false)
+    (sym c.is_last.ensures ∙ c.if-is_last.true)
     (sym (c.in_ok-there.ensures.is tells store) ∙ e))
 
 pub returns-then-is_last-clause-no : goal.returns-then-is_last-clause-no
 returns-then-is_last-clause-no g c = λ tells store.
-    let near = neighbours_at (g.R.Reads.state c.args.reads.now) c.args.direction c.args.labels.now in
-    OnFalse_from c.in_ok-there.there (¬ IsSpreadAt near c.args.levels.now c.args.edges c.args.row)
+    let near = neighbours_for (g.R.Reads.state c.args.reads.now) c.args.sought.now in
+    OnFalse_from c.in_ok-there.there (¬ IsSpreadAt near c.args.claim.now.levels.now c.args.claim.now.edges c.args.row)
     (λ e. λ spread. false≢true (sym e ∙ c.in_ok-there.ensures.is tells store ∙ spread.node))
 
 pub returns-in_err-there-clause-damaged : goal.returns-in_err-there-clause-damaged
@@ -35,20 +36,23 @@ returns-in_err-there-clause-damaged g c = λ tells.
 
 pub returns-in-Some-clause-yes : goal.returns-in-Some-clause-yes
 returns-in-Some-clause-yes g c = λ tells store.
-    let near = neighbours_at (g.R.Reads.state c.args.reads.now) c.args.direction c.args.labels.now in
+    let near = neighbours_for (g.R.Reads.state c.args.reads.now) c.args.sought.now in
     let are = rw c.in-Some.is at c.in_ok-found.ensures.some tells store in
     let there = rw c.in-Some.is at c.in_ok-found.ensures.there tells store in
-    OnTrue_from c.are_held.result (IsSpreadAt near c.args.levels.now c.args.edges c.args.row)
-    (λ e. inner_spreads near c.args.levels.now c.args.row c.in-Some.ends.items are c.args.edges (sym c.is_past.ensures ∙ c.if-is_past.false) there
-    (subst (λ (ends : List ℕ). AreIn c.args.levels.now c.args.edges c.args.row ends) c.deref.ensures.value (OnTrue_at e c.are_held.ensures.yes)))
+    OnTrue_from c.are_held.result (IsSpreadAt near c.args.claim.now.levels.now c.args.claim.now.edges c.args.row)
+    (λ e. inner_spreads near c.args.claim.now.levels.now c.args.row c.in-Some.ends.items are c.args.claim.now.edges (sym c.is_past.ensures ∙ c.if-is_past.false)
+    there
+    (subst (λ (ends : List ℕ). AreIn c.args.claim.now.levels.now c.args.claim.now.edges c.args.row ends) c.deref.ensures.value
+    (OnTrue_at e c.are_held.ensures.yes)))
 
 pub returns-in-Some-clause-no : goal.returns-in-Some-clause-no
 returns-in-Some-clause-no g c = λ tells store.
-    let near = neighbours_at (g.R.Reads.state c.args.reads.now) c.args.direction c.args.labels.now in
+    let near = neighbours_for (g.R.Reads.state c.args.reads.now) c.args.sought.now in
     let are = rw c.in-Some.is at c.in_ok-found.ensures.some tells store in
-    OnFalse_from c.are_held.result (¬ IsSpreadAt near c.args.levels.now c.args.edges c.args.row)
-    (λ e. inner_fails near c.args.levels.now c.args.row c.in-Some.ends.items are c.args.edges
-    (λ held. OnFalse_at e c.are_held.ensures.no (subst (λ (ends : List ℕ). AreIn c.args.levels.now c.args.edges c.args.row ends) (sym c.deref.ensures.value)
+    OnFalse_from c.are_held.result (¬ IsSpreadAt near c.args.claim.now.levels.now c.args.claim.now.edges c.args.row)
+    (λ e. inner_fails near c.args.claim.now.levels.now c.args.row c.in-Some.ends.items are c.args.claim.now.edges
+    (λ held. OnFalse_at e c.are_held.ensures.no (subst (λ (ends : List ℕ). AreIn c.args.claim.now.levels.now c.args.claim.now.edges c.args.row ends)
+    (sym c.deref.ensures.value)
     held)))
 
 pub returns-in-None-clause-no : goal.returns-in-None-clause-no

@@ -4,7 +4,7 @@ use Rattle.std.proofs.lemmas.Result.{err_from_is_err_and}
 use Rattle.rec_bytes.specs.Space.{State}
 use Rattle.expand.specs.Expanding.{IsStore}
 use Rattle.path_find.specs.Meeting.{CanDescend, HasNearer, IsDescent, IsNextRow}
-use Rattle.path_find.specs.Reads.{neighbours_at}
+use Rattle.path_find.specs.WalkSearch.{neighbours_for}
 use Rattle.path_find.specs.Tree.{node_at}
 use Rattle.path_find.proofs.Descents.{descent_on}
 use Rattle.path_find.proofs.OnlyReads.{broken-read, is_read-none, is_read-on, same-read, store-read}
@@ -26,7 +26,7 @@ loop-level-init g c = record {
   read = is_read-none g.R.Reads g.met.R.Reads.stays_onward c.args.space.now;
   level = λ tells store can. sym c.level-level.ensures;
   descends = λ tells store can rest long descends.
-      subst (λ (list : List ℕ). IsDescent (neighbours_at (g.R.Reads.state c.args.space.now) c.args.direction c.args.labels.now) c.args.tree.now c.args.row
+      subst (λ (list : List ℕ). IsDescent (neighbours_for (g.R.Reads.state c.args.space.now) c.args.sought.now) c.args.tree.now c.args.row
       (list ++ rest)) (sym c.new-way.ensures.items) descends;
 }
 
@@ -38,7 +38,7 @@ loop-level-preserved g c =
     let level = c.loop-level.level in
     let below = c.loop-level.level - 1 in
     let old = g.R.Reads.state c.args.space.now in
-    let near = neighbours_at old c.args.direction c.args.labels.now in
+    let near = neighbours_for old c.args.sought.now in
     let test = c.loop-level-test.true in
     let up : level ≡ suc below = omega (arith, test) in
     let next = c.in_ok-next.next in
@@ -49,8 +49,8 @@ loop-level-preserved g c =
     let step : g.R.Reads.tells → IsStore old → CanDescend near rows → IsNextRow near rows at below next = λ tells store can.
     let nearer = can at below inv.low (inv.level tells store can ∙ up) in
     let found = c.in_ok-next.ensures.next tells (store-read g.R.Reads g.met.R.Reads.onward_shape c.args.space.now c.loop-level.space inv.read store) in
-    subst (λ (t : State). IsNextRow (neighbours_at t c.args.direction c.args.labels.now) rows at below next) same
-    (found (subst (λ (t : State). HasNearer (neighbours_at t c.args.direction c.args.labels.now) rows at below) (sym same) nearer)) in
+    subst (λ (t : State). IsNextRow (neighbours_for t c.args.sought.now) rows at below next) same
+    (found (subst (λ (t : State). HasNearer (neighbours_for t c.args.sought.now) rows at below) (sym same) nearer)) in
     record {
       low = c.in_ok-next.ensures.low;
       long = let long = inv.long in let more = length_push way (node_at rows next) in let is = ap length pushed in omega (arith, long, more, is, up);
@@ -61,7 +61,7 @@ loop-level-preserved g c =
 
 pub returns-clause-descends : goal.returns-clause-descends
 returns-clause-descends g c = λ tells store can.
-    let near = neighbours_at (g.R.Reads.state c.args.space.now) c.args.direction c.args.labels.now in
+    let near = neighbours_for (g.R.Reads.state c.args.space.now) c.args.sought.now in
     let test = c.loop-level-test.false in
     subst (IsDescent near c.args.tree.now c.args.row) (append-nil c.loop-level.way.items)
     (c.loop-level.invariant.descends tells store can [] (omega (arith, test)) tt)

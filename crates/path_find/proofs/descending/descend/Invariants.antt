@@ -2,14 +2,14 @@ use Rattle.std.proofs.Common.{◌≡◌, ◌+◌, ◌<◌, ◌++◌, List, ℕ, 
 use Rattle.rec_bytes.specs.Frame.{IsRead}
 use Rattle.expand.specs.Expanding.{IsStore}
 use Rattle.path_find.specs.Meeting.{CanDescend, IsDescent}
-use Rattle.path_find.specs.Reads.{neighbours_at}
+use Rattle.path_find.specs.WalkSearch.{neighbours_for}
 use Rattle.path_find.specs.Tree.{level_at, row_count}
 use Rattle.path_find.proofs.descending.descend.Given as goal
 
 abbrev pub invariant-loop-level : goal.invariant-loop-level
 invariant-loop-level g l =
     let old = g.R.Reads.state l.fn.space in
-    let near = neighbours_at old l.direction l.labels in
+    let near = neighbours_for old l.sought in
     record {
       low : l.at < row_count l.tree;
       long : length l.way.items + l.level ≡ level_at l.tree l.row;

@@ -2,7 +2,7 @@ use Rattle.std.proofs.Common.{◌≡◌, ℕ, true, false, List, sym, subst, ◌
 use Rattle.plain_graph.specs.Graph.{has_node}
 use Rattle.expand.specs.Expanding.{graph_in}
 use Rattle.path_find.specs.Meeting.{IsFirstAtLevel, SomeAtLevel}
-use Rattle.path_find.specs.Reads.{neighbours_at}
+use Rattle.path_find.specs.WalkSearch.{neighbours_for}
 use Rattle.path_find.specs.Tree.{AreNeighbours}
 use Rattle.path_find.proofs.Descents.{next_from_first}
 use Rattle.path_find.proofs.descending.next_row.Goals as goal
@@ -12,7 +12,7 @@ clash e = cc
 
 pub returns-in-Some-clause-next : goal.returns-in-Some-clause-next
 returns-in-Some-clause-next g c = λ tells store nearer.
-    let near = neighbours_at (g.R.Reads.state c.args.space.now) c.args.direction c.args.labels.now in
+    let near = neighbours_for (g.R.Reads.state c.args.space.now) c.args.sought.now in
     let rows = c.args.tree.now in
     let ends = c.in-Some.ends.items in
     let are = rw c.in-Some.is at c.in_ok-found.ensures.some tells store in

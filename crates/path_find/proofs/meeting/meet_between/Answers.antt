@@ -9,6 +9,7 @@ use Rattle.path_find.specs.Meeting.{AreApart, AreJoined, CanDescend, reversed}
 use Rattle.path_find.specs.Reach.{AreLayers}
 use Rattle.path_find.specs.declared.reach.Reach.{Reach}
 use Rattle.path_find.specs.Reads.{neighbours_at}
+use Rattle.path_find.specs.WalkSearch.{neighbours_for}
 use Rattle.path_find.specs.Tree.{Spans, node_at}
 use Rattle.plain_graph.specs.Walks.{HasNoWalk}
 use Rattle.path_find.proofs.Descents.{can_descend}
@@ -27,29 +28,29 @@ loop-has_met-init g c =
     let s = g.R.Reads.state c.args.space.now in
     let first = c.requires.ahead in
     let second = c.requires.behind in
-    let near = neighbours_at s c.args.direction c.args.labels.now in
-    let back = neighbours_at s (reversed c.args.direction) c.args.labels.now in
+    let near = neighbours_for s c.args.sought.now in
+    let back = neighbours_at s (reversed c.args.sought.now.direction) c.args.sought.now.labels.now in
     record {
-      ahead = record { depth = 0; layers = subst (λ (r : Reach). AreLayers r.tree r.done 0) (sym first) (layers_begin c.args.from) };
-      behind = record { depth = 0; layers = subst (λ (r : Reach). AreLayers r.tree r.done 0) (sym second) (layers_begin c.args.to) };
+      ahead = record { depth = 0; layers = subst (λ (r : Reach). AreLayers r.tree r.done 0) (sym first) (layers_begin c.args.sought.now.from) };
+      behind = record { depth = 0; layers = subst (λ (r : Reach). AreLayers r.tree r.done 0) (sym second) (layers_begin c.args.sought.now.to) };
       first = ap (λ (r : Reach). node_at r.tree 0) first;
       last = ap (λ (r : Reach). node_at r.tree 0) second;
-      met = met_start c.args.from c.args.to c.args.ahead.now.tree c.args.behind.now.tree
+      met = met_start c.args.sought.now.from c.args.sought.now.to c.args.ahead.now.tree c.args.behind.now.tree
           (ap (λ (r : Reach). r.tree) first) (ap (λ (r : Reach). r.tree) second);
-      apart = apart_start c.args.from c.args.to c.args.ahead.now.tree c.args.behind.now.tree
+      apart = apart_start c.args.sought.now.from c.args.sought.now.to c.args.ahead.now.tree c.args.behind.now.tree
           (ap (λ (r : Reach). r.tree) first) (ap (λ (r : Reach). r.tree) second);
       read = is_read-none g.R.Reads g.met.R.Reads.stays_onward c.args.space.now;
-      ahead_spans = λ tells store there. subst (λ (r : Reach). Spans near r.tree r.done) (sym first) (spans_begin c.args.from near there);
-      behind_spans = λ tells store there. subst (λ (r : Reach). Spans back r.tree r.done) (sym second) (spans_begin c.args.to back there);
-      longer = λ tells store there to_there. longer-none near c.args.from c.args.to;
+      ahead_spans = λ tells store there. subst (λ (r : Reach). Spans near r.tree r.done) (sym first) (spans_begin c.args.sought.now.from near there);
+      behind_spans = λ tells store there. subst (λ (r : Reach). Spans back r.tree r.done) (sym second) (spans_begin c.args.sought.now.to back there);
+      longer = λ tells store there to_there. longer-none near c.args.sought.now.from c.args.sought.now.to;
     }
 
 pub loop-has_met-preserved : goal.loop-has_met-preserved
 loop-has_met-preserved g c =
     let inv = c.loop-has_met.invariant in
     let s = g.R.Reads.state c.args.space.now in
-    let direction = c.args.direction in
-    let labels = c.args.labels.now in
+    let direction = c.args.sought.now.direction in
+    let labels = c.args.sought.now.labels.now in
     let near = neighbours_at s direction labels in
     let back = neighbours_at s (reversed direction) labels in
     let ahead = c.loop-has_met.ahead in
@@ -82,8 +83,8 @@ loop-has_met-preserved g c =
           ahead.tree ahead.done inv.ahead.depth inv.ahead.layers (inv.ahead_spans tells store there)
           behind.tree behind.done inv.behind.depth inv.behind.layers (inv.behind_spans tells store to_there) apart in
           let from_first = subst (λ n. AreLonger near n (node_at behind.tree 0) (inv.ahead.depth + inv.behind.depth + 1)) inv.first more in
-          let from_both = subst (λ n. AreLonger near c.args.from n (inv.ahead.depth + inv.behind.depth + 1)) inv.last from_first in
-          subst (AreLonger near c.args.from c.args.to) (sym closer.deep) from_both;
+          let from_both = subst (λ n. AreLonger near c.args.sought.now.from n (inv.ahead.depth + inv.behind.depth + 1)) inv.last from_first in
+          subst (AreLonger near c.args.sought.now.from c.args.sought.now.to) (sym closer.deep) from_both;
     }
 
 pub loop-has_met-smaller : goal.loop-has_met-smaller
@@ -99,8 +100,8 @@ pub returns-then-over-clause-found : goal.returns-then-over-clause-found
 returns-then-over-clause-found g c = λ tells store there to_there.
     let inv = c.loop-has_met.invariant in
     let s = g.R.Reads.state c.args.space.now in
-    let direction = c.args.direction in
-    let labels = c.args.labels.now in
+    let direction = c.args.sought.now.direction in
+    let labels = c.args.sought.now.labels.now in
     let near = neighbours_at s direction labels in
     let back = neighbours_at s (reversed direction) labels in
     let ahead = c.loop-has_met.ahead in
@@ -115,16 +116,16 @@ returns-then-over-clause-found g c = λ tells store there to_there.
           behind.tree behind.done inv.behind.depth inv.behind.layers (inv.behind_spans tells store to_there) apart whole
     ] in
     let from_first = subst (λ n. HasNoWalk near n (node_at behind.tree 0)) inv.first none in
-    let from_both = subst (λ n. HasNoWalk near c.args.from n) inv.last from_first in
-    subst (λ (list : List ℕ). IsLeastOrNone near c.args.from c.args.to list) (sym c.new-none.ensures.items) from_both
+    let from_both = subst (λ n. HasNoWalk near c.args.sought.now.from n) inv.last from_first in
+    subst (λ (list : List ℕ). IsLeastOrNone near c.args.sought.now.from c.args.sought.now.to list) (sym c.new-none.ensures.items) from_both
 
 pub returns-clause-found : goal.returns-clause-found
 returns-clause-found g c = λ tells store there to_there.
     IfOk-weaker c.join.result _ _ (λ walked joins.
     let inv = c.loop-has_met.invariant in
     let s = g.R.Reads.state c.args.space.now in
-    let direction = c.args.direction in
-    let labels = c.args.labels.now in
+    let direction = c.args.sought.now.direction in
+    let labels = c.args.sought.now.labels.now in
     let near = neighbours_at s direction labels in
     let back = neighbours_at s (reversed direction) labels in
     let ahead = c.loop-has_met.ahead in
@@ -139,12 +140,12 @@ returns-clause-found g c = λ tells store there to_there.
     (neighbours_at t direction labels) ahead.tree behind.tree walk) same
     joins (can_descend near back one other behind.tree behind.done inv.behind.depth inv.behind.layers behind_spans) in
     let longer = inv.longer tells store there to_there in
-    let longer_first = subst (λ n. AreLonger near n c.args.to (inv.ahead.depth + inv.behind.depth)) (sym inv.first) longer in
+    let longer_first = subst (λ n. AreLonger near n c.args.sought.now.to (inv.ahead.depth + inv.behind.depth)) (sym inv.first) longer in
     let longer_both = subst (λ n. AreLonger near (node_at ahead.tree 0) n (inv.ahead.depth + inv.behind.depth)) (sym inv.last) longer_first in
     let least = least_walk near back one other ahead.tree ahead.done inv.ahead.depth inv.ahead.layers ahead_spans behind.tree behind.done inv.behind.depth
     inv.behind.layers behind_spans longer_both walk joined in
     let from_first = subst (λ n. IsLeastOrNone near n (node_at behind.tree 0) walk) inv.first least in
-    subst (λ n. IsLeastOrNone near c.args.from n walk) inv.last from_first)
+    subst (λ n. IsLeastOrNone near c.args.sought.now.from n walk) inv.last from_first)
     (c.join.ensures.joins tells (store-read g.R.Reads g.met.R.Reads.onward_shape c.args.space.now c.loop-has_met.space c.loop-has_met.invariant.read store))
 
 pub returns-in_err-met-clause-damaged : goal.returns-in_err-met-clause-damaged

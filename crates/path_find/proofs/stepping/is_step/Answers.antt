@@ -1,7 +1,7 @@
 use Rattle.std.proofs.Common.{ℕ, List, Contains, sym, subst, ◌∙◌, arith}
 use Rattle.std.proofs.lemmas.Bool.{OnFalse_at, OnFalse_from, OnTrue_at, OnTrue_from, false≢true}
 use Rattle.path_find.specs.Checking.{IsStep}
-use Rattle.path_find.specs.Reads.{neighbours_at}
+use Rattle.path_find.specs.WalkSearch.{neighbours_for}
 use Rattle.rec_bytes.proofs.Causes.{never_ok}
 use Rattle.chain_edit.proofs.Causes.{same_has}
 use Rattle.path_find.proofs.Causes.{cause_passed}
@@ -11,7 +11,7 @@ pub returns-in-Some-clause-yes : goal.returns-in-Some-clause-yes
 returns-in-Some-clause-yes g c = λ tells store.
     let are = rw c.in-Some.is at c.in_ok-found.ensures.some tells store in
     let there = rw c.in-Some.is at c.in_ok-found.ensures.there tells store in
-    let near = neighbours_at (g.R.Reads.state c.args.reads.now) c.args.direction c.args.labels.now in
+    let near = neighbours_for (g.R.Reads.state c.args.reads.now) c.args.sought.now in
     OnTrue_from c.has_node.result (IsStep near c.args.node c.args.next) (λ e. record {
       there = there;
       edge = are.only c.args.next (subst (λ (ends : List ℕ). Contains ends c.args.next) c.deref.ensures.value (OnTrue_at e c.has_node.ensures.yes));
@@ -20,7 +20,7 @@ returns-in-Some-clause-yes g c = λ tells store.
 pub returns-in-Some-clause-no : goal.returns-in-Some-clause-no
 returns-in-Some-clause-no g c = λ tells store.
     let are = rw c.in-Some.is at c.in_ok-found.ensures.some tells store in
-    let near = neighbours_at (g.R.Reads.state c.args.reads.now) c.args.direction c.args.labels.now in
+    let near = neighbours_for (g.R.Reads.state c.args.reads.now) c.args.sought.now in
     OnFalse_from c.has_node.result (¬ IsStep near c.args.node c.args.next)
     (λ e. λ step. OnFalse_at e c.has_node.ensures.no (subst (λ (ends : List ℕ). Contains ends c.args.next) (sym c.deref.ensures.value)
     (are.all c.args.next step.edge)))

@@ -6,7 +6,7 @@ use Rattle.rec_bytes.specs.Fault.{of_row}
 use Rattle.rec_bytes.specs.Space.{State}
 use Rattle.expand.specs.Expanding.{graph_in}
 use Rattle.path_find.specs.Checking.{IsStep, IsWalkOrNone}
-use Rattle.path_find.specs.Reads.{neighbours_at}
+use Rattle.path_find.specs.WalkSearch.{neighbours_for}
 use Rattle.path_find.proofs.Answered.{load_fault}
 use Rattle.path_find.proofs.CheckLaws.{last-from_walk, step-from_walk, walk-from_steps}
 use Rattle.path_find.proofs.OnlyReads.{broken-read, is_read-none, is_read-on, same-read, store-read}
@@ -20,8 +20,9 @@ some_in n b is none = let not : n ≡ 0 → ⊥ = eqb-false n 0 (sym is ∙ none
 
 pub returns-then-walk-last-clause-no : goal.returns-then-walk-last-clause-no
 returns-then-walk-last-clause-no g c = λ tells store. λ is.
-    let near = neighbours_at (g.R.Reads.state c.args.reads.now) c.args.direction c.args.labels.now in
-    c.if-walk-last.true (last-from_walk near c.args.from c.args.to c.args.walk.now (some_in (length c.args.walk.now) c.is_empty.result c.is_empty.ensures
+    let near = neighbours_for (g.R.Reads.state c.args.reads.now) c.args.sought.now in
+    c.if-walk-last.true (last-from_walk near c.args.sought.now.from c.args.sought.now.to c.args.walk.now
+    (some_in (length c.args.walk.now) c.is_empty.result c.is_empty.ensures
     c.if-is_empty.false) is).0
 
 pub returns-then-not-steps-clause-no : goal.returns-then-not-steps-clause-no
@@ -31,10 +32,10 @@ returns-then-not-steps-clause-no g c = λ tells store. λ is.
     let read = c.loop-row.invariant.read in
     let same = same-read g.R.Reads g.met.R.Reads.onward_shape c.args.reads.now c.loop-row.reads read in
     let there = store-read g.R.Reads g.met.R.Reads.onward_shape c.args.reads.now c.loop-row.reads read store in
-    let near = neighbours_at (g.R.Reads.state c.args.reads.now) c.args.direction c.args.labels.now in
-    let mid = subst (λ (s : State). IsStep (neighbours_at s c.args.direction c.args.labels.now) (get_or walk row 0) (get_or walk (row + 1) 0)) (sym same)
-    (step-from_walk near c.args.from c.args.to walk is row c.loop-row-test.true) in
-    let fails : ¬ IsStep (neighbours_at (g.R.Reads.state c.loop-row.reads) c.args.direction c.args.labels.now) (get_or walk row 0) (get_or walk (row + 1) 0) =
+    let near = neighbours_for (g.R.Reads.state c.args.reads.now) c.args.sought.now in
+    let mid = subst (λ (s : State). IsStep (neighbours_for s c.args.sought.now) (get_or walk row 0) (get_or walk (row + 1) 0)) (sym same)
+    (step-from_walk near c.args.sought.now.from c.args.sought.now.to walk is row c.loop-row-test.true) in
+    let fails : ¬ IsStep (neighbours_for (g.R.Reads.state c.loop-row.reads) c.args.sought.now) (get_or walk row 0) (get_or walk (row + 1) 0) =
     OnFalse_at c.if-not-steps.true (c.in_ok-steps.ensures.no tells there) in
     fails mid
 
@@ -44,17 +45,17 @@ loop-row-preserved g c =
     let row = c.loop-row.row in
     let read = c.loop-row.invariant.read in
     let same = same-read g.R.Reads g.met.R.Reads.onward_shape c.args.reads.now c.loop-row.reads read in
-    let near = neighbours_at (g.R.Reads.state c.args.reads.now) c.args.direction c.args.labels.now in
+    let near = neighbours_for (g.R.Reads.state c.args.reads.now) c.args.sought.now in
     record {
       read = is_read-on g.R.Reads g.met.R.Reads.further_onward c.args.reads.now c.loop-row.reads c.is_step.new.reads read c.is_step.ensures.read;
       steps = λ tells store k lt. elim (cases_lt k row) [
         | inl less ↦ c.loop-row.invariant.steps tells store k less
         | inr ge ↦
             let there = store-read g.R.Reads g.met.R.Reads.onward_shape c.args.reads.now c.loop-row.reads read store in
-            let mid : IsStep (neighbours_at (g.R.Reads.state c.loop-row.reads) c.args.direction c.args.labels.now) (get_or walk row 0)
+            let mid : IsStep (neighbours_for (g.R.Reads.state c.loop-row.reads) c.args.sought.now) (get_or walk row 0)
             (get_or walk (row + 1) 0) =
             OnTrue_at c.if-not-steps.false (c.in_ok-steps.ensures.yes tells there) in
-            let at_old = subst (λ (s : State). IsStep (neighbours_at s c.args.direction c.args.labels.now) (get_or walk row 0) (get_or walk (row + 1) 0)) same
+            let at_old = subst (λ (s : State). IsStep (neighbours_for s c.args.sought.now) (get_or walk row 0) (get_or walk (row + 1) 0)) same
             mid in
             let here : row ≡ k = omega arith in
             subst (λ i. IsStep near (get_or walk i 0) (get_or walk (i + 1) 0)) here at_old
@@ -66,38 +67,38 @@ returns-in_err-there-clause-damaged g c = λ tells.
     let p = err_from_is_err_and c.from_residual-in_err-there.result c.from_residual-in_err-there.ensures.1 in
     let fault = c.in_err-there.field-0.0 in
     rw (p.1, p.2) (broken-read g.R.Reads g.met.R.Reads.onward_shape c.args.reads.now c.loop-row.reads c.loop-row.invariant.read (of_row fault)
-    (load_fault (g.R.Reads.state c.loop-row.reads) c.args.to fault (c.in_err-there.ensures.damaged tells)))
+    (load_fault (g.R.Reads.state c.loop-row.reads) c.args.sought.now.to fault (c.in_err-there.ensures.damaged tells)))
 
 pub returns-clause-yes : goal.returns-clause-yes
 returns-clause-yes g c = λ tells store.
     let s = g.R.Reads.state c.args.reads.now in
     let walk = c.args.walk.now in
     let row = c.loop-row.row in
-    let near = neighbours_at s c.args.direction c.args.labels.now in
+    let near = neighbours_for s c.args.sought.now in
     let read = c.loop-row.invariant.read in
     let same = same-read g.R.Reads g.met.R.Reads.onward_shape c.args.reads.now c.loop-row.reads read in
     let mid = store-read g.R.Reads g.met.R.Reads.onward_shape c.args.reads.now c.loop-row.reads read store in
     let test = c.loop-row-test.false in
-    OnTrue_from c.in_ok-there.there (IsWalkOrNone near c.args.from c.args.to walk)
+    OnTrue_from c.in_ok-there.there (IsWalkOrNone near c.args.sought.now.from c.args.sought.now.to walk)
     (λ e.
-    let there : has_node (graph_in s) c.args.to ≡ true = subst (λ (t : State). has_node (graph_in t) c.args.to ≡ true) same
+    let there : has_node (graph_in s) c.args.sought.now.to ≡ true = subst (λ (t : State). has_node (graph_in t) c.args.sought.now.to ≡ true) same
     (sym (c.in_ok-there.ensures.is tells mid) ∙ e) in
-    walk-from_steps near c.args.from c.args.to walk c.if-walk-from.false c.if-walk-last.false
+    walk-from_steps near c.args.sought.now.from c.args.sought.now.to walk c.if-walk-sought.false c.if-walk-last.false
     (λ k lt. c.loop-row.invariant.steps tells store k (omega (arith, test, lt))) there)
 
 pub returns-clause-no : goal.returns-clause-no
 returns-clause-no g c = λ tells store.
     let s = g.R.Reads.state c.args.reads.now in
-    let near = neighbours_at s c.args.direction c.args.labels.now in
+    let near = neighbours_for s c.args.sought.now in
     let read = c.loop-row.invariant.read in
     let same = same-read g.R.Reads g.met.R.Reads.onward_shape c.args.reads.now c.loop-row.reads read in
     let mid = store-read g.R.Reads g.met.R.Reads.onward_shape c.args.reads.now c.loop-row.reads read store in
-    OnFalse_from c.in_ok-there.there (¬ IsWalkOrNone near c.args.from c.args.to c.args.walk.now)
+    OnFalse_from c.in_ok-there.there (¬ IsWalkOrNone near c.args.sought.now.from c.args.sought.now.to c.args.walk.now)
     (λ e. λ is.
-    let last = last-from_walk near c.args.from c.args.to c.args.walk.now
+    let last = last-from_walk near c.args.sought.now.from c.args.sought.now.to c.args.walk.now
     (some_in (length c.args.walk.now) c.is_empty.result c.is_empty.ensures c.if-is_empty.false) is in
-    let there : has_node (graph_in (g.R.Reads.state c.loop-row.reads)) c.args.to ≡ true =
-    subst (λ (t : State). has_node (graph_in t) c.args.to ≡ true) (sym same) last.1 in
+    let there : has_node (graph_in (g.R.Reads.state c.loop-row.reads)) c.args.sought.now.to ≡ true =
+    subst (λ (t : State). has_node (graph_in t) c.args.sought.now.to ≡ true) (sym same) last.1 in
     false≢true (sym e ∙ c.in_ok-there.ensures.is tells mid ∙ there))
 
 pub loop-row-init : goal.loop-row-init
