@@ -28,10 +28,11 @@ use rec_bytes::{
 };
 use std::alloc::Global;
 
-/// What is sought: a key, and the hash of its value.
+/// What is sought: a key, and its value with the hash of it.
 #[derive(Clone, Copy)]
-pub(crate) struct Sought {
+pub(crate) struct Sought<'a> {
     pub key: u32,
+    pub value: &'a Value,
     pub hash: u64,
 }
 
@@ -40,17 +41,16 @@ pub(crate) fn gather<R: Reads>(
     alloc: Global,
     space: &mut R,
     first: u32,
-    sought: Sought,
-    value: &Value,
+    sought: &Sought,
     named: Damage,
 ) -> Result<Vec<u32>, Fault>
     ensures found { R.tells → (xs : List ℕ) → AreEntries (R.state space.old) first xs
-        → IfOk result (λ nodes. nodes.items ≡ nodes_with (R.state space.old).records sought.key
-        sought.hash value.now xs) }
+        → IfOk result (λ nodes. nodes.items ≡ nodes_with (R.state space.old).records sought.now.key
+        sought.now.hash sought.now.value.now xs) }
     ensures sound { R.tells → (xs : List ℕ) → AreEntries (R.state space.old) first xs
-        → AreReadable (R.state space.old) sought.hash xs → NotDamaged result }
+        → AreReadable (R.state space.old) sought.now.hash xs → NotDamaged result }
     ensures cost { R.tells → (xs : List ℕ) → AreEntries (R.state space.old) first xs
-        → ReadsAtMost (length xs + 55 * count_hashed (R.state space.old).records sought.hash xs)
+        → ReadsAtMost (length xs + 55 * count_hashed (R.state space.old).records sought.now.hash xs)
         (R.state space.old) (R.state space.new) }
     ensures damaged { R.tells → (d b : ℕ) → IsEntryAt (R.state space.old) d b 0 first named
         → IfErr result (BlamesBroken (R.state space.old).records (R.state space.old).shape) }
@@ -67,7 +67,7 @@ pub(crate) fn gather<R: Reads>(
             return Ok(nodes);
         }
         record_at(space, at, INDEXED, named, &mut rec)?;
-        add_node(alloc, space, &rec, sought, value, at, &mut nodes)?;
+        add_node(alloc, space, &rec, sought, at, &mut nodes)?;
         named = out_of_range(at);
         at = rec.number(INDEXED_NEXT);
     }
@@ -82,24 +82,24 @@ fn add_node<R: Reads>(
     alloc: Global,
     space: &mut R,
     rec: &Rec,
-    sought: Sought,
-    value: &Value,
+    sought: &Sought,
     entry: u32,
     nodes: &mut Vec<u32>,
 ) -> Result<(), Fault>
     ensures added { R.tells → (x : ℕ) → rec.now ≡ index_rec (R.state space.old).records x
         → OnOk result (nodes.new.items ≡ nodes.old.items ++ cond
-        (is_picked (R.state space.old).records sought.key sought.hash value.now x)
+        (is_picked (R.state space.old).records sought.now.key sought.now.hash
+        sought.now.value.now x)
         (entry_node (R.state space.old).records x ∷ []) []) }
     ensures sound { R.tells → (x : ℕ) → rec.now ≡ index_rec (R.state space.old).records x
-        → (entry_hash (R.state space.old).records x ≡ sought.hash
+        → (entry_hash (R.state space.old).records x ≡ sought.now.hash
         → IsListedNode (R.state space.old) (entry_node (R.state space.old).records x))
         → NotDamaged result }
     ensures damaged { R.tells → (d b count : ℕ)
         → IsEntryMet (R.state space.old).records d b count entry rec.now → IfErr result
         (BlamesBroken (R.state space.old).records (R.state space.old).shape) }
     ensures cost { (x : ℕ) → rec.now ≡ index_rec (R.state space.old).records x
-        → ReadsAtMost (55 * cond (is_hashed (R.state space.old).records sought.hash x) 1 0)
+        → ReadsAtMost (55 * cond (is_hashed (R.state space.old).records sought.now.hash x) 1 0)
         (R.state space.old) (R.state space.new) }
     ensures at_most { ReadsAtMost 55 (R.state space.old) (R.state space.new) }
     ensures onward { R.onward space.old space.new }
@@ -109,7 +109,7 @@ fn add_node<R: Reads>(
         return Ok(());
     }
     let node = rec.number(INDEXED_NODE);
-    if holds(alloc, space, node, sought.key, value, entry)? {
+    if holds(alloc, space, node, sought.key, sought.value, entry)? {
         nodes.push(node)?;
     }
     Ok(())

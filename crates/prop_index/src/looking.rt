@@ -65,8 +65,7 @@ pub fn lookup<R: Reads>(
         alloc,
         space,
         bucket.first,
-        Sought { key, hash },
-        value,
+        &Sought { key, value, hash },
         named,
     )?;
     put_in_order(&mut nodes)?;

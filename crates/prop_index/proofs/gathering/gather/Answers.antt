@@ -62,7 +62,8 @@ returns-in_err-add_node-clause-cost g c tells xs are =
     ∙ ap (λ (r : Records). index_rec r c.loop.at) (sym (same_records now then (reads_same 1 now then c.in_ok-record_at.ensures.at_most))) in
     gather_cost _ _ _ _ _ xs _ _ _ (gather_on s now _ _ _ xs c.loop.at c.loop.counter _ (c.loop.invariant.told tells xs are) after _ _ c.if-at.false refl refl
     (reads_then 1 _ _ now then after (omega arith) c.in_ok-record_at.ensures.at_most
-    (subst (λ (r : Records). ReadsAtMost (55 * cond (is_hashed r c.args.sought.hash c.loop.at) 1 0) then after) gone (c.in_err-add_node.ensures.cost c.loop.at
+    (subst (λ (r : Records). ReadsAtMost (55 * cond (is_hashed r c.args.sought.now.hash c.loop.at) 1 0) then after) gone
+    (c.in_err-add_node.ensures.cost c.loop.at
     rec_then))))
 
 pub returns-in_err-record_at-clause-sound : goal.returns-in_err-record_at-clause-sound
@@ -125,11 +126,12 @@ loop-preserved g c =
           let rec_then : c.record_at.new.rec ≡ index_rec then.records c.loop.at = rec_is ∙ ap (λ (r : Records). index_rec r c.loop.at) (sym gone) in
           gather_on s now _ _ _ xs c.loop.at c.loop.counter _ told after c.number-at.result _ c.if-at.false
           (c.number-at.ensures ∙ ap (λ (r : Rec). field 4 r format.indexed_next) rec_is)
-          (subst (λ (r : Records). c.add_node.new.nodes.items ≡ c.loop.nodes.items ++ cond (is_picked r c.args.sought.key c.args.sought.hash c.args.value.now
+          (subst (λ (r : Records). c.add_node.new.nodes.items ≡ c.loop.nodes.items ++ cond
+          (is_picked r c.args.sought.now.key c.args.sought.now.hash c.args.sought.now.value.now
           c.loop.at) (entry_node r c.loop.at ∷ []) []) gone
           (c.in_ok-add_node.ensures.added tells c.loop.at rec_then))
           (reads_then 1 _ _ now then after (omega arith) c.in_ok-record_at.ensures.at_most
-          (subst (λ (r : Records). ReadsAtMost (55 * cond (is_hashed r c.args.sought.hash c.loop.at) 1 0) then after) gone
+          (subst (λ (r : Records). ReadsAtMost (55 * cond (is_hashed r c.args.sought.now.hash c.loop.at) 1 0) then after) gone
           (c.in_ok-add_node.ensures.cost c.loop.at rec_then)));
       at = λ tells d b h.
           let was = same_records s now c.loop.invariant.same in

@@ -1,4 +1,4 @@
-use Rattle.std.proofs.Common.{◌≡◌, ◌≢◌, ◌⊎◌, ◌∙◌, Option, Some, List, refl, ap, sym, subst, ◌-◌, ◌<◌, ℕ, arith, inl, inr, ⊎_elim, rules}
+use Rattle.std.proofs.Common.{◌≡◌, ◌≢◌, ◌∙◌, Option, Some, List, ap, sym, subst, ◌-◌, ℕ, arith, rules}
 use Rattle.rec_bytes.specs.Fault.{damage_of}
 use Rattle.rec_bytes.specs.Space.{SameButReads, State, meta_of}
 use Rattle.rec_bytes.specs.Meta.{IsLinkBelow}
@@ -25,16 +25,13 @@ use Rattle.prop_index.proofs.FillSteps.{elsewhere_of}
 use Rattle.prop_index.specs.Leaving.{IsBetween, IsBucketChain, IsDropped, IsEntryRow, IsEntrySought, NoneThere, OneGone}
 use Rattle.prop_index.specs.Unlinking.{unlinked_entry}
 use Rattle.prop_index.specs.declared.entry_row.EntryRow.{EntryRow}
-use Rattle.prop_index.proofs.Buckets.{after-member, before-member, chain-entries, chain-reread, head-reread, after-low, before-low}
-use Rattle.prop_index.proofs.Reread.{can_after, kept_after, same_records, room_after}
+use Rattle.prop_index.proofs.Buckets.{after-member, before-member, chain-entries, chain-reread, head-reread}
+use Rattle.prop_index.proofs.Reread.{can_after, kept_after, same_records}
 use Rattle.prop_index.proofs.GoneRules.{entry_gone_kept}
 use Rattle.prop_index.proofs.LiveCounts.{unlinked_live}
 use Rattle.prop_index.proofs.Unlinked.{entry_unlinked}
-use Rattle.std.proofs.lemmas.Bool.{true≢false}
-use Rattle.std.proofs.lemmas.Result.{err_from_is_err_and}
 use Rattle.prop_store.proofs.Causes.{cause_passed, space_cause_passed}
 use Rattle.rec_bytes.proofs.Causes.{never_ok, ok_cause}
-use Rattle.prop_index.proofs.Causes.{damage_cause}
 use Rattle.prop_index.proofs.IndexTouches.{index_same, index_then}
 use Rattle.prop_index.proofs.Unwritten.{on_damage}
 use Rattle.prop_index.proofs.leaving.drop_entry.Goals as goal

@@ -7,10 +7,9 @@ use Rattle.store_rules.specs.Indexes.{AreIndexed, Entry, without_entry}
 use Rattle.store_rules.specs.Views.{Records}
 use Rattle.prop_store.proofs.ReadCounts.{reads_same}
 use Rattle.prop_index.specs.Entering.{entry_of}
-use Rattle.prop_index.specs.Blaming.{BlamesBroken}
 use Rattle.prop_store.proofs.Exits.{same_has}
 use Rattle.prop_index.specs.Heads.{IfBucketMet, IsBucketSought}
-use Rattle.prop_index.proofs.IndexBlames.{blames_before, blames_reread, entry_begins, entry_reread, if_err}
+use Rattle.prop_index.proofs.IndexBlames.{entry_begins, entry_reread, if_err}
 use Rattle.store_rules.specs.Graph.{indexes_of}
 use Rattle.prop_index.specs.Blaming.{NamesIndexes}
 use Rattle.prop_index.proofs.DefinitionsStay.{same_graph}
@@ -18,9 +17,8 @@ use Rattle.prop_index.specs.Leaving.{IsDropped, IsNoneOf, SaysContent}
 use Rattle.prop_index.specs.declared.entry_row.Content.{Content}
 use Rattle.prop_index.proofs.Buckets.{bucket-chain, chain-reread, head-place, head-reread}
 use Rattle.prop_index.proofs.Changed.{left_in, none_wanted, unlisted_left}
-use Rattle.prop_index.proofs.Reread.{can_after, kept_after, same_records, same_then, room_after}
+use Rattle.prop_index.proofs.Reread.{can_after, kept_after, same_records, same_then}
 use Rattle.prop_index.proofs.IndexTouches.{index_read, index_then}
-use Rattle.std.proofs.lemmas.Result.{err_from_is_err_and}
 use Rattle.prop_store.proofs.Causes.{cause_after, cause_passed}
 use Rattle.rec_bytes.proofs.Causes.{never_ok, ok_cause}
 use Rattle.prop_index.proofs.Unwritten.{damage_then, on_damage}

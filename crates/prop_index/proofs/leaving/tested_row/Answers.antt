@@ -16,7 +16,7 @@ use Rattle.prop_index.specs.Leaving.{IsEntryBefore, IsEntryRow, IsEntrySought, I
 use Rattle.prop_index.specs.Naming.{BlamesBucket}
 use Rattle.prop_index.specs.declared.entry_row.EntryRow.{EntryRow}
 use Rattle.prop_index.proofs.Causes.{told_cause}
-use Rattle.prop_index.proofs.IndexNamed.{before_lacks, bucket_before, bucket_names, leads_again, mark_bucket, mark_names, marks_before, some_entry}
+use Rattle.prop_index.proofs.IndexNamed.{before_lacks, bucket_before, leads_again, mark_bucket, mark_names, marks_before, some_entry}
 use Rattle.prop_index.proofs.Reread.{same_records, same_then}
 use Rattle.prop_index.proofs.leaving.tested_row.Goals as goal
 

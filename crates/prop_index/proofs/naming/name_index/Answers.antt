@@ -1,5 +1,5 @@
 use Rattle.std.specs.Prelude.{Option, Err}
-use Rattle.std.proofs.Common.{◌≡◌, ℕ, ap, inl, inr, refl, sym, ◌∙◌, subst, ⊎_elim, arith}
+use Rattle.std.proofs.Common.{◌≡◌, ℕ, ap, inl, inr, refl, sym, subst, ⊎_elim, arith}
 use Rattle.rec_bytes.specs.declared.damage.Damage.{Damage}
 use Rattle.rec_bytes.specs.declared.record.Rec.{Rec}
 use Rattle.rec_bytes.specs.Format as format
