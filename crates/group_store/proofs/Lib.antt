@@ -19,6 +19,7 @@ pub mod ExactGroups
 pub mod FirstGroups
 pub mod Gathers
 pub mod GroupCounts
+pub mod GroupMetas
 pub mod GroupPuts
 pub mod GroupRecords
 pub mod GroupRules

@@ -142,8 +142,10 @@ named_read s z n fault same told = by fault (subst (λ (q : State). NamesAt q n 
     by (Damaged d) (inr (inr unread)) = inr (inr (unread.0, rel unread.0 d unread.1))
 
 -- the meta record of the relationships is the same, and so are their kinds
-module _ (s t : State) (shape : t.shape ≡ s.shape) (meta : t.records (meta_key_of format.relationships_file) ≡ s.records (meta_key_of format.relationships_file))
-    (kinds : (x : ℕ) → field 1 (rec_at t.records format.relationships_file x) format.kind ≡ field 1 (rec_at s.records format.relationships_file x) format.kind) where
+module _ (s t : State) (shape : t.shape ≡ s.shape)
+    (meta : t.records (meta_key_of format.relationships_file) ≡ s.records (meta_key_of format.relationships_file))
+    (kinds : (x : ℕ) → field 1 (rec_at t.records format.relationships_file x) format.kind
+    ≡ field 1 (rec_at s.records format.relationships_file x) format.kind) where
   mark : high t.records format.relationships_file ≡ high s.records format.relationships_file
   mark = ap (λ (r : Rec). (metas.meta_of r).high) meta
 

@@ -5,8 +5,10 @@ use Rattle.rec_bytes.specs.declared.fault.Fault.{Fault}
 use Rattle.rec_bytes.specs.declared.fault.Fault.TheVariants.{Memory, Disk, Damaged}
 use Rattle.rec_bytes.specs.Format as format
 use Rattle.rec_bytes.specs.Space.{State}
+use Rattle.id_freelist.specs.ListDamage.{IsListDamage}
 use Rattle.row_store.specs.Loading.{IsRowDamage}
 use Rattle.store_rules.specs.Views.{key_in}
+use Rattle.group_store.specs.Opening.{IsFullDamage}
 
 -- the record is a group, or the meta record of the groups
 abbrev pub IsOfGroups : Damage → Type 0
@@ -50,3 +52,15 @@ NamesFound s t Memory = Unit {0}
 NamesFound s t Disk = Unit {0}
 NamesFound s t (Damaged damage) = damage.file ≡ format.nodes_file
     → t.records (key_in damage.file damage.id) ≡ s.records (key_in damage.file damage.id)
+
+-- it is the meta record of the groups
+abbrev pub IsOfGroupMeta : Damage → Type 0
+IsOfGroupMeta damage = (damage.file ≡ format.meta_file) × (damage.id ≡ format.groups_file)
+
+-- Where a fault names that meta record, this was wrong with the free list of the groups before, or
+-- their file is full.
+abbrev pub NamesMeta : State → State → Fault → Type 0
+NamesMeta s t Memory = Unit {0}
+NamesMeta s t Disk = Unit {0}
+NamesMeta s t (Damaged damage) = IsOfGroupMeta damage
+    → IsListDamage s.records s.shape format.groups_file damage ⊎ IsFullDamage t damage

@@ -5,6 +5,7 @@ ghost use Rattle.node_store.specs.NodeRecord.{node_key};
 ghost use Rattle.rec_bytes.specs.Key.{IsKey};
 ghost use Rattle.rec_bytes.specs.RecordFiles.{meta_key_of};
 ghost use Rattle.rec_bytes.specs.Format.{groups_file, relationships_file};
+ghost use Rattle.id_freelist.specs.ListDamage.{HarmsNoList};
 ghost use Rattle.id_freelist.specs.Taking.{room};
 ghost use Rattle.rec_bytes.specs.Space.{HasCause, SameButReads, WritesOnly, meta_of};
 ghost use Rattle.rel_store.specs.Loading as rels;
@@ -27,7 +28,7 @@ ghost use Rattle.group_store.specs.Leaving.{KeepsHeads, KeepsOtherHeads, LeavesB
 ghost use Rattle.group_store.specs.Leaving.{LeavesOthers};
 ghost use Rattle.group_store.specs.Moving.{ComesIn, GrowsBy, HasAdded, HasFound, IsOwnTurn};
 ghost use Rattle.group_store.specs.Moving.{turn_keys};
-ghost use Rattle.group_store.specs.Naming.{NamesAt, NamesFound, NamesNoNode};
+ghost use Rattle.group_store.specs.Naming.{NamesAt, NamesFound, NamesMeta, NamesNoNode};
 ghost use Rattle.group_store.specs.Opening.{IsOpenFault};
 ghost use Rattle.group_store.specs.Raising.{IsGroupAt};
 ghost use Rattle.group_store.specs.Spreading.{CanTakeEach, HasCountedList, HasEndRoom};
@@ -75,6 +76,10 @@ pub fn make_dense<S: Space>(space: &mut S, node: u32, threshold: u32) -> Result<
         → (S.state space.old).shape.threshold ≤ threshold
         → IfErr result (IsEndFault (S.state space.new) node) }
     ensures names { S.tells → IfErr result (NamesAt (S.state space.old) node) }
+    ensures metas { S.tells
+        → IfErr result (NamesMeta (S.state space.old) (S.state space.new)) }
+    ensures lists { S.tells → OnOk result
+        (HarmsNoList (S.state space.old) (S.state space.new) groups_file) }
     ensures named { S.tells
         → IfErr result (NamesFound (S.state space.old) (S.state space.new)) }
     ensures list { S.tells → OnOk result (HasCountedList (S.state space.new).records node) }
@@ -178,6 +183,10 @@ fn move_one<S: Space>(space: &mut S, node: u32, rel: u32) -> Result<Turn, Fault>
     ensures damaged { S.tells → IsDense (S.state space.old).records node
         → IfErr result (IsMoveFault (S.state space.old) (S.state space.new) node rel) }
     ensures names { S.tells → IfErr result (NamesAt (S.state space.old) node) }
+    ensures metas { S.tells
+        → IfErr result (NamesMeta (S.state space.old) (S.state space.new)) }
+    ensures lists { S.tells → OnOk result
+        (HarmsNoList (S.state space.old) (S.state space.new) groups_file) }
     ensures listed { S.tells → IsDense (S.state space.old).records node
         → HasCountedList (S.state space.old).records node
         → rel_at (S.state space.old).records rel ≢ None → IfErr result NamesNoNode }
@@ -255,6 +264,10 @@ pub(crate) fn own_group<S: Space>(space: &mut S, node: u32, label: u32) -> Resul
     ensures damaged { S.tells → IsDense (S.state space.old).records node
         → IfErr result (IsOpenFault (S.state space.old)) }
     ensures names { S.tells → IfErr result (NamesAt (S.state space.old) node) }
+    ensures metas { S.tells
+        → IfErr result (NamesMeta (S.state space.old) (S.state space.new)) }
+    ensures lists { S.tells → OnOk result
+        (HarmsNoList (S.state space.old) (S.state space.new) groups_file) }
     ensures listed { S.tells → IsDense (S.state space.old).records node
         → HasCountedList (S.state space.old).records node → IfErr result NamesNoNode }
     ensures list { S.tells → IfOk result (λ own. HasCountedList (S.state space.old).records node

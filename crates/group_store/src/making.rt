@@ -1,5 +1,6 @@
 ghost use Rattle.std.specs.Prelude.{◌≡◌, ◌≢◌, ◌∷◌, [], ◌++◌, ℕ, List, true, IfErr, IfOk};
 ghost use Rattle.std.specs.Prelude.{IsErr, OnOk};
+ghost use Rattle.id_freelist.specs.ListDamage.{HarmsNoList};
 ghost use Rattle.id_freelist.specs.Taking.{room};
 ghost use Rattle.node_store.specs.Loading.{IsReadable};
 ghost use Rattle.node_store.specs.NodeRecord.{node_key};
@@ -113,6 +114,8 @@ pub(crate) fn make_own<S: Space>(space: &mut S, node: u32, label: u32) -> Result
     ensures leads { S.tells → IfOk result (λ own. (came groups : List ℕ)
         → LeadsAmong (S.state space.old).records node came groups
         → LeadsAmong (S.state space.new).records node came (groups ++ own.row.id ∷ [])) }
+    ensures lists { S.tells → OnOk result
+        (HarmsNoList (S.state space.old) (S.state space.new) groups_file) }
     ensures list { S.tells → OnOk result (HasCountedList (S.state space.old).records node
         → HasCountedList (S.state space.new).records node) }
     ensures wrote { IfOk result (λ own. WritesOnly (S.state space.old) (S.state space.new)

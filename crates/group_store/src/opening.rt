@@ -7,6 +7,7 @@ ghost use Rattle.rec_bytes.specs.Format.{groups_file};
 ghost use Rattle.rec_bytes.specs.Key.{IsKey};
 ghost use Rattle.rec_bytes.specs.RecordFiles.{is_meta_file};
 ghost use Rattle.rec_bytes.specs.Space.{SameButReads, WritesOnly};
+ghost use Rattle.id_freelist.specs.ListDamage.{HarmsNoList};
 ghost use Rattle.store_rules.specs.Breaking.{IsHeadOf};
 ghost use Rattle.store_rules.specs.Views.{RelRow, rel_at};
 ghost use Rattle.store_rules.specs.Writes.{WritesBeside};
@@ -20,7 +21,7 @@ ghost use Rattle.group_store.specs.GroupChain.{IsDense};
 ghost use Rattle.group_store.specs.GroupRecord.{group_key};
 ghost use Rattle.group_store.specs.Leaving.{KeepsHeads, KeepsOtherHeads, LeavesBeside};
 ghost use Rattle.group_store.specs.Leaving.{LeavesCounted};
-ghost use Rattle.group_store.specs.Naming.{NamesAt, NamesFound, NamesNoNode};
+ghost use Rattle.group_store.specs.Naming.{NamesAt, NamesFound, NamesMeta, NamesNoNode};
 ghost use Rattle.group_store.specs.Spreading.{HasCountedList};
 ghost use Rattle.rec_bytes.specs.Fault.{HasFaultCause, NotDamaged, OnDamage};
 ghost use Rattle.group_store.specs.Opening.{
@@ -137,6 +138,10 @@ fn open_group<S: Space>(space: &mut S, node: u32, label: u32, side: Side) -> Res
     ensures damaged { S.tells → IsDense (S.state space.old).records node
         → IfErr result (IsOpenFault (S.state space.old)) }
     ensures names { S.tells → IfErr result (NamesAt (S.state space.old) node) }
+    ensures metas { S.tells
+        → IfErr result (NamesMeta (S.state space.old) (S.state space.new)) }
+    ensures lists { S.tells → OnOk result
+        (HarmsNoList (S.state space.old) (S.state space.new) groups_file) }
     ensures listed { S.tells → IsDense (S.state space.old).records node
         → HasCountedList (S.state space.old).records node → IfErr result NamesNoNode }
     ensures unwritten { S.tells → IsDense (S.state space.old).records node
@@ -194,6 +199,10 @@ pub fn open_chain<S: Space>(
     ensures told { S.tells → (S.state space.old).shape.threshold ≤ threshold
         → IfErr result (IsEndFault (S.state space.new) node) }
     ensures names { S.tells → IfErr result (NamesAt (S.state space.old) node) }
+    ensures metas { S.tells
+        → IfErr result (NamesMeta (S.state space.old) (S.state space.new)) }
+    ensures lists { S.tells → OnOk result
+        (HarmsNoList (S.state space.old) (S.state space.new) groups_file) }
     ensures named { S.tells
         → IfErr result (NamesFound (S.state space.old) (S.state space.new)) }
     // where the head is the node's nothing is written

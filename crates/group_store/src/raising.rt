@@ -1,13 +1,15 @@
 //! Groups that get the numbers of the relationships in their chains. A group that was made before
 //! there were such numbers lacks them until a change of one of its chains.
 
-ghost use Rattle.std.specs.Prelude.{◌≡◌, ◌≤◌, ◌∷◌, [], ℕ, List, true, IfErr, IfOk, IsOk, OnOk};
+ghost use Rattle.std.specs.Prelude.{◌≡◌, ◌≢◌, ◌≤◌, ◌∷◌, [], ℕ, List, true, IfErr, IfOk, IsOk, OnOk};
 ghost use Rattle.rec_bytes.specs.Fault.{HasFaultCause, NotDamaged, OnDamage};
+ghost use Rattle.rec_bytes.specs.Format.{free_kind, groups_file};
 ghost use Rattle.rec_bytes.specs.Key.{IsKey};
 ghost use Rattle.rec_bytes.specs.Space.{HasCause, SameButReads, WritesOnly};
 ghost use Rattle.node_store.specs.NodeRecord.{node_key};
 ghost use Rattle.rel_store.specs.Loading.{rel_mark, rel_room};
-ghost use Rattle.store_rules.specs.Views.{degree};
+ghost use Rattle.id_freelist.specs.ListDamage.{HarmsNoList};
+ghost use Rattle.store_rules.specs.Views.{degree, kind_at};
 ghost use Rattle.chain_edit.specs.Breaks.{IsBreakFault};
 ghost use Rattle.chain_edit.specs.Length.{HasCounted, IsMemberChain};
 ghost use Rattle.group_store.specs.GroupRecord.{group_key};
@@ -61,6 +63,9 @@ pub(crate) fn count_group<S: Space>(space: &mut S, node: u32, row: &GroupRow) ->
     ensures beside { S.tells → OnOk result
         (LeavesBeside (S.state space.old).records
         (S.state space.new).records node) }
+    ensures lists { S.tells
+        → kind_at (S.state space.old).records groups_file row.now.id ≢ free_kind
+        → OnOk result (HarmsNoList (S.state space.old) (S.state space.new) groups_file) }
     ensures counts { S.tells → IsGroupAt (S.state space.old) node row.now → OnOk result
         (LeavesCounted (S.state space.old).records (S.state space.new).records) }
     ensures writes { WritesOnly (S.state space.old) (S.state space.new)

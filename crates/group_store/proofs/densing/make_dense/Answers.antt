@@ -40,6 +40,9 @@ use Rattle.rec_bytes.proofs.Causes.{never_ok}
 use Rattle.chain_edit.proofs.Causes.{space_has}
 use Rattle.rec_bytes.specs.declared.fault.Fault.TheVariants.{Damaged}
 use Rattle.group_store.proofs.CountedLists.{found_never, found_same, list_cleared}
+use Rattle.rec_bytes.specs.Format.{groups_file}
+use Rattle.id_freelist.proofs.ListSteps.{harms_none_then, reads_harm_none}
+use Rattle.group_store.proofs.GroupMetas.{cleared_harms_none, metas_node, metas_then, node_fault_metas, sparse_metas}
 use Rattle.group_store.proofs.densing.make_dense.Goals as goal
 
 pub loop-init : goal.loop-init
@@ -68,6 +71,8 @@ loop-init g c =
           let used = (node_row s.records c.args.node c.in-Some.row (sym (sym c.in-Some.is ∙ c.in_ok-row.ensures.found tells))).0 in
           subst (λ (q : State). IsDense q.records c.args.node) (sym (c.in_ok-clear.ensures.ok tells))
           (dense_cleared v c.args.node (subst (λ (q : State). kind_at q.records nodes_file c.args.node ≢ 0) (sym same) used));
+      lists = λ tells. harms_none_then s v t groups_file (reads_harm_none s v groups_file same) (cleared_harms_none v t c.args.node
+          (c.in_ok-clear.ensures.ok tells));
       list = λ tells. list_cleared v t c.args.node (c.in_ok-clear.ensures.ok tells);
       beside = λ tells. beside_then s.records v.records t.records c.args.node (beside_read s v c.args.node same)
           (beside_cleared v t c.args.node (c.in_ok-clear.ensures.ok tells));
@@ -104,6 +109,7 @@ loop-preserved g c =
           groups (was.leads tells)).0);
       rest = λ tells. rest_next s now c.args.node c.loop.at c.loop.counter c.if-at.false (was.rest tells) end turn.next (c.in_ok-turn.ensures.walk tells);
       dense = λ tells. c.in_ok-turn.ensures.dense tells (was.dense tells);
+      lists = λ tells. harms_none_then s now end groups_file (was.lists tells) (c.in_ok-turn.ensures.lists tells);
       list = λ tells. c.in_ok-turn.ensures.list tells (was.dense tells) (was.list tells);
       beside = λ tells. beside_then s.records now.records end.records c.args.node (was.beside tells) (c.in_ok-turn.ensures.beside tells);
       heads = λ tells. others_then s now end c.args.node (was.heads tells) (c.in_ok-turn.ensures.heads tells);
@@ -788,7 +794,8 @@ pub returns-in_default-clause-names : goal.returns-in_default-clause-names
 returns-in_default-clause-names g c = λ tells. at_node (g.S.Reads.state c.args.space.now) c.args.node c.chain_damage.result 4 c.chain_damage.ensures
 
 pub returns-then-row-clause-names : goal.returns-then-row-clause-names
-returns-then-row-clause-names g c = λ tells. at_node (g.S.Reads.state c.args.space.now) c.args.node c.chain_damage-then-row.result 4 c.chain_damage-then-row.ensures
+returns-then-row-clause-names g c = λ tells. at_node (g.S.Reads.state c.args.space.now) c.args.node c.chain_damage-then-row.result 4
+    c.chain_damage-then-row.ensures
 
 pub returns-then-row-threshold-clause-names : goal.returns-then-row-threshold-clause-names
 returns-then-row-threshold-clause-names g c = λ tells. at_node (g.S.Reads.state c.args.space.now) c.args.node c.degree_damage.result 7 c.degree_damage.ensures
@@ -821,7 +828,8 @@ pub returns-then-not-note-clause-names : goal.returns-then-not-note-clause-names
 returns-then-not-note-clause-names g c = λ tells. at_node (g.S.Reads.state c.args.space.now) c.args.node c.rels_damage.result 3 c.rels_damage.ensures
 
 pub returns-then-at-2-clause-names : goal.returns-then-at-2-clause-names
-returns-then-at-2-clause-names g c = λ tells. at_node (g.S.Reads.state c.args.space.now) c.args.node c.rels_damage-then-at-2.result 3 c.rels_damage-then-at-2.ensures
+returns-then-at-2-clause-names g c = λ tells. at_node (g.S.Reads.state c.args.space.now) c.args.node c.rels_damage-then-at-2.result 3
+    c.rels_damage-then-at-2.ensures
 
 -- ---- a node that is named is as it was found
 
@@ -906,3 +914,75 @@ returns-in_err-clear-clause-list g c _ = never_ok c.from_residual-in_err-clear.r
 
 pub returns-in_err-turn-clause-list : goal.returns-in_err-turn-clause-list
 returns-in_err-turn-clause-list g c _ = never_ok c.from_residual-in_err-turn.result _ _ c.from_residual-in_err-turn.ensures.1
+
+-- ---- the free list of the groups
+
+pub returns-in_err-row-clause-metas : goal.returns-in_err-row-clause-metas
+returns-in_err-row-clause-metas g c = λ tells.
+    let s = g.S.Reads.state c.args.space.now in
+    let l = g.S.Reads.state c.load.new.space in
+    let fault = of_row c.in_err-row.field-0.0 in
+    let p = err_from_is_err_and c.from_residual.result c.from_residual.ensures.1 in
+    rw (p.1, p.2) (node_fault_metas s l s c.args.node fault (node_fault s c.args.node c.in_err-row.field-0.0 (c.in_err-row.ensures.damaged tells)))
+
+pub returns-in_default-clause-metas : goal.returns-in_default-clause-metas
+returns-in_default-clause-metas g c = λ tells. metas_node (g.S.Reads.state c.args.space.now) (g.S.Reads.state c.load.new.space) c.chain_damage.result
+    c.args.node 4 c.chain_damage.ensures
+
+pub returns-then-row-clause-metas : goal.returns-then-row-clause-metas
+returns-then-row-clause-metas g c = λ tells. metas_node (g.S.Reads.state c.args.space.now) (g.S.Reads.state c.load.new.space)
+    c.chain_damage-then-row.result c.args.node 4 c.chain_damage-then-row.ensures
+
+pub returns-then-row-threshold-clause-metas : goal.returns-then-row-threshold-clause-metas
+returns-then-row-threshold-clause-metas g c = λ tells. metas_node (g.S.Reads.state c.args.space.now) (g.S.Reads.state c.load.new.space)
+    c.degree_damage.result c.args.node 7 c.degree_damage.ensures
+
+pub returns-in_err-test_chain-clause-metas : goal.returns-in_err-test_chain-clause-metas
+returns-in_err-test_chain-clause-metas g c = λ tells.
+    let s = g.S.Reads.state c.args.space.now in
+    let l = g.S.Reads.state c.load.new.space in
+    let v = g.S.Reads.state c.test_chain.new.space in
+    let same = only_loads_node s l c.args.node c.load.ensures.state in
+    let found = sym c.in-Some.is ∙ c.in_ok-row.ensures.found tells in
+    let fault = c.in_err-test_chain.field-0.0 in
+    let p = err_from_is_err_and c.from_residual-in_err-test_chain.result c.from_residual-in_err-test_chain.ensures.1 in
+    rw (p.1, p.2) (sparse_metas s v l c.args.node c.in-Some.row.degree fault
+    (c.in_err-test_chain.ensures.damaged tells (subst (λ (q : State). c.in-Some.row.first ≡ first_link q.records c.args.node) (sym same)
+    (first_is s.records c.args.node c.in-Some.row found))))
+
+pub returns-in_err-clear-clause-metas : goal.returns-in_err-clear-clause-metas
+returns-in_err-clear-clause-metas g c _ = space_has _ tt tt c.from_residual-in_err-clear.result c.in_err-clear.field-0.0 c.from_residual-in_err-clear.ensures.1
+
+pub returns-in_err-turn-clause-metas : goal.returns-in_err-turn-clause-metas
+returns-in_err-turn-clause-metas g c = λ tells.
+    let s = g.S.Reads.state c.args.space.now in
+    let now = g.S.Reads.state c.loop.space in
+    let p = err_from_is_err_and c.from_residual-in_err-turn.result c.from_residual-in_err-turn.ensures.1 in
+    rw (p.1, p.2) (metas_then s now (g.S.Reads.state c.move_one.new.space) c.in_err-turn.field-0.0 (c.loop.invariant.lists tells)
+    (c.in_err-turn.ensures.metas tells))
+
+pub returns-then-not-note-clause-metas : goal.returns-then-not-note-clause-metas
+returns-then-not-note-clause-metas g c = λ tells. metas_node (g.S.Reads.state c.args.space.now) (g.S.Reads.state c.move_one.new.space)
+    c.rels_damage.result c.args.node 3 c.rels_damage.ensures
+
+pub returns-then-at-2-clause-metas : goal.returns-then-at-2-clause-metas
+returns-then-at-2-clause-metas g c = λ tells. metas_node (g.S.Reads.state c.args.space.now) (g.S.Reads.state c.loop.space)
+    c.rels_damage-then-at-2.result c.args.node 3 c.rels_damage-then-at-2.ensures
+
+pub returns-then-at-clause-lists : goal.returns-then-at-clause-lists
+returns-then-at-clause-lists g c = λ tells. c.loop.invariant.lists tells
+
+pub returns-clause-lists : goal.returns-clause-lists
+returns-clause-lists g c = λ tells. c.loop.invariant.lists tells
+
+pub returns-in_err-row-clause-lists : goal.returns-in_err-row-clause-lists
+returns-in_err-row-clause-lists g c _ = never_ok c.from_residual.result _ _ c.from_residual.ensures.1
+
+pub returns-in_err-test_chain-clause-lists : goal.returns-in_err-test_chain-clause-lists
+returns-in_err-test_chain-clause-lists g c _ = never_ok c.from_residual-in_err-test_chain.result _ _ c.from_residual-in_err-test_chain.ensures.1
+
+pub returns-in_err-clear-clause-lists : goal.returns-in_err-clear-clause-lists
+returns-in_err-clear-clause-lists g c _ = never_ok c.from_residual-in_err-clear.result _ _ c.from_residual-in_err-clear.ensures.1
+
+pub returns-in_err-turn-clause-lists : goal.returns-in_err-turn-clause-lists
+returns-in_err-turn-clause-lists g c _ = never_ok c.from_residual-in_err-turn.result _ _ c.from_residual-in_err-turn.ensures.1

@@ -1,4 +1,6 @@
 use Rattle.std.proofs.Common.{◌≡◌, ◌+◌, ◌≤◌, ℕ, List, length}
+use Rattle.rec_bytes.specs.Format.{groups_file}
+use Rattle.id_freelist.specs.ListDamage.{HarmsNoList}
 use Rattle.group_store.specs.Densing.{CanBecomeDense, CanSpread}
 use Rattle.group_store.specs.GroupChain.{IsDense}
 use Rattle.group_store.specs.Leaving.{KeepsOtherHeads, LeavesBeside}
@@ -21,6 +23,7 @@ invariant-loop g l =
       leads : g.S.Reads.tells → LeadsAmong (g.S.Reads.state l.space).records l.fn.node l.moved.relationships.items l.moved.groups.items;
       rest : g.S.Reads.tells → HasRest s (g.S.Reads.state l.space) l.fn.node l.at l.counter;
       dense : g.S.Reads.tells → IsDense (g.S.Reads.state l.space).records l.fn.node;
+      lists : g.S.Reads.tells → HarmsNoList s (g.S.Reads.state l.space) groups_file;
       list : g.S.Reads.tells → HasCountedList (g.S.Reads.state l.space).records l.fn.node;
       beside : g.S.Reads.tells → LeavesBeside s.records (g.S.Reads.state l.space).records l.fn.node;
       heads : g.S.Reads.tells → KeepsOtherHeads s (g.S.Reads.state l.space) l.fn.node;

@@ -43,6 +43,8 @@ use Rattle.rec_bytes.proofs.Causes.{never_ok}
 use Rattle.chain_edit.proofs.Causes.{space_has}
 use Rattle.group_store.proofs.CountedLists.{list_moved, list_read, push_listed, rel_listed}
 use Rattle.group_store.proofs.Gathers.{place_range}
+use Rattle.id_freelist.proofs.ListSteps.{harms_none_then, reads_harm_none}
+use Rattle.group_store.proofs.GroupMetas.{metas_node, metas_read, moved_harms_none, push_metas, rel_metas}
 use Rattle.group_store.proofs.densing.move_one.Goals as goal
 use Rattle.group_store.proofs.densing.move_one.Goals.{After-push_counted}
 use Rattle.group_store.proofs.densing.move_one.Given.{Over}
@@ -622,3 +624,63 @@ returns-in_err-free_previous-clause-list g c _ = never_ok c.from_residual-in_err
 
 pub returns-in_err-first-clause-list : goal.returns-in_err-first-clause-list
 returns-in_err-first-clause-list g c _ = never_ok c.from_residual-in_err-first.result _ _ c.from_residual-in_err-first.ensures.1
+
+-- ---- the free list of the groups
+
+pub returns-in_err-row-clause-metas : goal.returns-in_err-row-clause-metas
+returns-in_err-row-clause-metas g c = λ tells.
+    let s = g.S.Reads.state c.args.space.now in
+    let l = g.S.Reads.state c.load.new.space in
+    let p = err_from_is_err_and c.from_residual.result c.from_residual.ensures.1 in
+    rw (p.1, p.2) (rel_metas s l s c.args.rel c.in_err-row.field-0.0 (c.in_err-row.ensures.damaged tells))
+
+pub returns-in_default-clause-metas : goal.returns-in_default-clause-metas
+returns-in_default-clause-metas g c = λ tells.
+    metas_node (g.S.Reads.state c.args.space.now) (g.S.Reads.state c.load.new.space) c.rels_damage.result c.args.node 3 c.rels_damage.ensures
+
+pub returns-in_err-own-clause-metas : goal.returns-in_err-own-clause-metas
+returns-in_err-own-clause-metas g c = λ tells.
+    let s = g.S.Reads.state c.args.space.now in
+    let l = g.S.Reads.state c.load.new.space in
+    let p = err_from_is_err_and c.from_residual-in_err-own.result c.from_residual-in_err-own.ensures.1 in
+    rw (p.1, p.2) (metas_read s l (g.S.Reads.state c.own_group.new.space) c.in_err-own.field-0.0 (only_loads s l c.args.rel c.load.ensures.state)
+    (c.in_err-own.ensures.metas tells))
+
+pub returns-in_err-free_previous-clause-metas : goal.returns-in_err-free_previous-clause-metas
+returns-in_err-free_previous-clause-metas g c _ = space_has _ tt tt c.from_residual-in_err-free_previous.result c.in_err-free_previous.field-0.0
+    c.from_residual-in_err-free_previous.ensures.1
+
+pub returns-in_err-first-clause-metas : goal.returns-in_err-first-clause-metas
+returns-in_err-first-clause-metas g c = λ tells.
+    let s = g.S.Reads.state c.args.space.now in
+    let t = g.S.Reads.state c.free_previous.new.space in
+    let p = err_from_is_err_and c.from_residual-in_err-first.result c.from_residual-in_err-first.ensures.1 in
+    rw (p.1, p.2) (push_metas s (g.S.Reads.state c.push_counted.new.space) t (head_of c.group_head-head.result)
+    (ap (λ (h : Head). h.key.file) c.group_head-head.ensures.is) c.in_err-first.field-0.0 (c.in_err-first.ensures.damaged tells))
+
+pub returns-clause-lists : goal.returns-clause-lists
+returns-clause-lists g c = λ tells.
+    let s = g.S.Reads.state c.args.space.now in
+    let l = g.S.Reads.state c.load.new.space in
+    let m = g.S.Reads.state c.own_group.new.space in
+    let t = g.S.Reads.state c.free_previous.new.space in
+    let end = g.S.Reads.state c.push_counted.new.space in
+    let head = head_of c.group_head-head.result in
+    let shape = g.met.S.Reads.onward_shape _ _ (g.met.S.Reads.further_onward _ _ _ c.in_ok-free_previous.ensures.onward c.in_ok-first.ensures.onward) in
+    harms_none_then s l end groups_file (reads_harm_none s l groups_file (only_loads s l c.args.rel c.load.ensures.state))
+    (harms_none_then l m end groups_file (c.in_ok-own.ensures.lists tells)
+    (moved_harms_none m t end c.args.node c.args.rel head (ap (λ (h : Head). h.key.file) c.group_head-head.ensures.is)
+    (subst (λ (h : Head). 20 ≤ h.field) (sym c.group_head-head.ensures.is) (place_range c.at.result).0)
+    (c.in_ok-free_previous.ensures.ok tells) (c.in_ok-first.ensures.ok tells) shape))
+
+pub returns-in_err-row-clause-lists : goal.returns-in_err-row-clause-lists
+returns-in_err-row-clause-lists g c _ = never_ok c.from_residual.result _ _ c.from_residual.ensures.1
+
+pub returns-in_err-own-clause-lists : goal.returns-in_err-own-clause-lists
+returns-in_err-own-clause-lists g c _ = never_ok c.from_residual-in_err-own.result _ _ c.from_residual-in_err-own.ensures.1
+
+pub returns-in_err-free_previous-clause-lists : goal.returns-in_err-free_previous-clause-lists
+returns-in_err-free_previous-clause-lists g c _ = never_ok c.from_residual-in_err-free_previous.result _ _ c.from_residual-in_err-free_previous.ensures.1
+
+pub returns-in_err-first-clause-lists : goal.returns-in_err-first-clause-lists
+returns-in_err-first-clause-lists g c _ = never_ok c.from_residual-in_err-first.result _ _ c.from_residual-in_err-first.ensures.1

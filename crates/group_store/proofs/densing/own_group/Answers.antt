@@ -36,6 +36,9 @@ use Rattle.rec_bytes.proofs.Causes.{never_ok}
 use Rattle.rec_bytes.specs.Key.{IsKey}
 use Rattle.group_store.specs.Naming.{NamesAt, NamesNoNode}
 use Rattle.group_store.proofs.CountedLists.{find_listed, found_counted, list_own, list_read, make_listed}
+use Rattle.id_freelist.specs.ListDamage.{HarmsNoList}
+use Rattle.id_freelist.proofs.ListSteps.{harms_none_then, reads_harm_none}
+use Rattle.group_store.proofs.GroupMetas.{find_metas, own_metas}
 use Rattle.group_store.proofs.densing.own_group.Goals as goal
 
 pub returns-in_err-row-clause-writes : goal.returns-in_err-row-clause-writes
@@ -437,3 +440,37 @@ returns-in-None-clause-list g c = λ tells.
 
 pub returns-in_err-row-clause-list : goal.returns-in_err-row-clause-list
 returns-in_err-row-clause-list g c _ = never_ok c.from_residual.result _ _ c.from_residual.ensures.1
+
+-- ---- the free list of the groups
+
+pub returns-in_err-row-clause-metas : goal.returns-in_err-row-clause-metas
+returns-in_err-row-clause-metas g c = λ tells.
+    let s = g.S.Reads.state c.args.space.now in
+    let now = g.S.Reads.state c.find_group.new.space in
+    let p = err_from_is_err_and c.from_residual.result c.from_residual.ensures.1 in
+    rw (p.1, p.2) (find_metas s now c.args.node c.in_err-row.field-0.0 (c.in_err-row.ensures.damaged tells))
+
+pub returns-in-None-clause-metas : goal.returns-in-None-clause-metas
+returns-in-None-clause-metas g c = λ tells.
+    let s = g.S.Reads.state c.args.space.now in
+    let now = g.S.Reads.state c.find_group.new.space in
+    own_metas s now (g.S.Reads.state c.make_own.new.space) c.args.node c.make_own.result (same_read _ s now c.find_group.ensures.at_most)
+    (c.make_own.ensures.damaged tells) c.make_own.ensures.unwritten
+
+pub returns-in-Some-clause-lists : goal.returns-in-Some-clause-lists
+returns-in-Some-clause-lists g c = λ tells.
+    let s = g.S.Reads.state c.args.space.now in
+    let now = g.S.Reads.state c.find_group.new.space in
+    reads_harm_none s now groups_file (same_read _ s now c.find_group.ensures.at_most)
+
+pub returns-in-None-clause-lists : goal.returns-in-None-clause-lists
+returns-in-None-clause-lists g c = λ tells.
+    let s = g.S.Reads.state c.args.space.now in
+    let now = g.S.Reads.state c.find_group.new.space in
+    let end = g.S.Reads.state c.make_own.new.space in
+    if_done c.make_own.result (HarmsNoList now end groups_file) (HarmsNoList s end groups_file)
+    (λ harmless. harms_none_then s now end groups_file (reads_harm_none s now groups_file (same_read _ s now c.find_group.ensures.at_most)) harmless)
+    (c.make_own.ensures.lists tells)
+
+pub returns-in_err-row-clause-lists : goal.returns-in_err-row-clause-lists
+returns-in_err-row-clause-lists g c _ = never_ok c.from_residual.result _ _ c.from_residual.ensures.1

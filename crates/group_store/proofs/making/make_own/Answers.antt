@@ -26,6 +26,7 @@ use Rattle.group_store.proofs.Causes.{cause_passed, damage_cause}
 use Rattle.rec_bytes.proofs.Causes.{never_ok}
 use Rattle.chain_edit.proofs.Causes.{space_has}
 use Rattle.group_store.proofs.CountedLists.{list_made}
+use Rattle.group_store.proofs.GroupMetas.{made_harms_none}
 use Rattle.group_store.proofs.making.make_own.Goals as goal
 
 pub returns-in_err-first-clause-damaged : goal.returns-in_err-first-clause-damaged
@@ -383,3 +384,25 @@ returns-in_err-test_link-clause-list g c _ = never_ok c.from_residual-in_err-tes
 
 pub returns-in_err-lead-clause-list : goal.returns-in_err-lead-clause-list
 returns-in_err-lead-clause-list g c _ = never_ok c.from_residual-in_err-lead.result _ _ c.from_residual-in_err-lead.ensures.1
+
+-- ---- the free list of the groups
+
+pub returns-clause-lists : goal.returns-clause-lists
+returns-clause-lists g c = λ tells.
+    let s = g.S.Reads.state c.args.space.now in
+    let now = g.S.Reads.state c.first_group.new.space in
+    let end = g.S.Reads.state c.lead.new.space in
+    let read : now ≡ after_get s = subst (λ (first : Option ℕ). IfSome first (λ _. now ≡ after_get s)) c.in-Some.is (c.in_ok-first.ensures.read tells) in
+    let first = subst (IsFirst s.records c.args.node) c.in-Some.is (c.in_ok-first.ensures.first tells) in
+    made_harms_none s now (g.S.Reads.state c.take.new.space) end c.args.node c.args.label c.in-Some.first c.in-Ok.id c.empty_group.result
+    read (c.in-Ok.ensures.ok tells) c.in-Ok.ensures.is (c.in-Ok.ensures.undamaged tells) (c.in-Ok.ensures.fresh tells) c.in-Ok.ensures.key.id
+    c.in-Ok.ensures.small first.1 c.empty_group.ensures (c.in_ok-lead.ensures.ok tells) (omega (arith, c.ranges.node.fits)) (omega (arith, c.ranges.label.fits))
+
+pub returns-in_err-first-clause-lists : goal.returns-in_err-first-clause-lists
+returns-in_err-first-clause-lists g c _ = never_ok c.from_residual.result _ _ c.from_residual.ensures.1
+
+pub returns-in_err-test_link-clause-lists : goal.returns-in_err-test_link-clause-lists
+returns-in_err-test_link-clause-lists g c _ = never_ok c.from_residual-in_err-test_link.result _ _ c.from_residual-in_err-test_link.ensures.1
+
+pub returns-in_err-lead-clause-lists : goal.returns-in_err-lead-clause-lists
+returns-in_err-lead-clause-lists g c _ = never_ok c.from_residual-in_err-lead.result _ _ c.from_residual-in_err-lead.ensures.1

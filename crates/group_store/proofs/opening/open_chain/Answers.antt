@@ -12,7 +12,7 @@ use Rattle.node_store.specs.NodeRecord.{node_key}
 use Rattle.group_store.specs.Opening.{CanOpen, IsOpenFault, OpensChain, WritesOpened, moved_writes}
 use Rattle.group_store.proofs.BrokenGroups.{if_err, node_fault_breaks, only_breaks, open_read}
 use Rattle.group_store.proofs.ChainHeads.{same_twice}
-use Rattle.group_store.specs.Naming.{NamesAt, NamesFound, NamesNoNode}
+use Rattle.group_store.specs.Naming.{NamesAt, NamesFound, NamesMeta, NamesNoNode}
 use Rattle.group_store.proofs.Named.{named_beside, named_read, node_fault_named}
 use Rattle.group_store.proofs.Openings.{handed}
 use Rattle.group_store.proofs.OwnGroups.{if_ok}
@@ -33,6 +33,9 @@ use Rattle.group_store.proofs.MadeHeads.{others_of, others_then}
 use Rattle.rec_bytes.proofs.Causes.{never_ok}
 use Rattle.rec_bytes.specs.declared.key.Key.{Key}
 use Rattle.group_store.proofs.CountedLists.{found_never, found_read, found_same, found_unwritten}
+use Rattle.id_freelist.specs.ListDamage.{HarmsNoList}
+use Rattle.id_freelist.proofs.ListSteps.{harms_none_then, reads_harm_none}
+use Rattle.group_store.proofs.GroupMetas.{metas_read, metas_then, node_fault_metas}
 use Rattle.group_store.proofs.opening.open_chain.Goals as goal
 
 pub returns-then-branch-clause-opened : goal.returns-then-branch-clause-opened
@@ -525,3 +528,66 @@ returns-in_err-is_dense-clause-bare g c _ = never_ok c.from_residual.result _ _ 
 
 pub returns-in_err-make_dense-clause-bare : goal.returns-in_err-make_dense-clause-bare
 returns-in_err-make_dense-clause-bare g c _ = never_ok c.from_residual-in_err-make_dense.result _ _ c.from_residual-in_err-make_dense.ensures.1
+
+-- ---- the free list of the groups
+
+pub returns-in_err-is_dense-clause-metas : goal.returns-in_err-is_dense-clause-metas
+returns-in_err-is_dense-clause-metas g c = λ tells.
+    let s = g.S.Reads.state c.args.space.now in
+    let p = err_from_is_err_and c.from_residual.result c.from_residual.ensures.1 in
+    rw (p.1, p.2) (node_fault_metas s (g.S.Reads.state c.is_dense.new.space) s c.args.node c.in_err-is_dense.field-0.0
+    (c.in_err-is_dense.ensures.damaged tells))
+
+pub returns-then-branch-clause-metas : goal.returns-then-branch-clause-metas
+returns-then-branch-clause-metas g c = λ tells.
+    let s = g.S.Reads.state c.args.space.now in
+    let z = g.S.Reads.state c.is_dense.new.space in
+    let t = g.S.Reads.state c.open_group.new.space in
+    if_err c.open_group.result (NamesMeta z t) (NamesMeta s t) (λ fault. metas_read s z t fault c.in_ok-is_dense.ensures.state)
+    (c.open_group.ensures.metas tells)
+
+pub returns-in_err-make_dense-clause-metas : goal.returns-in_err-make_dense-clause-metas
+returns-in_err-make_dense-clause-metas g c = λ tells.
+    let s = g.S.Reads.state c.args.space.now in
+    let z = g.S.Reads.state c.is_dense.new.space in
+    let p = err_from_is_err_and c.from_residual-in_err-make_dense.result c.from_residual-in_err-make_dense.ensures.1 in
+    rw (p.1, p.2) (metas_read s z (g.S.Reads.state c.make_dense.new.space) c.in_err-make_dense.field-0.0 c.in_ok-is_dense.ensures.state
+    (c.in_err-make_dense.ensures.metas tells))
+
+pub returns-clause-metas : goal.returns-clause-metas
+returns-clause-metas g c = λ tells.
+    let s = g.S.Reads.state c.args.space.now in
+    let z = g.S.Reads.state c.is_dense.new.space in
+    let u = g.S.Reads.state c.make_dense.new.space in
+    let t = g.S.Reads.state c.open_group-2.new.space in
+    if_err c.open_group-2.result (NamesMeta u t) (NamesMeta s t)
+    (λ fault told. metas_read s z t fault c.in_ok-is_dense.ensures.state (metas_then z u t fault (c.in_ok-make_dense.ensures.lists tells) told))
+    (c.open_group-2.ensures.metas tells)
+
+pub returns-then-branch-clause-lists : goal.returns-then-branch-clause-lists
+returns-then-branch-clause-lists g c = λ tells.
+    let s = g.S.Reads.state c.args.space.now in
+    let z = g.S.Reads.state c.is_dense.new.space in
+    let t = g.S.Reads.state c.open_group.new.space in
+    if_done c.open_group.result (HarmsNoList z t groups_file) (HarmsNoList s t groups_file)
+    (λ harmless. harms_none_then s z t groups_file (reads_harm_none s z groups_file c.in_ok-is_dense.ensures.state) harmless) (c.open_group.ensures.lists tells)
+
+pub returns-then-degree-threshold-clause-lists : goal.returns-then-degree-threshold-clause-lists
+returns-then-degree-threshold-clause-lists g c = λ tells.
+    reads_harm_none (g.S.Reads.state c.args.space.now) (g.S.Reads.state c.is_dense.new.space) groups_file c.in_ok-is_dense.ensures.state
+
+pub returns-clause-lists : goal.returns-clause-lists
+returns-clause-lists g c = λ tells.
+    let s = g.S.Reads.state c.args.space.now in
+    let z = g.S.Reads.state c.is_dense.new.space in
+    let u = g.S.Reads.state c.make_dense.new.space in
+    let t = g.S.Reads.state c.open_group-2.new.space in
+    if_done c.open_group-2.result (HarmsNoList u t groups_file) (HarmsNoList s t groups_file)
+    (λ harmless. harms_none_then s z t groups_file (reads_harm_none s z groups_file c.in_ok-is_dense.ensures.state)
+    (harms_none_then z u t groups_file (c.in_ok-make_dense.ensures.lists tells) harmless)) (c.open_group-2.ensures.lists tells)
+
+pub returns-in_err-is_dense-clause-lists : goal.returns-in_err-is_dense-clause-lists
+returns-in_err-is_dense-clause-lists g c _ = never_ok c.from_residual.result _ _ c.from_residual.ensures.1
+
+pub returns-in_err-make_dense-clause-lists : goal.returns-in_err-make_dense-clause-lists
+returns-in_err-make_dense-clause-lists g c _ = never_ok c.from_residual-in_err-make_dense.result _ _ c.from_residual-in_err-make_dense.ensures.1

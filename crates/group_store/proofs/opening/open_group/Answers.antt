@@ -19,6 +19,9 @@ use Rattle.store_rules.specs.Breaking.{IsHeadOf}
 use Rattle.group_store.proofs.KeptHeads.{heads_then}
 use Rattle.group_store.proofs.MadeHeads.{owned_head}
 use Rattle.rec_bytes.proofs.Causes.{never_ok}
+use Rattle.rec_bytes.specs.Format.{groups_file}
+use Rattle.id_freelist.proofs.ListSteps.{harms_none_then}
+use Rattle.group_store.proofs.GroupMetas.{count_metas}
 use Rattle.group_store.proofs.opening.open_group.Goals as goal
 
 pub returns-in_err-own-clause-sound : goal.returns-in_err-own-clause-sound
@@ -226,3 +229,27 @@ returns-in_err-own-clause-listed g c = λ tells dense h.
 pub returns-in_err-count_group-clause-listed : goal.returns-in_err-count_group-clause-listed
 returns-in_err-count_group-clause-listed g c = λ tells dense h.
     absurd (false≢true (c.in_err-count_group.ensures.counted (c.in_ok-own.ensures.list tells h).1))
+
+-- ---- the free list of the groups
+
+pub returns-in_err-own-clause-metas : goal.returns-in_err-own-clause-metas
+returns-in_err-own-clause-metas g c = λ tells.
+    let p = err_from_is_err_and c.from_residual.result c.from_residual.ensures.1 in
+    rw (p.1, p.2) (c.in_err-own.ensures.metas tells)
+
+pub returns-in_err-count_group-clause-metas : goal.returns-in_err-count_group-clause-metas
+returns-in_err-count_group-clause-metas g c = λ tells.
+    let p = err_from_is_err_and c.from_residual-in_err-count_group.result c.from_residual-in_err-count_group.ensures.1 in
+    rw (p.1, p.2) (count_metas (g.S.Reads.state c.args.space.now) (g.S.Reads.state c.count_group.new.space) c.args.node c.in_ok-own.own.row.id
+    c.in_err-count_group.field-0.0 (c.in_err-count_group.ensures.names tells))
+
+pub returns-clause-lists : goal.returns-clause-lists
+returns-clause-lists g c = λ tells.
+    harms_none_then (g.S.Reads.state c.args.space.now) (g.S.Reads.state c.own_group.new.space) (g.S.Reads.state c.count_group.new.space) groups_file
+    (c.in_ok-own.ensures.lists tells) (c.in_ok-count_group.ensures.lists tells (c.in_ok-own.ensures.owns tells).used)
+
+pub returns-in_err-own-clause-lists : goal.returns-in_err-own-clause-lists
+returns-in_err-own-clause-lists g c _ = never_ok c.from_residual.result _ _ c.from_residual.ensures.1
+
+pub returns-in_err-count_group-clause-lists : goal.returns-in_err-count_group-clause-lists
+returns-in_err-count_group-clause-lists g c _ = never_ok c.from_residual-in_err-count_group.result _ _ c.from_residual-in_err-count_group.ensures.1

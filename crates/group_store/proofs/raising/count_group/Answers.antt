@@ -8,6 +8,7 @@ use Rattle.group_store.proofs.Causes.{cause_passed, later_on, space_cause_passed
 use Rattle.group_store.proofs.LeftBeside.{beside_none, beside_raised, counted_none, counted_raised}
 use Rattle.rec_bytes.proofs.Causes.{never_ok}
 use Rattle.chain_edit.proofs.Causes.{same_has, space_has}
+use Rattle.group_store.proofs.GroupMetas.{raised_harms_none}
 use Rattle.group_store.proofs.raising.count_group.Goals as goal
 
 pub returns-then-row-clause-raised : goal.returns-then-row-clause-raised
@@ -159,3 +160,25 @@ pub returns-in_err-set_counts-clause-onward : goal.returns-in_err-set_counts-cla
 returns-in_err-set_counts-clause-onward g c =
     g.met.S.Reads.further_onward _ _ _ (g.met.S.Reads.further_onward _ _ _ c.in_ok-rec.ensures.onward c.in_ok-counts.ensures.onward)
     c.in_err-set_counts.ensures.onward
+
+-- ---- the free list of the groups
+
+pub returns-then-row-clause-lists : goal.returns-then-row-clause-lists
+returns-then-row-clause-lists g c = λ tells used d why. why
+
+pub returns-clause-lists : goal.returns-clause-lists
+returns-clause-lists g c = λ tells used.
+    let s = g.S.Reads.state c.args.space.now in
+    let y = g.S.Reads.state c.get.new.self in
+    let z = g.S.Reads.state c.count_chains.new.space in
+    raised_harms_none s z (g.S.Reads.state c.set_counts.new.space) c.args.row.now.id c.in_ok-counts.counts
+    (same_twice s y z (got_same s y c.in_ok-rec.ensures.state) c.in_ok-counts.ensures.state) (c.in_ok-set_counts.ensures.ok tells) used
+
+pub returns-in_err-rec-clause-lists : goal.returns-in_err-rec-clause-lists
+returns-in_err-rec-clause-lists g c _ _ = never_ok c.from_residual.result _ _ c.from_residual.ensures.1
+
+pub returns-in_err-counts-clause-lists : goal.returns-in_err-counts-clause-lists
+returns-in_err-counts-clause-lists g c _ _ = never_ok c.from_residual-in_err-counts.result _ _ c.from_residual-in_err-counts.ensures.1
+
+pub returns-in_err-set_counts-clause-lists : goal.returns-in_err-set_counts-clause-lists
+returns-in_err-set_counts-clause-lists g c _ _ = never_ok c.from_residual-in_err-set_counts.result _ _ c.from_residual-in_err-set_counts.ensures.1
