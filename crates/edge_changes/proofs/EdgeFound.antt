@@ -34,13 +34,14 @@ use Rattle.chain_edit.specs.Pushing.{IsPushFault, first_damage, pushed}
 use Rattle.chain_edit.proofs.LinkLaws.{key_cases}
 use Rattle.group_store.specs.Counting.{one_more, tallied}
 use Rattle.group_store.specs.Leaving.{LeavesBeside}
-use Rattle.group_store.specs.Naming.{IsNamedAt, IsOfGroups, IsOfMarks, NamesAt, NamesFound}
+use Rattle.group_store.specs.Naming.{IsNamedAt, IsOfMarks, NamesAt, NamesFound, NamesMeta}
 use Rattle.change_parts.specs.ChangeFault.{of_fault}
 use Rattle.change_parts.specs.Damage.{BlamesBroken, BlamesLinking, IfBlames, IsAsFound, IsBroken, IsLinkingDamage, IsOfLists, KeepsButNames}
 use Rattle.change_parts.specs.declared.change_fault.ChangeFault.{ChangeFault}
 use Rattle.change_parts.proofs.Adding.{lists_before, lists_broken}
 use Rattle.change_parts.proofs.Broken.{blames_both, blames_more}
-use Rattle.edge_changes.specs.EdgeAdding.{BlamesAdded, BlamesChains, HarmsNoRels, IsChainDamage, IsOfChains, IsOfNodes, KeepsButChains}
+use Rattle.edge_changes.specs.EdgeAdding.{BlamesAdded, BlamesChains, HarmsNoFiles, IsChainDamage, IsGroupOrFull, IsOfChains, IsOfNodes}
+use Rattle.edge_changes.specs.EdgeAdding.{KeepsButChains}
 use Rattle.edge_changes.specs.EdgeEnds.{AtEach, AtSome, HasHead, joined, source_of, target_of}
 use Rattle.edge_changes.specs.EdgeJoining.{BlamesEndJoined, IsBareEnd, IsJoinDamage, IsOfBare}
 use Rattle.edge_changes.specs.EdgeOpening.{KeepsBare}
@@ -48,7 +49,7 @@ use Rattle.edge_changes.specs.declared.edge_end.EdgeEnd.{EdgeEnd}
 use Rattle.edge_changes.specs.declared.edge_end.Ends.{Ends}
 use Rattle.edge_changes.specs.declared.edge_end.Ends.TheVariants.{Loop, Two}
 use Rattle.edge_changes.proofs.EdgeSteps.{record_joined}
-use Rattle.edge_changes.proofs.RelDamages.{rels_beyond, rels_broken}
+use Rattle.edge_changes.proofs.FileDamages.{files_beyond, files_broken}
 
 -- ---- one step after another
 
@@ -77,7 +78,7 @@ KeepsMarks s t = (damage : Damage) → IsOfMarks damage → IsAsFound s t damage
 abbrev pub KeepsThese : State → State → (Damage → Type 0) → Type 0
 KeepsThese s t these = (damage : Damage) → IsOfMarks damage ⊎ these damage → IsAsFound s t damage
 
-pub chain_then : (s u t : State) (these : Damage → Type 0) → HarmsNoRels s u → KeepsThese s u these → (damage : Damage) → IsChainDamage u t these damage
+pub chain_then : (s u t : State) (these : Damage → Type 0) → HarmsNoFiles s u → KeepsThese s u these → (damage : Damage) → IsChainDamage u t these damage
     → IsChainDamage s t these damage
 chain_then s u t these harmless keeps damage (inl rel) = inl (harmless damage rel)
 chain_then s u t these harmless keeps damage (inr (inl found)) = inr (inl (found.0, found.1 ∙ keeps damage found.0))
@@ -182,17 +183,18 @@ bare_beside s t a b ne beside = other_beside s t a b ne beside (record { file = 
 
 -- a record that is named where no head is found or made
 named_chain : (s t : State) (node : ℕ) → LeavesBeside s.records t.records node → (damage : Damage) → IsNamedAt s node damage
-    → NamesFound s t (faults.Damaged damage) → IsChainDamage s t (IsOfNodes node node) damage
-named_chain s t node beside damage (inl (inl group)) found = inr (inr group)
-named_chain s t node beside damage (inl (inr at)) found = inr (inl (inr (at.0, inl at.1), found at.0))
-named_chain s t node beside damage (inr (inl mark)) found = inr (inl (inl mark, marks_beside s t node beside damage mark))
-named_chain s t node beside damage (inr (inr unread)) found = inl (inl unread)
+    → NamesFound s t (faults.Damaged damage) → NamesMeta s t (faults.Damaged damage) → IsChainDamage s t (IsOfNodes node node) damage
+named_chain s t node beside damage (inl (inl (inl group))) found metas = inr (inr (inl group))
+named_chain s t node beside damage (inl (inl (inr of))) found metas = ⊎_elim (λ list. inl (inr (inr list))) (λ full. inr (inr (inr full))) (metas of)
+named_chain s t node beside damage (inl (inr at)) found metas = inr (inl (inr (at.0, inl at.1), found at.0))
+named_chain s t node beside damage (inr (inl mark)) found metas = inr (inl (inl mark, marks_beside s t node beside damage mark))
+named_chain s t node beside damage (inr (inr unread)) found metas = inl (inl unread)
 
-pub open_blames : (s t : State) (node : ℕ) (fault : Fault) → NamesAt s node fault → NamesFound s t fault
+pub open_blames : (s t : State) (node : ℕ) (fault : Fault) → NamesAt s node fault → NamesFound s t fault → NamesMeta s t fault
     → IfSome (damage_of fault) (λ _. LeavesBeside s.records t.records node) → BlamesChains s t node node (of_fault fault)
-open_blames s t node faults.Memory names found beside = tt
-open_blames s t node faults.Disk names found beside = tt
-open_blames s t node (faults.Damaged damage) names found beside = named_chain s t node beside damage names found
+open_blames s t node faults.Memory names found metas beside = tt
+open_blames s t node faults.Disk names found metas beside = tt
+open_blames s t node (faults.Damaged damage) names found metas beside = named_chain s t node beside damage names found metas
 
 -- an identifier is taken, and the record of a relationship is written
 pub found_placed : (s t : State) (id from to : ℕ)
@@ -211,7 +213,7 @@ found_placed s t id from to changes damage = by (changes.each (key_in damage.fil
 pub taken_found : (s t : State) → SameButReads s t → (damage : Damage)
     → IsOfMarks damage ⊎ IsListDamage s.records s.shape format.relationships_file damage → IsChainDamage s t (λ _. ⊥) damage
 taken_found s t same damage told = ⊎_elim
-    (λ of. inr (inl (inl of, ap (λ (z : State). z.records (key_in damage.file damage.id)) same))) (λ list. inl (inr list)) told
+    (λ of. inr (inl (inl of, ap (λ (z : State). z.records (key_in damage.file damage.id)) same))) (λ list. inl (inr (inl list))) told
 
 -- no node is written then
 pub placed_nodes : (s t : State) (id : ℕ) → ChangesOnly s t (key_in format.relationships_file id ∷ meta_key_of format.relationships_file ∷ []) → (x : ℕ)
@@ -281,11 +283,11 @@ push_blames s t end owns faults.Disk told same = tt
 push_blames s t end owns (faults.Damaged damage) told same = by damage told (ap (λ (z : State). z.records (key_in damage.file damage.id)) same)
   where
     at : HasHead s.records end → IsAsFound s t (first_damage end.head.key)
-        → (IsBareEnd (first_damage end.head.key) end × IsAsFound s t (first_damage end.head.key)) ⊎ IsOfGroups (first_damage end.head.key)
+        → (IsBareEnd (first_damage end.head.key) end × IsAsFound s t (first_damage end.head.key)) ⊎ (end.head.key.file ≡ format.groups_file)
     at (inl o) still =
         let key = ap (λ (h : Head). h.key) o.is in
         inl (record { bare = key; file = ap (λ (k : Key). k.file) key; id = ap (λ (k : Key). k.id) key }, still)
-    at (inr o) still = inr (inl (ap (λ (k : Key). k.file) o.key))
+    at (inr o) still = inr (ap (λ (k : Key). k.file) o.key)
 
     by : (d : Damage) → IsLinkDamage s (first_of s.records (head_of end.head)) (first_damage end.head.key) d → IsAsFound s t d → IsJoinDamage s t (Loop end) d
     by d (LeadsNowhere some above) still = inr (at owns still)
@@ -339,13 +341,13 @@ bare_key damage end is = ap (λ f. key_in f damage.id) is.file ∙ ap (key_in fo
 pub placed_then : (s u t : State) (ends : Ends EdgeEnd) → HarmsNoList s u format.relationships_file
     → ((x : ℕ) → u.records (key_in format.nodes_file x) ≡ s.records (key_in format.nodes_file x)) → (damage : Damage)
     → IsJoinDamage u t ends damage → IsChainDamage s t (IsOfBare ends) damage
-placed_then s u t ends harmless nodes damage (inl high) = inl (inr (subst (IsListDamage s.records s.shape format.relationships_file) (sym high.0)
-    (harmless mark_damage (OutOfRange (λ r. let low = r.mark in let above = high.1 in omega arith)))))
+placed_then s u t ends harmless nodes damage (inl high) = inl (inr (inl (subst (IsListDamage s.records s.shape format.relationships_file) (sym high.0)
+    (harmless mark_damage (OutOfRange (λ r. let low = r.mark in let above = high.1 in omega arith))))))
 placed_then s u t ends harmless nodes damage (inr (inl at)) =
     let was : IsAsFound s u damage = at_some (λ (end : EdgeEnd). Unit {0}) (IsBareEnd damage) ends
     (λ end _ is. let key = bare_key damage end is in ap u.records key ∙ nodes end.node ∙ ap s.records (sym key)) (any_end ends) at.0 in
     inr (inl (inr at.0, at.1 ∙ was))
-placed_then s u t ends harmless nodes damage (inr (inr group)) = inr (inr group)
+placed_then s u t ends harmless nodes damage (inr (inr group)) = inr (inr (inl group))
 
 -- and after the heads of the ends were found or made
 pub bare_kept : (s t : State) (ends : Ends EdgeEnd) → KeepsMarks s t → AtEach (KeepsBare s t) ends → KeepsThese s t (IsOfBare ends)
@@ -416,13 +418,13 @@ read_names s n u same keeps key other no_meta = keeps key other no_meta ∙ ap (
 
 pub broken_added : (s t : State) (fault : ChangeFault) → BlamesBroken s fault → BlamesAdded s t fault
 broken_added s t fault told =
-    blames_more (IsBroken s) (λ damage. IsBroken s damage ⊎ (IsLinkingDamage t damage × (IsAsFound s t damage ⊎ IsOfGroups damage)))
+    blames_more (IsBroken s) (λ damage. IsBroken s damage ⊎ (IsLinkingDamage t damage × (IsAsFound s t damage ⊎ IsGroupOrFull t damage)))
     (λ damage broken. inl broken) fault told
 
 -- in the chains
 chain_added : (s u t : State) (from to : ℕ) → u.shape ≡ s.shape → KeepsButNames s u → (damage : Damage) → IsLinkingDamage t damage
-    → IsChainDamage u t (IsOfNodes from to) damage → IsBroken s damage ⊎ (IsLinkingDamage t damage × (IsAsFound s t damage ⊎ IsOfGroups damage))
-chain_added s u t from to shape keeps damage told (inl rel) = inl (rels_broken s damage (rels_beyond s u shape keeps damage rel))
+    → IsChainDamage u t (IsOfNodes from to) damage → IsBroken s damage ⊎ (IsLinkingDamage t damage × (IsAsFound s t damage ⊎ IsGroupOrFull t damage))
+chain_added s u t from to shape keeps damage told (inl rel) = inl (files_broken s damage (files_beyond s u shape keeps damage rel))
 chain_added s u t from to shape keeps damage told (inr (inl found)) = inr (told, inl (found.1 ∙ these_beyond s u from to keeps damage found.0))
 chain_added s u t from to shape keeps damage told (inr (inr group)) = inr (told, inr group)
 
@@ -430,7 +432,7 @@ pub chains_added : (s u t : State) (from to : ℕ) → u.shape ≡ s.shape → K
     → BlamesChains u t from to fault → BlamesAdded s t fault
 chains_added s u t from to shape keeps fault told found =
     blames_more (λ damage. IsLinkingDamage t damage × IsChainDamage u t (IsOfNodes from to) damage)
-    (λ damage. IsBroken s damage ⊎ (IsLinkingDamage t damage × (IsAsFound s t damage ⊎ IsOfGroups damage)))
+    (λ damage. IsBroken s damage ⊎ (IsLinkingDamage t damage × (IsAsFound s t damage ⊎ IsGroupOrFull t damage)))
     (λ damage both. chain_added s u t from to shape keeps damage both.0 both.1) fault
     (blames_both (IsLinkingDamage t) (IsChainDamage u t (IsOfNodes from to)) fault told found)
 

@@ -19,8 +19,8 @@ pub mod EdgeTaken
 pub mod EndLaws
 pub mod EndWrites
 pub mod EndsFound
+pub mod FileDamages
 pub mod JoinBlames
 pub mod JoinWrites
 pub mod KeptFirst
 pub mod OpenWrites
-pub mod RelDamages

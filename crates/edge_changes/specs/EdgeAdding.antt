@@ -8,7 +8,8 @@ use Rattle.store_rules.specs.Views.{Records, key_in}
 use Rattle.id_freelist.specs.ListDamage.{IsListDamage}
 use Rattle.group_store.specs.Densing.{IsSparse}
 use Rattle.group_store.specs.GroupChain.{IsDense}
-use Rattle.group_store.specs.Naming.{IsOfGroups, IsOfMarks, IsUnread}
+use Rattle.group_store.specs.Naming.{IsOfMarks, IsUnread}
+use Rattle.group_store.specs.Opening.{IsFullDamage}
 use Rattle.change_parts.specs.Damage.{IfBlames, IsAsFound, IsBroken, IsLinkingDamage}
 use Rattle.edge_changes.specs.EdgeEnds.{AreApart, source_of, target_of}
 use Rattle.change_parts.specs.Degrees.{HasDegree}
@@ -78,28 +79,35 @@ abbrev pub IsOfNodes : ℕ → ℕ → Damage → Type 0
 IsOfNodes from to damage =
     (damage.file ≡ format.nodes_file) × ((damage.id ≡ from) ⊎ (damage.id ≡ to))
 
--- a relationship can't be read, or something is wrong with the free list of the relationships
-abbrev pub IsRelDamage : State → Damage → Type 0
-IsRelDamage s damage = IsUnread s damage
-    ⊎ IsListDamage s.records s.shape format.relationships_file damage
+-- a relationship can't be read, or something is wrong with the free list of the relationships or
+-- of the groups
+abbrev pub IsFileDamage : State → Damage → Type 0
+IsFileDamage s damage = IsUnread s damage
+    ⊎ (IsListDamage s.records s.shape format.relationships_file damage
+    ⊎ IsListDamage s.records s.shape format.groups_file damage)
 
--- what was wrong with the relationships before is all that is
-abbrev pub HarmsNoRels : State → State → Type 0
-HarmsNoRels s t = (damage : Damage) → IsRelDamage t damage → IsRelDamage s damage
+-- what was wrong with them before is all that is
+abbrev pub HarmsNoFiles : State → State → Type 0
+HarmsNoFiles s t = (damage : Damage) → IsFileDamage t damage → IsFileDamage s damage
 
--- What is called damaged where an edge comes into its chains: what was wrong with the relationships
--- before; one of these, or the meta record of the nodes or of the relationships, which is as it was
--- found; or a group, or the meta record of the groups.
+-- it is a group, or the file of groups is full
+abbrev pub IsGroupOrFull : State → Damage → Type 0
+IsGroupOrFull t damage = (damage.file ≡ format.groups_file) ⊎ IsFullDamage t damage
+
+-- What is called damaged where an edge comes into its chains: what was wrong with the files before;
+-- one of these, or the meta record of the nodes or of the relationships, which is as it was found;
+-- or a group, or the meta record of the groups where their file is full.
 abbrev pub IsChainDamage : State → State → (Damage → Type 0) → Damage → Type 0
-IsChainDamage s t these damage = IsRelDamage s damage
-    ⊎ (((IsOfMarks damage ⊎ these damage) × IsAsFound s t damage) ⊎ IsOfGroups damage)
+IsChainDamage s t these damage = IsFileDamage s damage
+    ⊎ (((IsOfMarks damage ⊎ these damage) × IsAsFound s t damage) ⊎ IsGroupOrFull t damage)
 
 abbrev pub BlamesChains : State → State → ℕ → ℕ → ChangeFault → Type 0
 BlamesChains s t from to fault = IfBlames (IsChainDamage s t (IsOfNodes from to)) fault
 
 -- A record that is blamed where an edge is added breaks a rule in the space as it was. Or it does
--- so in the space as it is left, and is as it was found, but for groups and their meta record.
+-- so in the space as it is left, and is as it was found, but for groups. Or the file of groups is
+-- full.
 abbrev pub BlamesAdded : State → State → ChangeFault → Type 0
 BlamesAdded s t fault =
     IfBlames (λ damage. IsBroken s damage
-    ⊎ (IsLinkingDamage t damage × (IsAsFound s t damage ⊎ IsOfGroups damage))) fault
+    ⊎ (IsLinkingDamage t damage × (IsAsFound s t damage ⊎ IsGroupOrFull t damage))) fault

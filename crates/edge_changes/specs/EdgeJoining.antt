@@ -21,7 +21,6 @@ use Rattle.chain_edit.specs.Links.{IsRightLink}
 use Rattle.group_store.specs.Opening.{IsCountedHead}
 use Rattle.change_parts.specs.Damage.{IfBlames, IsAsFound}
 use Rattle.change_parts.specs.declared.change_fault.ChangeFault.{ChangeFault}
-use Rattle.group_store.specs.Naming.{IsOfGroups}
 use Rattle.edge_changes.specs.EdgeEnds.{AtEach, AtSome, joined, source_of, target_of}
 use Rattle.edge_changes.specs.declared.edge_end.EdgeEnd.{EdgeEnd}
 use Rattle.edge_changes.specs.declared.edge_end.Ends.{Ends}
@@ -119,10 +118,10 @@ pub record IsBareEnd (damage : Damage) (end : EdgeEnd) : Type 0 where
 abbrev pub IsOfBare : Ends EdgeEnd → Damage → Type 0
 IsOfBare ends damage = AtSome (IsBareEnd damage) ends
 
--- a record that is blamed is that meta record, such a node that is as it was found, or of groups
+-- a record that is blamed is that meta record, such a node that is as it was found, or a group
 abbrev pub IsJoinDamage : State → State → Ends EdgeEnd → Damage → Type 0
 IsJoinDamage s t ends damage = IsHighMark s damage
-    ⊎ ((IsOfBare ends damage × IsAsFound s t damage) ⊎ IsOfGroups damage)
+    ⊎ ((IsOfBare ends damage × IsAsFound s t damage) ⊎ (damage.file ≡ format.groups_file))
 
 abbrev pub BlamesJoined : State → State → Ends EdgeEnd → ChangeFault → Type 0
 BlamesJoined s t ends fault = IfBlames (IsJoinDamage s t ends) fault

@@ -1,20 +1,21 @@
 //! The heads of the chains that a new edge comes into, at both of its ends.
 
 ghost use Rattle.std.specs.Prelude.{◌≡◌, ◌≤◌, ◌+◌, ℕ, List, IfErr, IfOk, OnOk};
+ghost use Rattle.id_freelist.specs.ListDamage.{HarmsNoList};
 ghost use Rattle.chain_edit.specs.Heads.{head_of};
 ghost use Rattle.group_store.specs.Leaving.{KeepsOtherHeads, LeavesBeside};
 ghost use Rattle.group_store.specs.Opening.{CanOpen, HasGroupRoom, OpensChain, WritesOpened};
 ghost use Rattle.group_store.specs.Opening.{moved_writes};
 ghost use Rattle.change_parts.specs.ChangeFault.{HasChangeCause, IsFailure, IsOutside};
 ghost use Rattle.change_parts.specs.Damage.{BlamesLinking};
-ghost use Rattle.edge_changes.specs.EdgeAdding.{BlamesChains, HarmsNoRels, KeepsButChains};
+ghost use Rattle.edge_changes.specs.EdgeAdding.{BlamesChains, HarmsNoFiles, KeepsButChains};
 ghost use Rattle.edge_changes.specs.EdgeAdding.{IsNodeEnd, IsUsedEnd, IsUsedNode};
 ghost use Rattle.edge_changes.specs.EdgeEnds.{AreEdgeEnds, AtEach, HasHead, IsEdgeEnd, source_of, target_of};
 ghost use Rattle.edge_changes.specs.EdgeOpening.{CanLink, IsJoint, KeepsBare, OpensEnds};
 ghost use Rattle.edge_changes.specs.EdgeOpening.{WritesEndsOpened};
 ghost use Rattle.edge_changes.specs.EdgeOpening.{ends_moved, from_of, to_of};
 ghost use Rattle.change_parts.specs.Rooms.{HasRoom};
-ghost use Rattle.rec_bytes.specs.Format.{nodes_file, relationships_file};
+ghost use Rattle.rec_bytes.specs.Format.{groups_file, nodes_file, relationships_file};
 ghost use Rattle.rec_bytes.specs.RecordFiles.{meta_key_of};
 ghost use Rattle.store_rules.specs.Views.{RelRow, key_in};
 ghost use Rattle.store_rules.specs.Writes.{WritesAtMost, WritesBeside};
@@ -41,8 +42,8 @@ pub(crate) fn open_ends<S: Space>(space: &mut S, joint: Joint) -> Result<Ends<Ed
     ensures beside { S.tells
         → OnOk result ((S.state space.new).records (meta_key_of relationships_file)
         ≡ (S.state space.old).records (meta_key_of relationships_file)) }
-    ensures rels { S.tells
-        → OnOk result (HarmsNoRels (S.state space.old) (S.state space.new)) }
+    ensures files { S.tells
+        → OnOk result (HarmsNoFiles (S.state space.old) (S.state space.new)) }
     ensures leaves { S.tells → OnOk result
         (KeepsButChains (S.state space.old) (S.state space.new) (from_of joint) (to_of joint)) }
     ensures found { S.tells → IfErr result
@@ -106,6 +107,8 @@ fn open_end<S: Space>(
         (BlamesChains (S.state space.old) (S.state space.new) end.node end.node) }
     ensures has { S.tells → IsUsedNode (S.state space.old) end.node
         → IfOk result (HasHead (S.state space.new).records) }
+    ensures lists { S.tells → OnOk result
+        (HarmsNoList (S.state space.old) (S.state space.new) groups_file) }
     ensures bare { S.tells
         → IfOk result (KeepsBare (S.state space.old) (S.state space.new)) }
     ensures heads { S.tells

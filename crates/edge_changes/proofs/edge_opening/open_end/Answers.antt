@@ -68,7 +68,8 @@ returns-in_err-head-clause-found g c tells =
     let t = g.S.Reads.state c.open_chain.new.space in
     let node = c.args.end.node in
     fault_exit of_fault (BlamesChains s t node node) c.in_err-head.field-0.0 c.from_residual.result c.from_residual.ensures.1
-    (open_blames s t node c.in_err-head.field-0.0 (c.in_err-head.ensures.names tells) (c.in_err-head.ensures.named tells) (c.in_err-head.ensures.stays tells))
+    (open_blames s t node c.in_err-head.field-0.0 (c.in_err-head.ensures.names tells) (c.in_err-head.ensures.named tells)
+    (c.in_err-head.ensures.metas tells) (c.in_err-head.ensures.stays tells))
 
 -- where the chain begins at the node, nothing is written
 pub returns-clause-bare : goal.returns-clause-bare
@@ -77,3 +78,10 @@ returns-clause-bare g c tells own =
 
 pub returns-in_err-head-clause-bare : goal.returns-in_err-head-clause-bare
 returns-in_err-head-clause-bare g c _ = never_ok c.from_residual.result _ _ c.from_residual.ensures.1
+
+-- the free list of the groups
+pub returns-clause-lists : goal.returns-clause-lists
+returns-clause-lists g c tells = c.in_ok-head.ensures.lists tells
+
+pub returns-in_err-head-clause-lists : goal.returns-in_err-head-clause-lists
+returns-in_err-head-clause-lists g c _ = never_ok c.from_residual.result _ _ c.from_residual.ensures.1

@@ -26,7 +26,7 @@ use Rattle.edge_changes.specs.EdgeAdding.{BlamesChains, IsChainDamage, IsOfNodes
 use Rattle.edge_changes.specs.EdgeOpening.{from_of, to_of}
 use Rattle.edge_changes.proofs.EdgeFound.{bare_beside, chain_then, end_blames, ends_found, found_then, other_beside}
 use Rattle.change_parts.proofs.Broken.{blames_more}
-use Rattle.edge_changes.proofs.RelDamages.{rels_beside, rels_then}
+use Rattle.edge_changes.proofs.FileDamages.{files_beside, files_then}
 use Rattle.rec_bytes.proofs.Causes.{never_ok}
 use Rattle.edge_changes.proofs.edge_opening.open_ends.Goals as goal
 use Rattle.edge_changes.proofs.edge_opening.open_ends.Goals.{In_ok-first-in-Two}
@@ -262,28 +262,31 @@ returns-in_err-first-in-Two-clause-leaves g c _ = never_ok c.from_residual-in_er
 pub returns-in_err-last-in-Two-clause-leaves : goal.returns-in_err-last-in-Two-clause-leaves
 returns-in_err-last-in-Two-clause-leaves g c _ = never_ok c.from_residual-in_err-last-in-Two.result _ _ c.from_residual-in_err-last-in-Two.ensures.1
 
-pub returns-in_ok-only-in-Loop-clause-rels : goal.returns-in_ok-only-in-Loop-clause-rels
-returns-in_ok-only-in-Loop-clause-rels g c tells =
-    rels_beside (g.S.Reads.state c.args.space.now) (g.S.Reads.state c.open_end.new.space) c.in-Loop.end.node
+pub returns-in_ok-only-in-Loop-clause-files : goal.returns-in_ok-only-in-Loop-clause-files
+returns-in_ok-only-in-Loop-clause-files g c tells =
+    files_beside (g.S.Reads.state c.args.space.now) (g.S.Reads.state c.open_end.new.space) c.in-Loop.end.node
     (g.met.S.Reads.onward_shape _ _ c.in_ok-only-in-Loop.ensures.onward) (c.in_ok-only-in-Loop.ensures.beside tells)
+    (c.in_ok-only-in-Loop.ensures.lists tells)
 
-pub returns-in_ok-last-in-Two-clause-rels : goal.returns-in_ok-last-in-Two-clause-rels
-returns-in_ok-last-in-Two-clause-rels g c tells =
+pub returns-in_ok-last-in-Two-clause-files : goal.returns-in_ok-last-in-Two-clause-files
+returns-in_ok-last-in-Two-clause-files g c tells =
     let s = g.S.Reads.state c.args.space.now in
     let m = g.S.Reads.state c.open_end-in-Two.new.space in
     let t = g.S.Reads.state c.open_end-in-Two-2.new.space in
-    rels_then s m t
-    (rels_beside s m c.in-Two.source.node (g.met.S.Reads.onward_shape _ _ c.in_ok-first-in-Two.ensures.onward) (c.in_ok-first-in-Two.ensures.beside tells))
-    (rels_beside m t c.in-Two.target.node (g.met.S.Reads.onward_shape _ _ c.in_ok-last-in-Two.ensures.onward) (c.in_ok-last-in-Two.ensures.beside tells))
+    files_then s m t
+    (files_beside s m c.in-Two.source.node (g.met.S.Reads.onward_shape _ _ c.in_ok-first-in-Two.ensures.onward) (c.in_ok-first-in-Two.ensures.beside tells)
+    (c.in_ok-first-in-Two.ensures.lists tells))
+    (files_beside m t c.in-Two.target.node (g.met.S.Reads.onward_shape _ _ c.in_ok-last-in-Two.ensures.onward) (c.in_ok-last-in-Two.ensures.beside tells)
+    (c.in_ok-last-in-Two.ensures.lists tells))
 
-pub returns-in_err-only-in-Loop-clause-rels : goal.returns-in_err-only-in-Loop-clause-rels
-returns-in_err-only-in-Loop-clause-rels g c _ = never_ok c.from_residual.result _ _ c.from_residual.ensures.1
+pub returns-in_err-only-in-Loop-clause-files : goal.returns-in_err-only-in-Loop-clause-files
+returns-in_err-only-in-Loop-clause-files g c _ = never_ok c.from_residual.result _ _ c.from_residual.ensures.1
 
-pub returns-in_err-first-in-Two-clause-rels : goal.returns-in_err-first-in-Two-clause-rels
-returns-in_err-first-in-Two-clause-rels g c _ = never_ok c.from_residual-in_err-first-in-Two.result _ _ c.from_residual-in_err-first-in-Two.ensures.1
+pub returns-in_err-first-in-Two-clause-files : goal.returns-in_err-first-in-Two-clause-files
+returns-in_err-first-in-Two-clause-files g c _ = never_ok c.from_residual-in_err-first-in-Two.result _ _ c.from_residual-in_err-first-in-Two.ensures.1
 
-pub returns-in_err-last-in-Two-clause-rels : goal.returns-in_err-last-in-Two-clause-rels
-returns-in_err-last-in-Two-clause-rels g c _ = never_ok c.from_residual-in_err-last-in-Two.result _ _ c.from_residual-in_err-last-in-Two.ensures.1
+pub returns-in_err-last-in-Two-clause-files : goal.returns-in_err-last-in-Two-clause-files
+returns-in_err-last-in-Two-clause-files g c _ = never_ok c.from_residual-in_err-last-in-Two.result _ _ c.from_residual-in_err-last-in-Two.ensures.1
 
 pub returns-in_err-only-in-Loop-clause-found : goal.returns-in_err-only-in-Loop-clause-found
 returns-in_err-only-in-Loop-clause-found g c tells =
@@ -322,7 +325,7 @@ returns-in_err-last-in-Two-clause-found g c tells =
     fault_exit (λ f. f) (BlamesChains s t from to) fault c.from_residual-in_err-last-in-Two.result c.from_residual-in_err-last-in-Two.ensures.1
     (end_blames s t from to b (inr enters) fault
     (blames_more (IsChainDamage m t (IsOfNodes b b)) (IsChainDamage s t (IsOfNodes b b)) (chain_then s m t (IsOfNodes b b)
-    (rels_beside s m a (g.met.S.Reads.onward_shape _ _ c.in_ok-first-in-Two.ensures.onward) beside)
+    (files_beside s m a (g.met.S.Reads.onward_shape _ _ c.in_ok-first-in-Two.ensures.onward) beside (c.in_ok-first-in-Two.ensures.lists tells))
     (other_beside s m a b (λ (e : b ≡ a). differ (sym e)) beside)) fault (c.in_err-last-in-Two.ensures.found tells)))
 
 -- ---- an end whose chain begins at its node

@@ -154,5 +154,5 @@ returns-clause-found g c tells used =
     let keeps = bare_kept s t ends marks (c.in_ok-ends.ensures.bare tells) in
     if_blames c.join_edge.result (IsChainDamage t u (IsOfBare ends)) (IsChainDamage s u (IsOfNodes from to))
     (λ damage told. chain_more s u (IsOfBare ends) (IsOfNodes from to) (bare_nodes ends from to nodes.0 nodes.1) damage
-    (chain_then s t u (IsOfBare ends) (c.in_ok-ends.ensures.rels tells) keeps damage told))
+    (chain_then s t u (IsOfBare ends) (c.in_ok-ends.ensures.files tells) keeps damage told))
     (c.join_edge.ensures.found tells (c.in_ok-ends.ensures.has tells used))

@@ -1,4 +1,4 @@
--- What is wrong with relationships is so after changes of other records only if it was so before.
+-- What is wrong with relationships, or with a free list, is so after changes of other records only if it was so before.
 use Rattle.std.proofs.Common.{◌≡◌, ◌⊎◌, ℕ, nat_eq, not, ap, ◌∙◌, subst, inl, inr, ⊎_elim, arith, refl}
 use Rattle.rec_bytes.specs.declared.damage.Damage.{Damage}
 use Rattle.rec_bytes.specs.declared.key.Key.{Key}
@@ -18,7 +18,7 @@ use Rattle.group_store.specs.Leaving.{LeavesBeside}
 use Rattle.group_store.proofs.Named.{unread_before, unread_beside}
 use Rattle.group_store.proofs.SparseChains.{rel_breaks}
 use Rattle.change_parts.specs.Damage.{IsBroken, KeepsButNames}
-use Rattle.edge_changes.specs.EdgeAdding.{HarmsNoRels, IsRelDamage}
+use Rattle.edge_changes.specs.EdgeAdding.{HarmsNoFiles, IsFileDamage}
 
 -- a head was found or made
 module _ (s t : State) (node : ℕ) (shape : t.shape ≡ s.shape) (beside : LeavesBeside s.records t.records node) where
@@ -41,14 +41,16 @@ module _ (s t : State) (node : ℕ) (shape : t.shape ≡ s.shape) (beside : Leav
     links = λ x u. beside.rels x 4 format.free_next (omega arith) (inl (omega arith));
   }) d (subst (λ (h : Shape). IsListDamage t.records h format.relationships_file d) shape why)
 
-  pub rels_beside : HarmsNoRels s t
-  rels_beside d told = ⊎_elim (λ u. inl (unread_beside s t node shape beside d u)) (λ l. inr (list_beside d l)) told
+  pub files_beside : HarmsNoList s t format.groups_file → HarmsNoFiles s t
+  files_beside groups d told = ⊎_elim (λ u. inl (unread_beside s t node shape beside d u))
+      (λ l. inr (⊎_elim (λ r. inl (list_beside d r)) (λ k. inr (groups d k)) l)) told
 
 -- names were made
-pub rels_beyond : (s t : State) → t.shape ≡ s.shape → KeepsButNames s t → HarmsNoRels s t
-rels_beyond s t shape keeps d told = ⊎_elim
+pub files_beyond : (s t : State) → t.shape ≡ s.shape → KeepsButNames s t → HarmsNoFiles s t
+files_beyond s t shape keeps d told = ⊎_elim
     (λ u. inl (unread_before s t shape meta (λ x. ap (λ r. field 1 r format.kind) (each x)) d u))
-    (λ l. inr (beside_harms_none s t format.relationships_file shape meta each d l)) told
+    (λ l. inr (⊎_elim (λ r. inl (beside_harms_none s t format.relationships_file shape meta each d r))
+    (λ k. inr (beside_harms_none s t format.groups_file shape group_meta group_each d k)) l)) told
   where
     meta : t.records (meta_key_of format.relationships_file) ≡ s.records (meta_key_of format.relationships_file)
     meta = keeps (meta_key_of format.relationships_file) (λ e. omega arith) (λ e. let f = ap (λ (k : Key). k.id) e in omega arith)
@@ -56,10 +58,17 @@ rels_beyond s t shape keeps d told = ⊎_elim
     each : (x : ℕ) → rec_at t.records format.relationships_file x ≡ rec_at s.records format.relationships_file x
     each x = keeps (key_in format.relationships_file x) (λ e. omega arith) (λ e. let f = ap (λ (k : Key). k.file) e in omega arith)
 
+    group_meta : t.records (meta_key_of format.groups_file) ≡ s.records (meta_key_of format.groups_file)
+    group_meta = keeps (meta_key_of format.groups_file) (λ e. omega arith) (λ e. let f = ap (λ (k : Key). k.id) e in omega arith)
+
+    group_each : (x : ℕ) → rec_at t.records format.groups_file x ≡ rec_at s.records format.groups_file x
+    group_each x = keeps (key_in format.groups_file x) (λ e. omega arith) (λ e. let f = ap (λ (k : Key). k.file) e in omega arith)
+
 -- one after another
-pub rels_then : (s t u : State) → HarmsNoRels s t → HarmsNoRels t u → HarmsNoRels s u
-rels_then s t u first later d told = first d (later d told)
+pub files_then : (s t u : State) → HarmsNoFiles s t → HarmsNoFiles t u → HarmsNoFiles s u
+files_then s t u first later d told = first d (later d told)
 
 -- it breaks a rule
-pub rels_broken : (s : State) (d : Damage) → IsRelDamage s d → IsBroken s d
-rels_broken s d told = inl (⊎_elim (λ u. rel_breaks s u.0 d u.1) (λ l. list_breaks s.records s.shape format.relationships_file refl d l) told)
+pub files_broken : (s : State) (d : Damage) → IsFileDamage s d → IsBroken s d
+files_broken s d told = inl (⊎_elim (λ u. rel_breaks s u.0 d u.1) (λ l. ⊎_elim (list_breaks s.records s.shape format.relationships_file refl d)
+    (list_breaks s.records s.shape format.groups_file refl d) l) told)
