@@ -11,7 +11,7 @@ use Rattle.rec_bytes.specs.declared.row_fault.RowFault.TheVariants as row
 use Rattle.store_rules.specs.Breaking.{Breaks, damage, key_of}
 use Rattle.store_rules.specs.Breaking.Breaks.{RecordRange, WrongElement, WrongMeta}
 use Rattle.store_rules.specs.Chains.{In}
-use Rattle.store_rules.specs.Properties.{Property, keys_of, next_property, property_at, property_ids, property_records}
+use Rattle.store_rules.specs.Properties.{next_property, property_at, property_ids, property_records}
 use Rattle.store_rules.specs.Views.{Records, high, is_live, kind_at, rec_at}
 use Rattle.store_rules.proofs.ChainLaws.{followed-walk}
 use Rattle.store_rules.proofs.NumberLaws.{eq_false, lt_true}

@@ -1,8 +1,7 @@
 -- Steps that take the items of a source.
-use Rattle.std.proofs.Common.{◌≡◌, cond, ◌<◌, ℕ, ◌+◌, Bool, true, false, not, ◌&&◌, ◌||◌, nat_lt, List, [], ◌∷◌, ◌++◌}
+use Rattle.std.proofs.Common.{◌≡◌, cond, ◌<◌, ℕ, ◌+◌, Bool, true, false, not, ◌&&◌, List, [], ◌∷◌, ◌++◌}
 use Rattle.std.proofs.Common.{length, take, drop, get_or, set, Option, Some, None, is_some, refl, sym, ap, ◌∙◌, subst}
 use Rattle.std.proofs.Common.{arith}
-use Rattle.std.proofs.lemmas.Bool.{lt-ltb}
 use Rattle.std.specs.Int.{from_bool}
 use Rattle.std.specs.List.{flat_map}
 use Rattle.plain_graph.specs.Graph.{Graph}
@@ -12,7 +11,7 @@ use Rattle.node_store.specs.declared.node_row.NodeRow.{NodeRow}
 use Rattle.plain_graph.specs.declared.item.Item.{Item}
 use Rattle.plain_graph.specs.declared.item.Item.TheVariants as items
 use Rattle.store_rules.specs.Rows.{option_list}
-use Rattle.traversal_run.specs.Feeding.{Counts, Feeds, filter_stage}
+use Rattle.traversal_run.specs.Feeding.{Feeds, filter_stage}
 use Rattle.store_rules.specs.Graph.{graph_of}
 use Rattle.store_rules.specs.Views.{Records}
 use Rattle.traversal_run.specs.Finding.{element_at, vertex_if}

@@ -101,92 +101,93 @@ filters_quiet (row ∷ rows) are = let is = both (is_filter row.stage) (are_filt
 
 -- what a count gives
 abbrev count_stream : Bool → ℕ → Stream
-count_stream told n = record { items = counted told n; past = not told && nat_lt 9223372036854775807 n }
+count_stream given n = record { items = counted given n; past = not given && nat_lt 9223372036854775807 n }
 
-count_row : (graph : Graph) (row : Row) (n : ℕ) (told : Bool) (list : List Item) → row.stage ≡ stages.Count n told → row.waiting ≡ []
-    → after_row graph row (stream list) ≡ count_stream told (n + length list)
-count_row graph row n told list is idle = λ i. after_row graph (record { stage = is i; waiting = idle i }) (stream list)
+count_row : (graph : Graph) (row : Row) (n : ℕ) (given : Bool) (list : List Item) → row.stage ≡ stages.Count n given → row.waiting ≡ []
+    → after_row graph row (stream list) ≡ count_stream given (n + length list)
+count_row graph row n given list is idle = λ i. after_row graph (record { stage = is i; waiting = idle i }) (stream list)
 
-counted_same : (told fits : Bool) (n after : ℕ) (list : List Item) → IsCountOf list n fits after → fits || told ≡ true
-    → count_stream told (after + 0) ≡ count_stream told (n + length list)
+counted_same : (given fits : Bool) (n after : ℕ) (list : List Item) → IsCountOf list n fits after → fits || given ≡ true
+    → count_stream given (after + 0) ≡ count_stream given (n + length list)
 counted_same true fits n after list counts gives = refl
 counted_same false true n after list counts gives = let is = counts in ap (count_stream false) (omega arith)
 counted_same false false n after list counts gives = absurd cc
 
-counted_past : (told fits : Bool) (n after : ℕ) (list : List Item) → IsCountOf list n fits after → fits || told ≡ false
-    → (count_stream told (n + length list)).past ≡ true
+counted_past : (given fits : Bool) (n after : ℕ) (list : List Item) → IsCountOf list n fits after → fits || given ≡ false
+    → (count_stream given (n + length list)).past ≡ true
 counted_past true true n after list counts gives = absurd cc
 counted_past true false n after list counts gives = absurd cc
 counted_past false true n after list counts gives = absurd cc
 counted_past false false n after list counts gives = lt-ltb 9223372036854775807 (n + length list) counts
 
 -- at its place behind others
-counted_at : (graph : Graph) (rows : List Row) (at : ℕ) (any last : Row) (old new : Stream) (list : List Item) (n after : ℕ) (told fits : Bool)
-    → at < length rows → AreIdle rows → (get_or rows at any).stage ≡ stages.Count n told
-    → through graph (take at rows) old ≡ stream list → through graph (take at rows) new ≡ stream [] → IsCountOf list n fits after → fits || told ≡ true
-    → through graph (set rows at (record (get_or rows at last) { stage = stages.Count after told })) new ≡ through graph rows old
-counted_at graph [] at any last old new list n after told fits lt idle is comes none counts gives = absurd (omega arith)
-counted_at graph (row ∷ rows) zero any last old new list n after told fits lt idle is comes none counts gives =
+counted_at : (graph : Graph) (rows : List Row) (at : ℕ) (any last : Row) (old new : Stream) (list : List Item) (n after : ℕ) (given fits : Bool)
+    → at < length rows → AreIdle rows → (get_or rows at any).stage ≡ stages.Count n given
+    → through graph (take at rows) old ≡ stream list → through graph (take at rows) new ≡ stream [] → IsCountOf list n fits after → fits || given ≡ true
+    → through graph (set rows at (record (get_or rows at last) { stage = stages.Count after given })) new ≡ through graph rows old
+counted_at graph [] at any last old new list n after given fits lt idle is comes none counts gives = absurd (omega arith)
+counted_at graph (row ∷ rows) zero any last old new list n after given fits lt idle is comes none counts gives =
     ap (through graph rows)
-    (ap (after_row graph (record row { stage = stages.Count after told })) none
-    ∙ count_row graph (record row { stage = stages.Count after told }) after told [] refl idle.0
-    ∙ counted_same told fits n after list counts gives
-    ∙ sym (count_row graph row n told list is idle.0)
+    (ap (after_row graph (record row { stage = stages.Count after given })) none
+    ∙ count_row graph (record row { stage = stages.Count after given }) after given [] refl idle.0
+    ∙ counted_same given fits n after list counts gives
+    ∙ sym (count_row graph row n given list is idle.0)
     ∙ ap (after_row graph row) (sym comes))
-counted_at graph (row ∷ rows) (suc at) any last old new list n after told fits lt idle is comes none counts gives =
-    counted_at graph rows at any last (after_row graph row old) (after_row graph row new) list n after told fits (omega arith) idle.1 is comes none counts gives
+counted_at graph (row ∷ rows) (suc at) any last old new list n after given fits lt idle is comes none counts gives =
+    counted_at graph rows at any last (after_row graph row old) (after_row graph row new) list n after given fits (omega arith) idle.1 is comes none counts
+    gives
 
-counted_at_past : (graph : Graph) (rows : List Row) (at : ℕ) (any : Row) (old : Stream) (list : List Item) (n after : ℕ) (told fits : Bool) → at < length rows
-    → AreIdle rows → (get_or rows at any).stage ≡ stages.Count n told
-    → through graph (take at rows) old ≡ stream list → IsCountOf list n fits after → fits || told ≡ false → (through graph rows old).past ≡ true
-counted_at_past graph [] at any old list n after told fits lt idle is comes counts gives = absurd (omega arith)
-counted_at_past graph (row ∷ rows) zero any old list n after told fits lt idle is comes counts gives =
+counted_at_past : (graph : Graph) (rows : List Row) (at : ℕ) (any : Row) (old : Stream) (list : List Item) (n after : ℕ) (given fits : Bool) → at < length rows
+    → AreIdle rows → (get_or rows at any).stage ≡ stages.Count n given
+    → through graph (take at rows) old ≡ stream list → IsCountOf list n fits after → fits || given ≡ false → (through graph rows old).past ≡ true
+counted_at_past graph [] at any old list n after given fits lt idle is comes counts gives = absurd (omega arith)
+counted_at_past graph (row ∷ rows) zero any old list n after given fits lt idle is comes counts gives =
     past_through graph rows (after_row graph row old)
-    (ap (λ (s : Stream). s.past) (ap (after_row graph row) comes ∙ count_row graph row n told list is idle.0) ∙ counted_past told fits n after list counts
+    (ap (λ (s : Stream). s.past) (ap (after_row graph row) comes ∙ count_row graph row n given list is idle.0) ∙ counted_past given fits n after list counts
     gives)
-counted_at_past graph (row ∷ rows) (suc at) any old list n after told fits lt idle is comes counts gives =
-    counted_at_past graph rows at any (after_row graph row old) list n after told fits (omega arith) idle.1 is comes counts gives
+counted_at_past graph (row ∷ rows) (suc at) any old list n after given fits lt idle is comes counts gives =
+    counted_at_past graph rows at any (after_row graph row old) list n after given fits (omega arith) idle.1 is comes counts gives
 
-module _ (graph : Graph) (rows : List Row) (at : ℕ) (n after : ℕ) (told fits : Bool) (lt : at < length rows) (idle : AreIdle rows)
+module _ (graph : Graph) (rows : List Row) (at : ℕ) (n after : ℕ) (given fits : Bool) (lt : at < length rows) (idle : AreIdle rows)
     (are : are_filters (take at rows) ≡ true) where
   -- The rows after the count took what a source has, where nothing is left of it.
-  pub fed_count : (any last : Row) (list rest : List Item) → (get_or rows at any).stage ≡ stages.Count n told
-      → IsCountOf (filter (passes_rows graph (take at rows)) list) n fits after → fits || told ≡ true → rest ≡ []
-      → through graph (set rows at (record (get_or rows at last) { stage = stages.Count after told })) (stream rest) ≡ through graph rows (stream list)
+  pub fed_count : (any last : Row) (list rest : List Item) → (get_or rows at any).stage ≡ stages.Count n given
+      → IsCountOf (filter (passes_rows graph (take at rows)) list) n fits after → fits || given ≡ true → rest ≡ []
+      → through graph (set rows at (record (get_or rows at last) { stage = stages.Count after given })) (stream rest) ≡ through graph rows (stream list)
   fed_count any last list rest is counts gives over =
-      counted_at graph rows at any last (stream list) (stream rest) (filter (passes_rows graph (take at rows)) list) n after told fits lt idle is
+      counted_at graph rows at any last (stream list) (stream rest) (filter (passes_rows graph (take at rows)) list) n after given fits lt idle is
       (through_filters graph (take at rows) list are (idle_take rows at idle))
       (ap (λ (coming : List Item). through graph (take at rows) (stream coming)) over ∙ nothing_through graph (take at rows) (idle_take rows at idle)
       (filters_quiet (take at rows) are))
       counts gives
 
   -- the count passes
-  pub fed_count_past : (any : Row) (list : List Item) → (get_or rows at any).stage ≡ stages.Count n told
-      → IsCountOf (filter (passes_rows graph (take at rows)) list) n fits after → fits || told ≡ false
+  pub fed_count_past : (any : Row) (list : List Item) → (get_or rows at any).stage ≡ stages.Count n given
+      → IsCountOf (filter (passes_rows graph (take at rows)) list) n fits after → fits || given ≡ false
       → (through graph rows (stream list)).past ≡ true
   fed_count_past any list is counts gives =
-      counted_at_past graph rows at any (stream list) (filter (passes_rows graph (take at rows)) list) n after told fits lt idle is
+      counted_at_past graph rows at any (stream list) (filter (passes_rows graph (take at rows)) list) n after given fits lt idle is
       (through_filters graph (take at rows) list are (idle_take rows at idle)) counts gives
 
 -- a row that counts is one of these
-pub one_counts : (rows : List Row) (at : ℕ) (any : Row) (n : ℕ) (told : Bool) → at < length rows → (get_or rows at any).stage ≡ stages.Count n told
+pub one_counts : (rows : List Row) (at : ℕ) (any : Row) (n : ℕ) (given : Bool) → at < length rows → (get_or rows at any).stage ≡ stages.Count n given
     → have_no_count (stages_of rows) ≡ false
-one_counts [] at any n told lt is = absurd (omega arith)
-one_counts (row ∷ rows) zero any n told lt is = ap (λ stage. not (is_count stage) && have_no_count (stages_of rows)) is
-one_counts (row ∷ rows) (suc at) any n told lt is = later (not (is_count row.stage)) (one_counts rows at any n told (omega arith) is)
+one_counts [] at any n given lt is = absurd (omega arith)
+one_counts (row ∷ rows) zero any n given lt is = ap (λ stage. not (is_count stage) && have_no_count (stages_of rows)) is
+one_counts (row ∷ rows) (suc at) any n given lt is = later (not (is_count row.stage)) (one_counts rows at any n given (omega arith) is)
   where
     later : (a : Bool) → have_no_count (stages_of rows) ≡ false → a && have_no_count (stages_of rows) ≡ false
     later true none = none
     later false none = refl
 
-pub one_still_counts : (rows : List Row) (at : ℕ) (last : Row) (n : ℕ) (told : Bool) → at < length rows
-    → have_no_count (stages_of (set rows at (record (get_or rows at last) { stage = stages.Count n told }))) ≡ false
-one_still_counts [] at last n told lt = absurd (omega arith)
-one_still_counts (row ∷ rows) zero last n told lt = refl
-one_still_counts (row ∷ rows) (suc at) last n told lt = later (not (is_count row.stage)) (one_still_counts rows at last n told (omega arith))
+pub one_still_counts : (rows : List Row) (at : ℕ) (last : Row) (n : ℕ) (given : Bool) → at < length rows
+    → have_no_count (stages_of (set rows at (record (get_or rows at last) { stage = stages.Count n given }))) ≡ false
+one_still_counts [] at last n given lt = absurd (omega arith)
+one_still_counts (row ∷ rows) zero last n given lt = refl
+one_still_counts (row ∷ rows) (suc at) last n given lt = later (not (is_count row.stage)) (one_still_counts rows at last n given (omega arith))
   where
     rest : List Row
-    rest = set rows at (record (get_or rows at last) { stage = stages.Count n told })
+    rest = set rows at (record (get_or rows at last) { stage = stages.Count n given })
 
     later : (a : Bool) → have_no_count (stages_of rest) ≡ false → a && have_no_count (stages_of rest) ≡ false
     later true none = none

@@ -159,17 +159,17 @@ module _ (graph : Graph) (d : ℕ) (few : AreFewAt graph d) where
       limited zero = omega arith
       limited (suc n) = omega arith
   stage_batch (stages.Dedup seen) item plain = absurd cc
-  stage_batch (stages.Count so_far told) item plain = absurd cc
-  stage_batch (stages.Order key descending kept told) item plain = absurd cc
+  stage_batch (stages.Count so_far given) item plain = absurd cc
+  stage_batch (stages.Order key descending kept given) item plain = absurd cc
 
 pub plain_uncounted : (stage : Stage) → is_plain stage ≡ true → is_count stage ≡ false
-plain_uncounted (stages.Count so_far told) plain = absurd cc
+plain_uncounted (stages.Count so_far given) plain = absurd cc
 plain_uncounted stage plain = refl
 
 pub plain_quiet : (stage : Stage) → is_plain stage ≡ true → is_open stage ≡ false
 plain_quiet (stages.Dedup seen) plain = refl
-plain_quiet (stages.Count so_far told) plain = absurd cc
-plain_quiet (stages.Order key descending kept told) plain = absurd cc
+plain_quiet (stages.Count so_far given) plain = absurd cc
+plain_quiet (stages.Order key descending kept given) plain = absurd cc
 plain_quiet stage plain = refl
 
 -- so of what a step took

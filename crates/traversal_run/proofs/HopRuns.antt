@@ -4,7 +4,6 @@ use Rattle.std.proofs.Common.{length, get_or, set, refl, sym, ap, ◌∙◌, sub
 use Rattle.std.proofs.lemmas.Cmp.{nat_eq_equiv}
 use borrow.Author.Tests.{eqb-true}
 use Rattle.plain_graph.specs.Meaning.{is_asked}
-use Rattle.plain_graph.specs.declared.filter.Filter.{Filter}
 use Rattle.plain_graph.specs.declared.item.Item.{Item}
 use Rattle.plain_graph.specs.declared.item.Item.TheVariants as items
 use Rattle.plain_graph.specs.declared.query.Hop.{Hop}
@@ -14,7 +13,6 @@ use Rattle.prop_store.specs.Reading.{ReadsAtMost}
 use Rattle.prop_store.proofs.ReadCounts.{reads_more, reads_none, reads_then}
 use Rattle.rec_bytes.specs.Space.{State}
 use Rattle.rec_bytes.specs.declared.space.Reads.{Ghosts as SpaceGhosts}
-use Rattle.traversal_run.specs.Feeding.{filter_stage}
 use Rattle.traversal_run.specs.Held.{is_hop}
 use Rattle.traversal_run.specs.HopRun.{FeedsHop, HasNone, HasOnly, IsHop, IsHopAlone, IsHopQuery, IsReady, MakesHop, StageReads, reads_for_hop}
 use Rattle.traversal_run.specs.Hopping.{hop_reads, reads_at_vertex}
@@ -201,15 +199,15 @@ idle_alone rows alone at any lt waits =
     waits (ap (λ n. (get_or rows n any).waiting) none ∙ ap (λ (rs : List Row). (get_or rs 0 any).waiting) alone.is ∙ alone.idle)
 
 -- a count and a filter are no hops
-pub no_count : (stage : Stage) (so_far : ℕ) (told : Bool) → stage ≡ stages.Count so_far told → is_hop stage ≡ true → ⊥
-no_count stage so_far told is hop = off_on hop (ap is_hop is)
+pub no_count : (stage : Stage) (so_far : ℕ) (given : Bool) → stage ≡ stages.Count so_far given → is_hop stage ≡ true → ⊥
+no_count stage so_far given is hop = off_on hop (ap is_hop is)
 
 hop_shut : (stage : Stage) → is_hop stage ≡ true → is_open stage ≡ false
 hop_shut (stages.Mapped mapping) hop = refl
 hop_shut (stages.Dedup seen) hop = refl
-hop_shut (stages.Count so_far told) hop = absurd (off_on hop refl)
+hop_shut (stages.Count so_far given) hop = absurd (off_on hop refl)
 hop_shut (stages.Limit left) hop = refl
-hop_shut (stages.Order key descending kept told) hop = absurd (off_on hop refl)
+hop_shut (stages.Order key descending kept given) hop = absurd (off_on hop refl)
 
 pub quiet_alone : (rows : List Row) → IsHopAlone rows → (at : ℕ) (any : Row) → at < length rows → is_open (get_or rows at any).stage ≡ true → ⊥
 quiet_alone rows alone at any lt opens =

@@ -120,7 +120,7 @@ spent_limit step spent = zero_limit (limit_left step) spent
 
 -- a limit doesn't count
 spent_no_count : (step : Stage) → is_spent step ≡ true → is_count step ≡ false
-spent_no_count (stages.Count so_far told) spent = cc
+spent_no_count (stages.Count so_far given) spent = cc
 spent_no_count step spent = refl
 
 first_no_count : (a b : Bool) → not a && b ≡ true → (a ≡ false) × (b ≡ true)

@@ -1,5 +1,5 @@
 -- What a load of an element says of its item.
-use Rattle.std.proofs.Common.{◌≡◌, ◌≢◌, ◌⊎◌, ◌<◌, ℕ, Bool, true, false, ◌||◌, cond, nat_eq, None, Some, List, [], ◌∷◌}
+use Rattle.std.proofs.Common.{◌≡◌, ◌≢◌, ◌⊎◌, ℕ, Bool, true, false, ◌||◌, cond, nat_eq, None, Some, List, [], ◌∷◌}
 use Rattle.std.proofs.Common.{find, inl, inr, refl, sym, ap, ◌∙◌, subst, ⊎_elim}
 use Rattle.std.specs.List.{list_any}
 use Rattle.std.specs.Option.{option_map}
@@ -15,12 +15,11 @@ use Rattle.plain_graph.specs.declared.item.Item.TheVariants as items
 use Rattle.plain_graph.proofs.PropertyLaws.{order}
 use Rattle.rec_bytes.specs.Format as format
 use Rattle.rec_bytes.specs.Space.{State}
-use Rattle.rec_bytes.specs.declared.shape.Shape.{Shape}
 use Rattle.store_rules.specs.Graph.{graph_of, node_of}
 use Rattle.store_rules.specs.Properties.{Property}
 use Rattle.store_rules.specs.PropertyChange.{property_from, target_in}
 use Rattle.store_rules.specs.Rules.{IsWellFormed}
-use Rattle.store_rules.specs.Views.{Records, high, kind_at, node_in, rec_at}
+use Rattle.store_rules.specs.Views.{Records, high, kind_at, rec_at}
 use Rattle.store_rules.proofs.ElementProperties.{node_used}
 use Rattle.store_rules.proofs.GraphRows.{no_edge, no_node}
 use Rattle.store_rules.proofs.NodeChange.{nodes_numbered}
@@ -38,7 +37,7 @@ use Rattle.rel_store.specs.declared.rel_row.RelRow.{RelRow}
 use Rattle.rel_store.proofs.Rows as rel_rows
 use Rattle.traversal_run.specs.Elements.{IsOwnerOf, owned_edge}
 use Rattle.traversal_run.specs.declared.elements.Owned.{Owned}
-use Rattle.traversal_run.specs.Naming.{FindsName, name_at, name_count}
+use Rattle.traversal_run.specs.Naming.{FindsName, name_at}
 use Rattle.traversal_run.proofs.NamesKnown.{is_text-itself}
 
 -- what no element passes is not found

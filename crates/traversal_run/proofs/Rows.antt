@@ -81,7 +81,7 @@ no_count : (stage : Stage) → is_open stage ≡ false → counts_past stage [] 
 no_count (stages.Mapped mapping) quiet = refl
 no_count (stages.Dedup seen) quiet = refl
 no_count (stages.Limit left) quiet = refl
-no_count (stages.Order key descending kept told) quiet = refl
+no_count (stages.Order key descending kept given) quiet = refl
 no_count (stages.Count so_far true) quiet = refl
 no_count (stages.Count so_far false) quiet = cc
 
@@ -167,11 +167,11 @@ spent_gives graph (stages.Limit (suc left)) coming spent = let none = eqb-true (
 spent_gives graph stage coming spent = cc
 
 spent_counts_none : (stage : Stage) (coming : List Item) → is_spent stage ≡ true → counts_past stage coming ≡ false
-spent_counts_none (stages.Count so_far told) coming spent = cc
+spent_counts_none (stages.Count so_far given) coming spent = cc
 spent_counts_none stage coming spent = refl
 
 counts_none : (stage : Stage) (coming : List Item) → is_count stage ≡ false → counts_past stage coming ≡ false
-counts_none (stages.Count so_far told) coming none = cc
+counts_none (stages.Count so_far given) coming none = cc
 counts_none stage coming none = refl
 
 or_none : (p b : Bool) → b ≡ false → p || b ≡ p

@@ -8,7 +8,7 @@ use Rattle.plain_graph.specs.declared.item.Item.{Item}
 use Rattle.plain_graph.specs.declared.item.Item.TheVariants as items
 use Rattle.plain_graph.specs.declared.query.Step.{Step}
 use Rattle.plain_graph.specs.declared.query.Step.TheVariants as steps
-use Rattle.traversal_run.specs.Row.{AreIdle, stages_of}
+use Rattle.traversal_run.specs.Row.{stages_of}
 use Rattle.traversal_run.specs.Run.{allowed_by, still_allowed}
 use Rattle.traversal_run.specs.Scan.{IsLast, IsScan, IsScanReady, IsScanWith, IsScanned, TakesVertex, limit_row, vertices_from}
 use Rattle.traversal_run.specs.Source.{is_over}

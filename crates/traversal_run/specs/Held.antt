@@ -46,9 +46,9 @@ hops_in rows = count_by (λ (row : Row). is_hop row.stage) rows
 
 -- the step is no order, no dedup and no count
 abbrev pub is_plain : Stage → Bool
-is_plain (stages.Order key descending kept told) = false
+is_plain (stages.Order key descending kept given) = false
 is_plain (stages.Dedup seen) = false
-is_plain (stages.Count so_far told) = false
+is_plain (stages.Count so_far given) = false
 is_plain stage = true
 
 abbrev pub ArePlain : List Row → Type 0

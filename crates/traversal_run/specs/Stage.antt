@@ -21,29 +21,29 @@ counted true n = []
 counted false n = items.Value (values.Int (pos n)) ∷ []
 
 -- the items that are kept are given once, in order
-abbrev pub told_in_order : Bool → Bool → List Ranked → List Item
-told_in_order true descending kept = []
-told_in_order false descending kept =
+abbrev pub given_in_order : Bool → Bool → List Ranked → List Item
+given_in_order true descending kept = []
+given_in_order false descending kept =
     map (λ (r : Ranked). r.item) (sorted (ranks_below descending) kept)
 
 -- what a step under way makes of the items that are still to come to it
 abbrev pub after_stage : Graph → Stage → List Item → List Item
 after_stage graph (stages.Mapped mapping) coming = flat_map (mapped graph mapping) coming
 after_stage graph (stages.Dedup seen) coming = unseen seen coming
-after_stage graph (stages.Count so_far told) coming = counted told (so_far + length coming)
+after_stage graph (stages.Count so_far given) coming = counted given (so_far + length coming)
 after_stage graph (stages.Limit left) coming = take left coming
-after_stage graph (stages.Order key descending kept told) coming =
-    told_in_order told descending (kept ++ filter_map (ranked graph key) coming)
+after_stage graph (stages.Order key descending kept given) coming =
+    given_in_order given descending (kept ++ filter_map (ranked graph key) coming)
 
 -- the step counts more than the greatest number of a value: what it has counted, and what is still
 -- to come to it
 abbrev pub counts_past : Stage → List Item → Bool
 counts_past (stages.Mapped mapping) coming = false
 counts_past (stages.Dedup seen) coming = false
-counts_past (stages.Count so_far told) coming =
-    not told && nat_lt 9223372036854775807 (so_far + length coming)
+counts_past (stages.Count so_far given) coming =
+    not given && nat_lt 9223372036854775807 (so_far + length coming)
 counts_past (stages.Limit left) coming = false
-counts_past (stages.Order key descending kept told) coming = false
+counts_past (stages.Order key descending kept given) coming = false
 
 -- For one more item the step gives these, and goes on as the new one.
 abbrev pub Takes : Graph → Stage → Item → List Item → Stage → Type 0
@@ -60,17 +60,17 @@ Finishes graph old outs new = (after_stage graph old [] ≡ outs ++ after_stage 
 abbrev pub is_open : Stage → Bool
 is_open (stages.Mapped mapping) = false
 is_open (stages.Dedup seen) = false
-is_open (stages.Count so_far told) = not told
+is_open (stages.Count so_far given) = not given
 is_open (stages.Limit left) = false
-is_open (stages.Order key descending kept told) = not told
+is_open (stages.Order key descending kept given) = not given
 
 -- how many items a limit still lets through
 abbrev pub limit_left : Stage → Option ℕ
 limit_left (stages.Mapped mapping) = None
 limit_left (stages.Dedup seen) = None
-limit_left (stages.Count so_far told) = None
+limit_left (stages.Count so_far given) = None
 limit_left (stages.Limit left) = Some left
-limit_left (stages.Order key descending kept told) = None
+limit_left (stages.Order key descending kept given) = None
 
 -- the same for a limit that has let through so many more
 abbrev pub with_more : Option ℕ → ℕ → Option ℕ
@@ -88,9 +88,9 @@ is_spent stage = is_zero (limit_left stage)
 abbrev pub is_count : Stage → Bool
 is_count (stages.Mapped mapping) = false
 is_count (stages.Dedup seen) = false
-is_count (stages.Count so_far told) = true
+is_count (stages.Count so_far given) = true
 is_count (stages.Limit left) = false
-is_count (stages.Order key descending kept told) = false
+is_count (stages.Order key descending kept given) = false
 
 -- what is ranked by: an item's own rank, or the value of a key where one is written
 abbrev pub rank_in : Graph → Option (List ℕ) → Item → Option Value

@@ -12,7 +12,7 @@ ghost use Rattle.store_rules.specs.Rules.{IsWellFormed};
 ghost use Rattle.plain_graph.specs.declared.item.Item.TheVariants as items;
 ghost use Rattle.rec_bytes.specs.Key.{IsKey};
 ghost use Rattle.node_store.specs.NodeRecord.{node_key};
-ghost use Rattle.node_store.specs.Loading.{IsNodeFault, IsReadable, row_at};
+ghost use Rattle.node_store.specs.Loading.{IsNodeFault, row_at};
 ghost use Rattle.rec_bytes.specs.RowFault.{HasRowCause};
 ghost use Rattle.traversal_run.specs.Elements.{IsLoaded, IsOwnerOf, IsRowOf, owned_edge, owner_reads};
 ghost use Rattle.rec_bytes.specs.Fault.{HasFaultCause};
@@ -22,7 +22,7 @@ ghost use Rattle.traversal_run.specs.NumberedFilter.{HasNumber};
 ghost use Rattle.traversal_run.specs.Reading.{IsNamedStore, IsRead};
 
 use crate::naming::{name_mark, number_of, text_of, unnamed};
-use crate::sought::Guess;
+use crate::sought::SoughtName;
 use name_store::Names;
 use node_store::NodeRow;
 use plain_graph::{Item, Value};
@@ -210,8 +210,7 @@ pub(crate) fn value_of<R: Reads>(
     alloc: Global,
     space: &mut R,
     names: &Names,
-    guess: &Guess,
-    key: &[u8],
+    key: &SoughtName,
     item: &Item,
     row: &Option<NodeRow>,
 ) -> Result<Option<Value>, Fault>
@@ -219,14 +218,15 @@ pub(crate) fn value_of<R: Reads>(
     ensures found { R.tells
         → IsNamedStore (R.state space.old).records (R.state space.old).shape names.now.names
         → IfOk result (λ value. value
-        ≡ maps.get (properties_of (graph_of (R.state space.old).records) item.now) key.now) }
+        ≡ maps.get (properties_of (graph_of (R.state space.old).records) item.now)
+        key.now.text.now) }
     ensures damaged { R.tells → IfErr result
         (BlamesBroken (R.state space.old).records (R.state space.old).shape) }
     ensures kept { IfOk result (λ value. IfSome value IsKept) }
     ensures read { IsRead R.Reads space.old space.new }
     ensures cause { HasFaultCause (R.faults space.old) (R.faults space.new) result }
 {
-    let number = number_of(space, names, guess, key);
+    let number = number_of(space, names, key.guess, key.text);
     numbered_value(alloc, space, number, item, row)
 }
 

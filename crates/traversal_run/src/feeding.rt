@@ -78,9 +78,9 @@ pub(crate) fn feed<R: Reads>(
     ensures read { IsRead R.Reads space.old space.new }
     ensures cause { HasStopCause (R.faults space.old) (R.faults space.new) result }
 {
-    if let Stage::Count { so_far, told } = stage {
+    if let Stage::Count { so_far, given } = stage {
         let fits = source.count(space, so_far)?;
-        return if fits || *told {
+        return if fits || *given {
             Ok(Waiting::new(alloc))
         } else {
             Err(Stop::PastCount)
@@ -327,7 +327,7 @@ fn passes_at<R: Reads>(
 pub(crate) struct FilteredCount {
     pub(crate) at: usize,
     pub(crate) so_far: Counter,
-    pub(crate) told: bool,
+    pub(crate) given: bool,
 }
 
 /// The count that takes what comes through filters alone, if there is one.
@@ -336,7 +336,7 @@ pub(crate) fn filtered_count(rows: &[Row]) -> Option<FilteredCount>
     ensures some { IfSome result (λ count. (0 < count.at) × (count.at < length rows.now)) }
     ensures filters { IfSome result (λ count. are_filters (take count.at rows.now) ≡ true) }
     ensures counts { IfSome result (λ count. (any : Row)
-        → (get_or rows.now count.at any).stage ≡ Stage.Count count.so_far count.told) }
+        → (get_or rows.now count.at any).stage ≡ Stage.Count count.so_far count.given) }
 {
     for (at, row) in rows.iter().enumerate() {
         if !row.stage.is_filter() {
@@ -349,13 +349,13 @@ pub(crate) fn filtered_count(rows: &[Row]) -> Option<FilteredCount>
 /// The step at this place, where it counts and another is before it.
 fn count_at(at: usize, stage: &Stage) -> Option<FilteredCount>
     ensures at { IfSome result (λ count. (count.at ≡ at) × (0 < at)) }
-    ensures counts { IfSome result (λ count. stage.now ≡ Stage.Count count.so_far count.told) }
+    ensures counts { IfSome result (λ count. stage.now ≡ Stage.Count count.so_far count.given) }
 {
     match stage {
-        Stage::Count { so_far, told } if at > 0 => Some(FilteredCount {
+        Stage::Count { so_far, given } if at > 0 => Some(FilteredCount {
             at,
             so_far: so_far.copy(),
-            told: *told,
+            given: *given,
         }),
         _ => None,
     }

@@ -3,7 +3,6 @@
 ghost use Rattle.std.specs.Prelude.{◌≡◌, ◌≤◌, ◌<◌, ◌+◌, IfErr, IfOk, IfSome, false, is_some};
 ghost use Rattle.std.specs.Prelude.{true};
 ghost use Rattle.plain_graph.specs.declared.item.Item.TheVariants as items;
-ghost use Rattle.store_rules.specs.Rules.{IsWellFormed};
 ghost use Rattle.prop_store.specs.Reading.{ReadsAtMost};
 ghost use Rattle.rec_bytes.specs.Key.{IsKey};
 ghost use Rattle.rec_bytes.specs.declared.shape.Shape.{Shape};

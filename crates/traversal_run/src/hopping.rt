@@ -14,7 +14,7 @@ ghost use Rattle.traversal_run.specs.Reading.{IsNamedStore, IsRead};
 use crate::edge_items::{edge_item, end_items};
 use crate::finding::edge_at;
 use crate::naming::{name_mark, number_of, numbers_of, text_of};
-use crate::sought::{Guess, Sought};
+use crate::sought::{Sought, SoughtName};
 use crate::waiting::Waiting;
 use expand::{ExpandFault, expand};
 use name_store::Names;
@@ -162,7 +162,13 @@ fn rows_of<R: Reads>(
     ensures cause { HasFaultCause (R.faults space.old) (R.faults space.new) result }
 {
     match hop.what.labels.as_slice() {
-        [label] => rows_of_type(alloc, space, names, &hop.what, &hop.guess, label, id),
+        [label] => {
+            let name = SoughtName {
+                text: label.as_bytes(),
+                guess: &hop.guess,
+            };
+            rows_of_type(alloc, space, names, &hop.what, &name, id)
+        }
         labels => rows_of_types(alloc, space, names, &hop.what, labels, id),
     }
 }
@@ -173,11 +179,10 @@ fn rows_of_type<R: Reads>(
     space: &mut R,
     names: &Names,
     hop: &Hop,
-    guess: &Guess,
-    label: &Text,
+    label: &SoughtName,
     id: u32,
 ) -> Result<Vec<EdgeRow>, Fault>
-    requires { hop.now.labels ≡ label.now ∷ [] }
+    requires { hop.now.labels ≡ label.now.text.now ∷ [] }
     ensures found { R.tells
         → IsNamedStore (R.state space.old).records (R.state space.old).shape names.now.names
         → IfOk result (λ rows. AreRowsOf (R.state space.old).records rows.items
@@ -191,7 +196,7 @@ fn rows_of_type<R: Reads>(
     ensures read { IsRead R.Reads space.old space.new }
     ensures cause { HasFaultCause (R.faults space.old) (R.faults space.new) result }
 {
-    match number_of(space, names, guess, label.as_bytes()) {
+    match number_of(space, names, label.guess, label.text) {
         Some(number) => rows_by(alloc, space, hop, id, &[number]),
         None => Ok(Vec::new(alloc)),
     }

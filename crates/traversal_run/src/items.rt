@@ -14,7 +14,7 @@ use crate::{Next, Run};
 use name_store::Names;
 use plain_graph::{Item, Query};
 use prop_index::LookupFault;
-use rec_bytes::{Damage, Fault, Reads};
+use rec_bytes::{Fault, Reads};
 use std::alloc::Global;
 
 /// All results of a query, in a list. Where a count would pass the greatest number of a value, the

@@ -1,5 +1,6 @@
 ghost use Rattle.std.specs.Prelude.{◌≡◌, ◌++◌, [], ◌∷◌, IfOk, IfSome, OnOk, map};
-ghost use Rattle.plain_graph.specs.Meaning.{Ranked as Place, ranks_below};
+ghost use Rattle.std.specs.List.{cons_option};
+ghost use Rattle.plain_graph.specs.Meaning.{Ranked as Place, ranked_if, ranks_below};
 ghost use Rattle.plain_graph.specs.Sorting.{sorted};
 ghost use Rattle.traversal_run.specs.Kept.{
   number_place,
@@ -71,6 +72,16 @@ impl Kept {
         }
         self.others.push(ranked)?;
         Ok(())
+    }
+
+    /// Keeps an item that has a rank. One that has none gets no place in the order.
+    pub(crate) fn keep(&mut self, rank: Option<Value>, item: Shown) -> Result<(), AllocError>
+        ensures { OnOk result (self.new ≡ self.old ++ cons_option (ranked_if rank item) []) }
+    {
+        match rank {
+            Some(rank) => self.push(Ranked { rank, item }),
+            None => Ok(()),
+        }
     }
 
     /// Takes all in order. Those of one rank stay in the order in which they came.

@@ -1,4 +1,4 @@
-ghost use Rattle.std.specs.Prelude.{◌≡◌, ◌<◌, ◌+◌, ℕ, List, All, IfErr, IfOk, IfSome, OnOk};
+ghost use Rattle.std.specs.Prelude.{◌≡◌, ◌<◌, ◌+◌, All, IfErr, IfOk, IfSome, OnOk};
 ghost use Rattle.std.specs.Prelude.{find, length, map, nat_eq, nat_lt};
 ghost use Rattle.std.specs.FinMap as maps;
 ghost use Rattle.std.specs.List.{filter_map, list_all};
@@ -277,11 +277,11 @@ fn value_among<R: Reads>(
     let Some(number) = number_of(space, names, &Guess::new(), key) else {
         return Ok(None);
     };
-    numbered_value(alloc, props, number)
+    value_numbered(alloc, props, number)
 }
 
 /// The value of a key's number among these properties.
-fn numbered_value(alloc: Global, props: &[Prop], number: u32) -> Result<Option<Value>, AllocError>
+fn value_numbered(alloc: Global, props: &[Prop], number: u32) -> Result<Option<Value>, AllocError>
     requires kept { All (λ (prop : PropRow). IsKept prop.value) props.now }
     ensures found { IfOk result (λ value. value ≡ option_map (λ (prop : PropRow). prop.value)
         (find (λ (prop : PropRow). nat_eq prop.key number) props.now)) }

@@ -14,7 +14,7 @@ use crate::comparing::{is_related, is_text};
 use crate::elements::{label_of, value_of};
 use crate::key_values::several_values;
 use crate::shown::Shown;
-use crate::sought::{Guess, Sought};
+use crate::sought::{Sought, SoughtName};
 use crate::waiting::Waiting;
 use name_store::Names;
 use node_store::NodeRow;
@@ -43,33 +43,27 @@ pub(crate) fn passes<R: Reads>(
 {
     match &filter.what {
         Filter::Has(key) => {
-            let value = value_of(
-                alloc,
-                space,
-                names,
-                &filter.guess,
-                key.as_bytes(),
-                item,
-                row,
-            )?;
+            let name = SoughtName {
+                text: key.as_bytes(),
+                guess: &filter.guess,
+            };
+            let value = value_of(alloc, space, names, &name, item, row)?;
             Ok(value.is_some())
         }
         Filter::HasValue {
             key,
             relation,
             value,
-        } => match value_of(
-            alloc,
-            space,
-            names,
-            &filter.guess,
-            key.as_bytes(),
-            item,
-            row,
-        )? {
-            Some(own) => Ok(is_related(*relation, &own, value)),
-            None => Ok(false),
-        },
+        } => {
+            let name = SoughtName {
+                text: key.as_bytes(),
+                guess: &filter.guess,
+            };
+            match value_of(alloc, space, names, &name, item, row)? {
+                Some(own) => Ok(is_related(*relation, &own, value)),
+                None => Ok(false),
+            }
+        }
         Filter::HasLabel(labels) => match label_of(space, names, item, row)? {
             Some(label) => Ok(is_among(label, labels.as_slice())),
             None => Ok(false),
@@ -104,7 +98,13 @@ pub(crate) fn distinct_values<R: Reads>(
     ensures cause { HasFaultCause (R.faults space.old) (R.faults space.new) result }
 {
     match keys.what.as_slice() {
-        [key] => one_value(alloc, space, names, &keys.guess, key, item, row),
+        [key] => {
+            let name = SoughtName {
+                text: key.as_bytes(),
+                guess: &keys.guess,
+            };
+            one_value(alloc, space, names, &name, item, row)
+        }
         several => several_values(alloc, space, names, several, item, row),
     }
 }
@@ -114,8 +114,7 @@ fn one_value<R: Reads>(
     alloc: Global,
     space: &mut R,
     names: &Names,
-    guess: &Guess,
-    key: &Text,
+    key: &SoughtName,
     item: &Item,
     row: &Option<NodeRow>,
 ) -> Result<Waiting, Fault>
@@ -123,13 +122,13 @@ fn one_value<R: Reads>(
     ensures found { R.tells
         → IsNamedStore (R.state space.old).records (R.state space.old).shape names.now.names
         → IfOk result (λ value. value
-        ≡ distinct_values (graph_of (R.state space.old).records) (key.now ∷ []) item.now) }
+        ≡ distinct_values (graph_of (R.state space.old).records) (key.now.text.now ∷ []) item.now) }
     ensures damaged { R.tells → IfErr result
         (BlamesBroken (R.state space.old).records (R.state space.old).shape) }
     ensures read { IsRead R.Reads space.old space.new }
     ensures cause { HasFaultCause (R.faults space.old) (R.faults space.new) result }
 {
-    match value_of(alloc, space, names, guess, key.as_bytes(), item, row)? {
+    match value_of(alloc, space, names, key, item, row)? {
         Some(value) => { Ok(Waiting::one(alloc, Shown::value(value))) }
         None => Ok(Waiting::new(alloc)),
     }
@@ -181,7 +180,13 @@ pub(crate) fn rank<R: Reads>(
     ensures cause { HasFaultCause (R.faults space.old) (R.faults space.new) result }
 {
     match &key.what {
-        Some(text) => value_of(alloc, space, names, &key.guess, text.as_bytes(), item, row),
+        Some(text) => {
+            let name = SoughtName {
+                text: text.as_bytes(),
+                guess: &key.guess,
+            };
+            value_of(alloc, space, names, &name, item, row)
+        }
         None => {
             let rank = own_rank(alloc, item)?;
             Ok(Some(rank))

@@ -74,8 +74,8 @@ impl Row {
         ensures read { IsRead R.Reads space.old space.new }
         ensures cause { HasStopCause (R.faults space.old) (R.faults space.new) result }
     {
-        if let Stage::Count { so_far, told } = &mut self.stage {
-            return if count_all(alloc, so_far, *told, &mut self.waiting) {
+        if let Stage::Count { so_far, given } = &mut self.stage {
+            return if count_all(alloc, so_far, *given, &mut self.waiting) {
                 Ok(Waiting::new(alloc))
             } else {
                 Err(Stop::PastCount)
@@ -92,14 +92,14 @@ impl Row {
 }
 
 /// Counts all that wait, unless the count was given. It tells whether a value can say the count.
-fn count_all(alloc: Global, so_far: &mut Counter, told: bool, waiting: &mut Waiting) -> bool
-    ensures counted { result ≡ true → told ≡ false
+fn count_all(alloc: Global, so_far: &mut Counter, given: bool, waiting: &mut Waiting) -> bool
+    ensures counted { result ≡ true → given ≡ false
         → so_far.new ≡ so_far.old + length waiting.old }
-    ensures past { result ≡ false → (told ≡ false)
+    ensures past { result ≡ false → (given ≡ false)
         × (9223372036854775807 < so_far.old + length waiting.old) }
     ensures none { waiting.new ≡ [] }
 {
-    let fits = told || so_far.add(waiting.len());
+    let fits = given || so_far.add(waiting.len());
     *waiting = Waiting::new(alloc);
     fits
 }

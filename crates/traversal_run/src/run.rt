@@ -1,4 +1,4 @@
-ghost use Rattle.std.specs.Prelude.{◌≡◌, ◌≢◌, ◌↔◌, ℕ, Bool, IsTrue, [], ◌∷◌, ◌+◌, ◌<◌, ◌≤◌};
+ghost use Rattle.std.specs.Prelude.{◌≡◌, ◌↔◌, ℕ, Bool, IsTrue, [], ◌∷◌, ◌+◌, ◌<◌, ◌≤◌};
 ghost use Rattle.std.specs.Prelude.{length, take, drop, true, vec_len, None, Some, Ok, Err, IfErr};
 ghost use Rattle.std.specs.Prelude.{IfOk, OnOk, get_or};
 ghost use Rattle.plain_graph.specs.Forms.{IsShown};
@@ -200,7 +200,7 @@ fn feed_count<R: Reads>(
     requires idle { AreIdle rows.old }
     requires filters { are_filters (take count.at rows.old) ≡ true }
     requires counts { (any : Row)
-        → (get_or rows.old count.at any).stage ≡ Stage.Count count.so_far count.told }
+        → (get_or rows.old count.at any).stage ≡ Stage.Count count.so_far count.given }
     ensures same { R.tells
         → IsNamedStore (R.state space.old).records (R.state space.old).shape names.now.names
         → OnOk result (through (graph_of (R.state space.old).records)
@@ -220,11 +220,11 @@ fn feed_count<R: Reads>(
     ensures cause { HasStopCause (R.faults space.old) (R.faults space.new) result }
 {
     let at = count.at;
-    let told = count.told;
+    let given = count.given;
     let mut so_far = count.so_far;
     let fits = count_passing(alloc, space, names, source, &rows[..at], &mut so_far)?;
-    rows[at].stage = Stage::Count { so_far, told };
-    if fits | told {
+    rows[at].stage = Stage::Count { so_far, given };
+    if fits | given {
         Ok(())
     } else {
         Err(Stop::PastCount)

@@ -38,6 +38,13 @@ impl Guess {
     }
 }
 
+/// A name that is sought, with the number that it had last.
+#[derive(Clone, Copy)]
+pub(crate) struct SoughtName<'a> {
+    pub(crate) text: &'a [u8],
+    pub(crate) guess: &'a Guess,
+}
+
 /// What a step seeks, with the number that its name had last. Contracts see what it seeks.
 #[derive(Drop)]
 pub(crate) struct Sought<T> {

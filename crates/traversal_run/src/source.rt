@@ -14,7 +14,6 @@ ghost use Rattle.traversal_run.specs.FoundNodes.{HasIndexOf, IsSourceRefusal, Re
 ghost use Rattle.traversal_run.specs.HopRun.{HasOnly};
 ghost use Rattle.traversal_run.specs.Reading.{IsNamedStore, IsRead};
 ghost use Rattle.traversal_run.specs.Scan.{TakesVertex, vertices_from};
-ghost use Rattle.store_rules.specs.Rules.{IsWellFormed};
 ghost use Rattle.traversal_run.specs.Feeding.{Counts};
 ghost use Rattle.traversal_run.specs.Finding.{element_mark};
 ghost use Rattle.traversal_run.specs.Source.{

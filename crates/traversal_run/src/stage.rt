@@ -1,9 +1,8 @@
-ghost use Rattle.std.specs.Prelude.{◌≡◌, [], ◌++◌, IfErr, IfOk, OnOk, false, length};
+ghost use Rattle.std.specs.Prelude.{◌≡◌, [], ◌++◌, IfErr, IfOk, false, length};
 ghost use Rattle.std.specs.Prelude.{◌+◌, ◌-◌, ◌∷◌, ℕ, IfNone, IfSome, List, take};
 ghost use Rattle.plain_graph.specs.Graph.{Graph};
-ghost use Rattle.plain_graph.specs.Meaning.{ranked, unseen};
+ghost use Rattle.plain_graph.specs.Meaning.{unseen};
 ghost use Rattle.plain_graph.specs.declared.item.Item.{Item};
-ghost use Rattle.std.specs.List.{cons_option};
 ghost use Rattle.store_rules.specs.Graph.{graph_of};
 ghost use Rattle.rec_bytes.specs.Fault.{HasFaultCause};
 ghost use Rattle.prop_store.specs.Fault.{BlamesBroken};
@@ -23,7 +22,7 @@ ghost use Rattle.traversal_run.specs.Stage.{
 };
 
 use crate::counter::Counter;
-use crate::kept::{Kept, Ranked};
+use crate::kept::Kept;
 use crate::lookups::rank;
 use crate::mapping::{Mapping, mapped};
 use crate::seen::Seen;
@@ -46,7 +45,7 @@ pub(crate) enum Stage {
     /// How many items came, and whether that was given.
     Count {
         so_far: Counter,
-        told: bool,
+        given: bool,
     },
     /// How many items it still lets through.
     Limit {
@@ -57,7 +56,7 @@ pub(crate) enum Stage {
         key: Sought<Option<Text>>,
         descending: bool,
         kept: Kept,
-        told: bool,
+        given: bool,
     },
 }
 
@@ -104,7 +103,8 @@ impl Stage {
             Stage::Count { .. } => unreachable!(),
             Stage::Limit { left } => Ok(let_through(alloc, left, item)),
             Stage::Order { key, kept, .. } => {
-                keep(alloc, space, names, key, kept, item, row)?;
+                let rank = rank(alloc, space, names, key, item.as_item(), row)?;
+                kept.keep(rank, item)?;
                 Ok(Waiting::new(alloc))
             }
         }
@@ -138,42 +138,13 @@ fn let_through(alloc: Global, left: &mut u32, item: Shown) -> Waiting
     Waiting::one(alloc, item)
 }
 
-/// Keeps an item that has a place in the order.
-fn keep<R: Reads>(
-    alloc: Global,
-    space: &mut R,
-    names: &Names,
-    key: &Sought<Option<Text>>,
-    kept: &mut Kept,
-    item: Shown,
-    row: &Option<NodeRow>,
-) -> Result<(), Fault>
-    requires row { IsRowOf R.tells (R.state space.old).records item row.now }
-    ensures kept { R.tells
-        → IsNamedStore (R.state space.old).records (R.state space.old).shape names.now.names
-        → OnOk result (kept.new ≡ kept.old
-        ++ cons_option (ranked (graph_of (R.state space.old).records) key.now item) []) }
-    ensures damaged { R.tells → IfErr result
-        (BlamesBroken (R.state space.old).records (R.state space.old).shape) }
-    ensures read { IsRead R.Reads space.old space.new }
-    ensures cause { HasFaultCause (R.faults space.old) (R.faults space.new) result }
-{
-    match rank(alloc, space, names, key, item.as_item(), row)? {
-        Some(rank) => {
-            kept.push(Ranked { rank, item })?;
-            Ok(())
-        }
-        None => Ok(()),
-    }
-}
-
 impl Stage {
     /// Whether it gives more once nothing more comes to it.
     pub(crate) fn is_open(&self) -> bool
         ensures { result ≡ is_open self.now }
     {
         match self {
-            Stage::Count { told, .. } | Stage::Order { told, .. } => !*told,
+            Stage::Count { given, .. } | Stage::Order { given, .. } => !*given,
             _ => false,
         }
     }
@@ -208,18 +179,18 @@ impl Stage {
         ensures counts { is_count self.new ≡ is_count self.old }
     {
         match self {
-            Stage::Count { so_far, told } if !*told => {
-                *told = true;
+            Stage::Count { so_far, given } if !*given => {
+                *given = true;
                 let number = so_far.number();
                 Ok(Waiting::one(alloc, Shown::number(number)))
             }
             Stage::Order {
                 descending,
                 kept,
-                told,
+                given,
                 ..
-            } if !*told => {
-                *told = true;
+            } if !*given => {
+                *given = true;
                 let outs = kept.take_ordered(alloc, *descending)?;
                 Ok(outs)
             }

@@ -68,7 +68,7 @@ fn push_step(alloc: Global, rows: &mut Vec<Row>, step: &Step) -> Result<(), Allo
                 rows,
                 Stage::Count {
                     so_far,
-                    told: false,
+                    given: false,
                 },
             )
         }
@@ -83,7 +83,7 @@ fn push_step(alloc: Global, rows: &mut Vec<Row>, step: &Step) -> Result<(), Allo
                     key: Sought::new(key),
                     descending: *descending,
                     kept,
-                    told: false,
+                    given: false,
                 },
             )
         }

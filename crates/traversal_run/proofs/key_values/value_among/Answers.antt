@@ -19,4 +19,4 @@ returns-clause-found g c = λ store properties read.
     ∙ find-read c.in-Some.number read.es
     ∙ value_is s.records s.shape store.store properties read.es read.known read.are c.args.key.now c.in-Some.number c.in-Some.ensures.below
     (c.in-Some.ensures.finds store) in
-    subst (λ (it : Option Value). IfOk c.numbered_value.result (λ value. value ≡ it)) is c.numbered_value.ensures.found
+    subst (λ (it : Option Value). IfOk c.value_numbered.result (λ value. value ≡ it)) is c.value_numbered.ensures.found

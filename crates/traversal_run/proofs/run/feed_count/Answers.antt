@@ -6,30 +6,30 @@ use Rattle.traversal_run.proofs.Causes.{fault_stop_cause, fault_stop_has, fault_
 use Rattle.traversal_run.proofs.FilteredCounts.{fed_count, fed_count_past, one_counts, one_still_counts}
 use Rattle.traversal_run.proofs.run.feed_count.Goals as goal
 
-pub returns-then-fits-told-clause-same : goal.returns-then-fits-told-clause-same
-returns-then-fits-told-clause-same g c = λ tells store.
+pub returns-then-fits-given-clause-same : goal.returns-then-fits-given-clause-same
+returns-then-fits-given-clause-same g c = λ tells store.
     let graph = graph_of (g.R.Reads.state c.args.space.now).records in
     let count = c.args.count in
-    fed_count graph c.args.rows.now count.at count.so_far c.count_passing.new.so_far count.told c.in_ok-fits.fits c.requires.within c.requires.idle
+    fed_count graph c.args.rows.now count.at count.so_far c.count_passing.new.so_far count.given c.in_ok-fits.fits c.requires.within c.requires.idle
     c.requires.filters c.index-rows-at.result c.index-rows-at.result (left_of graph c.args.source.now) (left_of graph c.count_passing.new.source)
-    (c.requires.counts c.index-rows-at.result) (c.in_ok-fits.ensures.counts tells store) c.if-fits-told.true (c.in_ok-fits.ensures.over graph)
+    (c.requires.counts c.index-rows-at.result) (c.in_ok-fits.ensures.counts tells store) c.if-fits-given.true (c.in_ok-fits.ensures.over graph)
 
-pub returns-then-fits-told-clause-counts : goal.returns-then-fits-told-clause-counts
-returns-then-fits-told-clause-counts g c =
+pub returns-then-fits-given-clause-counts : goal.returns-then-fits-given-clause-counts
+returns-then-fits-given-clause-counts g c =
     let count = c.args.count in
     let any = c.index-rows-at.result in (
-      one_counts c.args.rows.now count.at any count.so_far count.told c.requires.within (c.requires.counts any),
+      one_counts c.args.rows.now count.at any count.so_far count.given c.requires.within (c.requires.counts any),
       one_still_counts c.args.rows.now count.at any
-          c.count_passing.new.so_far count.told c.requires.within,
+          c.count_passing.new.so_far count.given c.requires.within,
     )
 
-pub returns-else-fits-told-clause-stops : goal.returns-else-fits-told-clause-stops
-returns-else-fits-told-clause-stops g c = λ tells store.
+pub returns-else-fits-given-clause-stops : goal.returns-else-fits-given-clause-stops
+returns-else-fits-given-clause-stops g c = λ tells store.
     let graph = graph_of (g.R.Reads.state c.args.space.now).records in
     let count = c.args.count in
-    fed_count_past graph c.args.rows.now count.at count.so_far c.count_passing.new.so_far count.told c.in_ok-fits.fits c.requires.within c.requires.idle
+    fed_count_past graph c.args.rows.now count.at count.so_far c.count_passing.new.so_far count.given c.in_ok-fits.fits c.requires.within c.requires.idle
     c.requires.filters c.index-rows-at.result (left_of graph c.args.source.now)
-    (c.requires.counts c.index-rows-at.result) (c.in_ok-fits.ensures.counts tells store) c.if-fits-told.false
+    (c.requires.counts c.index-rows-at.result) (c.in_ok-fits.ensures.counts tells store) c.if-fits-given.false
 
 pub returns-in_err-fits-clause-same : goal.returns-in_err-fits-clause-same
 returns-in_err-fits-clause-same g c _ _ = never_ok c.from_residual.result _ _ c.from_residual.ensures.1

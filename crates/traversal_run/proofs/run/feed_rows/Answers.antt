@@ -21,7 +21,7 @@ returns-clause-near g c = λ tells store d most degrees near.
     let rows = c.args.rows.now in
     let count = c.in-Some.count in
     let any = limit_row 0 [] in
-    let one = one_counts rows count.at any count.so_far count.told c.in-Some.ensures.some.1 (c.in-Some.ensures.counts any) in
+    let one = one_counts rows count.at any count.so_far count.given c.in-Some.ensures.some.1 (c.in-Some.ensures.counts any) in
     let none = plain_no_count rows near.plain in
     absurd cc
 

@@ -27,7 +27,7 @@ returns-in_ok-outs-in-Some-clause-limit g c = λ most item is.
 
 pub returns-then-count_all-clause-advances : goal.returns-then-count_all-clause-advances
 returns-then-count_all-clause-advances g c = λ tells store coming.
-    counts_row (graph_of (g.R.Reads.state c.args.space.now).records) c.args.self.now.stage c.in-Count.told c.in-Count.so_far c.count_all.new.so_far
+    counts_row (graph_of (g.R.Reads.state c.args.space.now).records) c.args.self.now.stage c.in-Count.given c.in-Count.so_far c.count_all.new.so_far
     c.args.self.now.waiting c.count_all.new.waiting coming c.new.result
     c.in-Count.is c.new.ensures (c.count_all.ensures.counted c.if-count_all.true) c.count_all.ensures.none
 
@@ -35,7 +35,7 @@ pub returns-else-count_all-clause-stops : goal.returns-else-count_all-clause-sto
 returns-else-count_all-clause-stops g c = λ tells store coming.
     let past = c.count_all.ensures.past c.if-count_all.false in
     ap (λ (stage : Stage). counts_past stage (c.args.self.now.waiting ++ coming)) c.in-Count.is
-    ∙ passes_all c.in-Count.so_far c.in-Count.told c.args.self.now.waiting past.0 past.1 coming
+    ∙ passes_all c.in-Count.so_far c.in-Count.given c.args.self.now.waiting past.0 past.1 coming
 
 pub returns-in_ok-outs-in-Some-clause-advances : goal.returns-in_ok-outs-in-Some-clause-advances
 returns-in_ok-outs-in-Some-clause-advances g c = λ tells store coming.
