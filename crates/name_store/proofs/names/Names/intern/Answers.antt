@@ -1,4 +1,4 @@
-use Rattle.std.proofs.Common.{◌≡◌, ◌<◌, ◌∷◌, [], ◌++◌, slice_get, length, inl, ap, sym, subst, ◌∙◌, refl, arith}
+use Rattle.std.proofs.Common.{◌≡◌, ◌<◌, ◌∷◌, [], ◌++◌, slice_get, length, inl, ap, sym, subst, ◌∙◌, refl, arith, inr}
 use Rattle.rec_bytes.specs.Format as format
 use Rattle.rec_bytes.specs.Space.{State}
 use Rattle.store_rules.specs.Graph.{names_of}
@@ -6,6 +6,7 @@ use Rattle.store_rules.specs.Rules.{AreAllLive}
 use Rattle.name_store.specs.Interning.{named}
 use Rattle.name_store.proofs.FirstNames.{contains_at, slice_get-push_last}
 use Rattle.name_store.proofs.NamedStore.{interned-known, interned-new, live-named, names_of-named}
+use Rattle.rec_bytes.proofs.Causes.{never_ok}
 use Rattle.name_store.proofs.names.Names.intern.Goals as goal
 
 pub returns-in-Some-clause-ok : goal.returns-in-Some-clause-ok
@@ -50,3 +51,50 @@ returns-clause-live g c = λ tells live.
     let s = g.S.Reads.state c.args.space.now in
     subst (λ (t : State). AreAllLive t.records format.names_file) (sym (c.in_ok-write_name.ensures.ok tells))
     (live-named s c.count-id.result c.args.text.now live)
+
+pub returns-clause-known : goal.returns-clause-known
+returns-clause-known g c has = absurd (c.in_default.ensures.none has)
+
+pub returns-in_err-write_name-clause-known : goal.returns-in_err-write_name-clause-known
+returns-in_err-write_name-clause-known g c has = absurd (c.in_default.ensures.none has)
+
+pub returns-clause-full : goal.returns-clause-full
+returns-clause-full g c all lacks = absurd (omega (arith, all, c.count-id.ensures.value, c.if-id-eq-MOST_NAMES.false))
+
+pub returns-in_err-write_name-clause-full : goal.returns-in_err-write_name-clause-full
+returns-in_err-write_name-clause-full g c all lacks = absurd (omega (arith, all, c.count-id.ensures.value, c.if-id-eq-MOST_NAMES.false))
+
+pub returns-clause-onward : goal.returns-clause-onward
+returns-clause-onward g c = c.write_name.ensures.onward
+
+pub returns-in_err-write_name-clause-onward : goal.returns-in_err-write_name-clause-onward
+returns-in_err-write_name-clause-onward g c = c.write_name.ensures.onward
+
+pub returns-clause-full_only : goal.returns-clause-full_only
+returns-clause-full_only g c = tt
+
+pub returns-clause-err : goal.returns-clause-err
+returns-clause-err g c = tt
+
+pub returns-in_err-write_name-clause-ok : goal.returns-in_err-write_name-clause-ok
+returns-in_err-write_name-clause-ok g c _ = never_ok c.from_residual.result _ _ c.from_residual.ensures.1
+
+pub returns-in_err-write_name-clause-names : goal.returns-in_err-write_name-clause-names
+returns-in_err-write_name-clause-names g c = never_ok c.from_residual.result _ _ c.from_residual.ensures.1
+
+pub returns-in_err-write_name-clause-number : goal.returns-in_err-write_name-clause-number
+returns-in_err-write_name-clause-number g c = never_ok c.from_residual.result _ _ c.from_residual.ensures.1
+
+pub returns-in_err-write_name-clause-named : goal.returns-in_err-write_name-clause-named
+returns-in_err-write_name-clause-named g c _ = never_ok c.from_residual.result _ _ c.from_residual.ensures.1
+
+pub returns-in_err-write_name-clause-live : goal.returns-in_err-write_name-clause-live
+returns-in_err-write_name-clause-live g c _ = never_ok c.from_residual.result _ _ c.from_residual.ensures.1
+
+pub returns-clause-names : goal.returns-clause-names
+returns-clause-names g c =
+    inr (
+      c.in_default.ensures.none,
+      c.push_reserved.ensures ∙ ap (λ ns. ns ++ c.in-Ok.name.items ∷ []) c.reserve.ensures.names
+          ∙ ap (λ name. c.args.self.now.names ++ name ∷ []) c.in-Ok.ensures.text,
+    )
