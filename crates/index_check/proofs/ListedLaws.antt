@@ -1,4 +1,4 @@
--- The records of heads and the entries of all definitions, by the lists that were marked.
+-- The records of heads and the entries of all definitions, by the lists that were seen.
 use Rattle.std.proofs.Common.{◌≡◌, ◌≢◌, ◌⊎◌, ℕ, ◌+◌, ◌*◌, ◌/◌, ◌%◌, ◌<◌, Bool, true, false, List, [], ◌∷◌, length}
 use Rattle.std.proofs.Common.{get_or, sym, ap, ◌∙◌, subst, inl, inr, ⊎_elim, arith, refl}
 use Rattle.std.specs.Prelude.{⊤}
@@ -6,7 +6,7 @@ use Rattle.std.specs.Bool.{Decides}
 use Rattle.std.proofs.lemmas.Bool.{cases_Bool, true≢false}
 use Rattle.rec_bytes.specs.Format as format
 use Rattle.record_lists.specs.Heads.{AmongHeads, AtHead, HeadKeeps, IsOnce, IsTwice}
-use Rattle.record_lists.specs.Marks.{is_among, marked}
+use Rattle.record_lists.specs.Seen.{is_among, is_seen}
 use Rattle.record_lists.proofs.LiveLaws.{live_below}
 use Rattle.record_lists.proofs.LineLaws.{among_from_in, in_from_among}
 use Rattle.store_rules.specs.Breaking.{damage}
@@ -23,7 +23,7 @@ use Rattle.store_rules.proofs.OnceLaws.{once_walk}
 use Rattle.index_check.specs.Buckets.{AreItsEntries}
 use Rattle.index_check.specs.Definitions.{definition_of}
 use Rattle.index_check.specs.HeadRecords.{IsHeadItem}
-use Rattle.index_check.specs.Indexing.{AreAllHeld, AreAllMarked, IsRight}
+use Rattle.index_check.specs.Indexing.{AreAllHeld, AreAllSeen, IsRight}
 use Rattle.index_check.proofs.PlaceLaws.{in_place, many_of, many_place, many_same, place_of, place_once, twelve_of, twelve_place, twelve_same}
 
 abbrev pub Always : ℕ → Type 0
@@ -102,12 +102,12 @@ module _ (records : Records) (ids : List ℕ) (are : AreDefinitions records ids)
   no_heads k lt bad = WrongDefinition (head_definition k) (among (head_definition k) (head_in k lt)) (λ keeps. bad (head_kept k lt keeps))
 
   -- a record of heads that is met twice
-  pub head_twice : (marks : List Bool) → ((p : ℕ) → marked marks p ≡ is_among ids p) → (p : ℕ) → IsTwice Always HeadLists (12 * length ids) marks p
+  pub head_twice : (seen : List Bool) → ((p : ℕ) → is_seen seen p ≡ is_among ids p) → (p : ℕ) → IsTwice Always HeadLists (12 * length ids) seen p
       → IndexBreaks records (damage format.index_file p 8)
-  head_twice marks told p t =
+  head_twice seen told p t =
       let now = head_of t.head p t.below t.here in
       WrongHead p (λ keeps. ⊎_elim
-      (λ (m : marked marks p ≡ true). not_defined p format.heads (λ e. absurd (omega arith)) now.1 (in_from_among p ids (sym (told p) ∙ m)))
+      (λ (m : is_seen seen p ≡ true). not_defined p format.heads (λ e. absurd (omega arith)) now.1 (in_from_among p ids (sym (told p) ∙ m)))
       (λ (a : AmongHeads Always HeadLists t.head p).
       let below : a.id < t.head = a.below in
       let under : t.head < 12 * length ids = t.below in
@@ -201,13 +201,13 @@ module _ (records : Records) (ids : List ℕ) (are : AreDefinitions records ids)
       (λ keeps. bad (record { list = λ _. keeps.buckets (k % 180) (many_place (length ids) k lt).1 }))
 
   -- an entry that is met twice
-  pub entry_twice : (marks : List Bool) → ((p : ℕ) → marked marks p ≡ true → (In p ids) ⊎ AmongHeads Always HeadLists (12 * length ids) p)
-      → (x : ℕ) → IsTwice Always BucketLists (180 * length ids) marks x → IndexBreaks records (damage format.index_file x 8)
-  entry_twice marks told x t =
+  pub entry_twice : (seen : List Bool) → ((p : ℕ) → is_seen seen p ≡ true → (In p ids) ⊎ AmongHeads Always HeadLists (12 * length ids) p)
+      → (x : ℕ) → IsTwice Always BucketLists (180 * length ids) seen x → IndexBreaks records (damage format.index_file x 8)
+  entry_twice seen told x t =
       let now = entry_at t.head x t.below t.here in
       let kind = now.list.kind x now.member in
       WrongEntry x (λ keeps. ⊎_elim
-      (λ (m : marked marks x ≡ true). ⊎_elim
+      (λ (m : is_seen seen x ≡ true). ⊎_elim
       (λ (i : In x ids). not_defined x format.indexed (λ e. absurd (omega arith)) kind i)
       (λ (a : AmongHeads Always HeadLists (12 * length ids) x). let other = (head_of a.id x a.below a.here).1 in let both = sym kind ∙ other in absurd
       (omega arith))
@@ -251,15 +251,15 @@ module _ (records : Records) (ids : List ℕ) (are : AreDefinitions records ids)
         let m = bucket_number_of e k x too in
         sym n.0.definition ∙ ap bucket_definition (once x n.0.number m.0.number n.0.below m.0.below n.1 m.1) ∙ m.0.definition
 
-    pub all_told : (old mid new : List Bool) → ((p : ℕ) → marked old p ≡ is_among ids p)
+    pub all_told : (old mid new : List Bool) → ((p : ℕ) → is_seen old p ≡ is_among ids p)
         → ((k : ℕ) → k < 12 * length ids → HeadKeeps Always HeadLists k)
-        → ((p : ℕ) → Decides (marked mid p) ((marked old p ≡ true) ⊎ AmongHeads Always HeadLists (12 * length ids) p))
-        → ((p : ℕ) → Decides (marked new p) ((marked mid p ≡ true) ⊎ AmongHeads Always BucketLists (180 * length ids) p))
-        → (x : ℕ) → Decides (marked new x) (IsOfAnIndex records x)
+        → ((p : ℕ) → Decides (is_seen mid p) ((is_seen old p ≡ true) ⊎ AmongHeads Always HeadLists (12 * length ids) p))
+        → ((p : ℕ) → Decides (is_seen new p) ((is_seen mid p ≡ true) ⊎ AmongHeads Always BucketLists (180 * length ids) p))
+        → (x : ℕ) → Decides (is_seen new x) (IsOfAnIndex records x)
     all_told old mid new first has then last x = (
       (λ m. ⊎_elim
-          (λ (k : marked mid x ≡ true). ⊎_elim
-          (λ (o : marked old x ≡ true). Defines (among x (in_from_among x ids (sym (first x) ∙ o))))
+          (λ (k : is_seen mid x ≡ true). ⊎_elim
+          (λ (o : is_seen old x ≡ true). Defines (among x (in_from_among x ids (sym (first x) ∙ o))))
           (λ (a : AmongHeads Always HeadLists (12 * length ids) x). heads_among has x a)
           ((then x).0 k))
           (λ (a : AmongHeads Always BucketLists (180 * length ids) x). Enters (bucket_definition a.id) (a.id % 180) (entry_at a.id x a.below a.here))
@@ -267,23 +267,23 @@ module _ (records : Records) (ids : List ℕ) (are : AreDefinitions records ids)
       (λ of. by of),
     )
       where
-        by : IsOfAnIndex records x → marked new x ≡ true
+        by : IsOfAnIndex records x → is_seen new x ≡ true
         by (Defines a) = (last x).1 (inl ((then x).1 (inl (first x ∙ among_from_in x ids (listed x a)))))
         by (Heads d c a) = (last x).1 (inl ((then x).1 (inr (among_heads has d c x a))))
         by (Enters d c at) = let n = bucket_number_of d c x at in (last x).1 (inr (record { id = n.0.number; below = n.0.below; here = n.1 }))
 
--- a record in use without a mark is of no index
-pub left_over : (records : Records) (ids : List ℕ) (marks : List Bool) → AreAllMarked records ids marks → (x : ℕ)
-    → ((is_live records format.index_file x ≡ true → marked marks x ≡ true) → ⊥) → IndexBreaks records (damage format.index_file x 8)
-left_over records ids marks all x bad = ⊎_elim
+-- a record in use that was not seen is of no index
+pub left_over : (records : Records) (ids : List ℕ) (seen : List Bool) → AreAllSeen records ids seen → (x : ℕ)
+    → ((is_live records format.index_file x ≡ true → is_seen seen x ≡ true) → ⊥) → IndexBreaks records (damage format.index_file x 8)
+left_over records ids seen all x bad = ⊎_elim
     (λ (live : is_live records format.index_file x ≡ true). LeftOver x live (λ of. bad (λ _. (all.told x).1 of)))
     (λ (free : is_live records format.index_file x ≡ false). absurd (bad (λ live. absurd (true≢false (sym live ∙ free)))))
     (cases_Bool (is_live records format.index_file x))
 
 -- and where each record in use has one, it is of an index
-pub all_held : (records : Records) (ids : List ℕ) (marks : List Bool) → AreAllMarked records ids marks
-    → ((x : ℕ) → x < high records format.index_file → is_live records format.index_file x ≡ true → marked marks x ≡ true) → AreAllHeld records ids
-all_held records ids marks all each = record {
+pub all_held : (records : Records) (ids : List ℕ) (seen : List Bool) → AreAllSeen records ids seen
+    → ((x : ℕ) → x < high records format.index_file → is_live records format.index_file x ≡ true → is_seen seen x ≡ true) → AreAllHeld records ids
+all_held records ids seen all each = record {
   listed = all.listed;
   held = λ x live. (all.told x).0 (each x (live_below records format.index_file x live) live);
 }

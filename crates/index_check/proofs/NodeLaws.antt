@@ -1,9 +1,9 @@
--- Marks of the nodes of entries, and numbers that come twice.
+-- Which nodes of entries are seen, and numbers that come twice.
 use Rattle.std.proofs.Common.{◌≡◌, ◌≢◌, ℕ, zero, suc, ◌+◌, ◌<◌, Bool, true, false, ◌||◌, List, [], ◌∷◌, ◌++◌, length}
 use Rattle.std.proofs.Common.{map, take, get_or, nat_eq, sym, ap, ◌∙◌, subst, inl, inr, arith, refl}
 use Rattle.std.proofs.lemmas.Bool.{true≢false}
 use Rattle.std.proofs.lemmas.List.{take_more}
-use Rattle.record_lists.specs.Marks.{is_among}
+use Rattle.record_lists.specs.Seen.{is_among}
 use Rattle.record_lists.proofs.LineLaws.{among_from_in, in_from_among}
 use Rattle.store_rules.specs.Chains.{In}
 use Rattle.store_rules.specs.Properties.{AreOnce}

@@ -4,7 +4,7 @@ use Rattle.std.specs.Bool.{Decides}
 use Rattle.plain_graph.specs.declared.value.Value.{Value}
 use Rattle.rec_bytes.specs.declared.damage.Damage.{Damage}
 use Rattle.rec_bytes.specs.Format as format
-use Rattle.record_lists.specs.Marks.{marked}
+use Rattle.record_lists.specs.Seen.{is_seen}
 use Rattle.store_rules.specs.Chains.{In}
 use Rattle.store_rules.specs.IndexBreaking.{HeadRecordKeeps, IndexBreaks, IsAmongDefinitions}
 use Rattle.store_rules.specs.IndexBreaking.{IsBucketList, IsEntered, IsInBucket, IsOfAnIndex}
@@ -51,10 +51,10 @@ pub record AreAllListed (records : Records) (ids : List ℕ) : Type 0 where
   pub head_once : (h : ℕ) → HeadRecordKeeps records h
   pub entry_once : (d b e c x : ℕ) → IsInBucket records d b x → IsInBucket records e c x → d ≡ e
 
--- besides, just these records and the definitions are marked
-pub record AreAllMarked (records : Records) (ids : List ℕ) (marks : List Bool) : Type 0 where
+-- besides, just these records and the definitions are seen
+pub record AreAllSeen (records : Records) (ids : List ℕ) (seen : List Bool) : Type 0 where
   pub listed : AreAllListed records ids
-  pub told : (x : ℕ) → Decides (marked marks x) (IsOfAnIndex records x)
+  pub told : (x : ℕ) → Decides (is_seen seen x) (IsOfAnIndex records x)
 
 -- besides, each record in use is one of them
 pub record AreAllHeld (records : Records) (ids : List ℕ) : Type 0 where

@@ -93,7 +93,7 @@ impl<'a> Heads for Buckets<'a> {
 
     ghost suits = { λ buckets. AreIdsLow buckets.ids.now buckets.records };
 
-    ghost mark = { λ buckets. 180 * length buckets.ids.now };
+    ghost count = { λ buckets. 180 * length buckets.ids.now };
 
     ghost bound = { λ buckets. buckets.records };
 

@@ -7,7 +7,7 @@ ghost use Rattle.rec_bytes.specs.Format.{index_file, most_ids};
 ghost use Rattle.rec_bytes.specs.Frame.{IsRead};
 ghost use Rattle.rec_bytes.specs.Space.{HasCause};
 ghost use Rattle.record_lists.specs.Deciding.{AreMarksLow, DecidesRule};
-ghost use Rattle.record_lists.specs.Marks.{is_among, marked};
+ghost use Rattle.record_lists.specs.Seen.{is_among, is_seen};
 ghost use Rattle.store_rules.specs.Chains.{In};
 ghost use Rattle.store_rules.specs.IndexBreaking.{AreDefinitions};
 ghost use Rattle.store_rules.specs.Indexes.{AreIndexed, wanted_in};
@@ -16,7 +16,7 @@ ghost use Rattle.store_rules.specs.Views.{high};
 ghost use Rattle.index_check.specs.Definitions.{definition_at};
 ghost use Rattle.index_check.specs.Indexing.{
   AreAllHeld,
-  AreAllMarked,
+  AreAllSeen,
   BreaksIndexRule,
   DecidesIndexRule,
   IsGiven,
@@ -29,7 +29,7 @@ use crate::definitions::{Definition, find_definitions, find_twin, read_definitio
 use crate::head_records::HeadRecords;
 use crate::index::{broken, check_index};
 use rec_bytes::{DEFINITION_HEAD_COUNT, Damage, Fault, INDEX, META, NIL, Reads, SpaceFault};
-use record_lists::{Broke, find_unmarked, list_heads, marks_of};
+use record_lists::{Broke, find_unseen, list_heads, seen_of};
 use std::alloc::Global;
 
 /// The definition at a place among these; there is one where the space tells.
@@ -42,25 +42,25 @@ fn named_at(ids: &[u32], at: u32) -> u32
     }
 }
 
-/// Marks the records of heads and the entries of these definitions, or finds what breaks the eighth
+/// Sees the records of heads and the entries of these definitions, or finds what breaks the eighth
 /// rule of them.
-fn mark_lists<R: Reads>(
+fn see_lists<R: Reads>(
     alloc: Global,
     space: &mut R,
     ids: &[u32],
-    marks: &mut [bool],
+    seen: &mut [bool],
 ) -> Result<Option<Damage>, SpaceFault>
     requires few { length ids.now ≤ 16 }
     requires ids { All (λ x. x < most_ids) ids.now }
     requires low { AreMarksLow (R.state space.old).records }
-    requires marks { length marks.old ≡ high (R.state space.old).records index_file }
-    requires told { (p : ℕ) → marked marks.old p ≡ is_among ids.now p }
+    requires seen { length seen.old ≡ high (R.state space.old).records index_file }
+    requires told { (p : ℕ) → is_seen seen.old p ≡ is_among ids.now p }
     requires listed { R.tells → AreDefinitions (R.state space.old).records ids.now }
     ensures right { R.tells → IfOk result (λ found. IfNone found
-        (AreAllMarked (R.state space.old).records ids.now marks.new)) }
+        (AreAllSeen (R.state space.old).records ids.now seen.new)) }
     ensures broken { R.tells → IfOk result (λ found. IfSome found
         (BreaksIndexRule (R.state space.old).records)) }
-    ensures len { length marks.new ≡ length marks.old }
+    ensures len { length seen.new ≡ length seen.old }
     ensures read { IsRead R.Reads space.old space.new }
     ensures cause { HasCause (R.faults space.old) (R.faults space.new) result }
 {
@@ -68,14 +68,14 @@ fn mark_lists<R: Reads>(
     let count = ids.len() as u32;
     let heads = HeadRecords { ids, records };
     let twelve = DEFINITION_HEAD_COUNT as u32;
-    match list_heads(alloc, space, &heads, twelve * count, marks)? {
+    match list_heads(alloc, space, &heads, twelve * count, seen)? {
         Some(Broke::Head(id)) => return Ok(Some(broken(INDEX, named_at(ids, id / twelve)))),
         Some(Broke::Item(id)) => return Ok(Some(broken(INDEX, id))),
         None => {}
     }
     let buckets = Buckets { ids, records };
     let number = BUCKETS as u32;
-    match list_heads(alloc, space, &buckets, number * count, marks)? {
+    match list_heads(alloc, space, &buckets, number * count, seen)? {
         Some(Broke::Head(id)) => Ok(Some(broken(INDEX, named_at(ids, id / number)))),
         Some(Broke::Item(id)) => Ok(Some(broken(INDEX, id))),
         None => Ok(None),
@@ -83,18 +83,18 @@ fn mark_lists<R: Reads>(
 }
 
 /// Finds what breaks the eighth rule of the lists of these definitions, or a record in use that is
-/// in none of them, with marks of the definitions.
-fn check_marked<R: Reads>(
+/// in none of them, with the definitions seen.
+fn check_seen<R: Reads>(
     alloc: Global,
     space: &mut R,
     ids: &[u32],
-    marks: &mut [bool],
+    seen: &mut [bool],
 ) -> Result<Option<Damage>, SpaceFault>
     requires few { length ids.now ≤ 16 }
     requires ids { All (λ x. x < most_ids) ids.now }
     requires low { AreMarksLow (R.state space.old).records }
-    requires marks { length marks.old ≡ high (R.state space.old).records index_file }
-    requires told { (p : ℕ) → marked marks.old p ≡ is_among ids.now p }
+    requires seen { length seen.old ≡ high (R.state space.old).records index_file }
+    requires told { (p : ℕ) → is_seen seen.old p ≡ is_among ids.now p }
     requires listed { R.tells → AreDefinitions (R.state space.old).records ids.now }
     ensures right { R.tells → IfOk result (λ found. IfNone found
         (AreAllHeld (R.state space.old).records ids.now)) }
@@ -103,10 +103,10 @@ fn check_marked<R: Reads>(
     ensures read { IsRead R.Reads space.old space.new }
     ensures cause { HasCause (R.faults space.old) (R.faults space.new) result }
 {
-    if let Some(damage) = mark_lists(alloc, space, ids, marks)? {
+    if let Some(damage) = see_lists(alloc, space, ids, seen)? {
         return Ok(Some(damage));
     }
-    match find_unmarked(space, INDEX, marks)? {
+    match find_unseen(space, INDEX, seen)? {
         Some(id) => Ok(Some(broken(INDEX, id))),
         None => Ok(None),
     }
@@ -130,10 +130,10 @@ fn check_lists<R: Reads>(
     ensures read { IsRead R.Reads space.old space.new }
     ensures cause { HasCause (R.faults space.old) (R.faults space.new) result }
 {
-    let Ok(mut marks) = marks_of(alloc, space.meta(INDEX).high as usize, ids) else {
+    let Ok(mut seen) = seen_of(alloc, space.meta(INDEX).high as usize, ids) else {
         return Err(SpaceFault::Memory);
     };
-    check_marked(alloc, space, ids, &mut marks)
+    check_seen(alloc, space, ids, &mut seen)
 }
 
 /// Finds what breaks the eighth rule of the entries and the nodes of these definitions.

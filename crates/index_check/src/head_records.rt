@@ -71,7 +71,7 @@ impl<'a> Heads for HeadRecords<'a> {
 
     ghost suits = { λ heads. AreIdsLow heads.ids.now heads.records };
 
-    ghost mark = { λ heads. 12 * length heads.ids.now };
+    ghost count = { λ heads. 12 * length heads.ids.now };
 
     ghost bound = { λ heads. heads.records };
 

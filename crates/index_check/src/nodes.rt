@@ -7,7 +7,7 @@ ghost use Rattle.std.specs.List.{All};
 ghost use Rattle.rec_bytes.specs.Fault.{HasFaultCause, NotDamaged};
 ghost use Rattle.rec_bytes.specs.Format.{most_ids, nodes_file};
 ghost use Rattle.rec_bytes.specs.Frame.{IsRead};
-ghost use Rattle.record_lists.specs.Marks.{is_among, marked};
+ghost use Rattle.record_lists.specs.Seen.{is_among, is_seen};
 ghost use Rattle.store_rules.specs.Indexes.{wanted_in};
 ghost use Rattle.store_rules.specs.Properties.{AreOnce};
 ghost use Rattle.store_rules.specs.Views.{high};
@@ -27,7 +27,7 @@ ghost use Rattle.index_check.specs.Values.{AreReadable};
 use crate::definitions::Definition;
 use crate::values::{has_hash, value_at};
 use rec_bytes::{Fault, INDEX, INDEXED_HASH, INDEXED_NODE, Key, NODES, Reads};
-use record_lists::no_marks;
+use record_lists::none_seen;
 use std::alloc::Global;
 
 /// The nodes of entries, or the first of these whose node hasn't a value of its hash.
@@ -93,25 +93,25 @@ pub(crate) fn nodes_of<R: Reads>(
     Ok(Entered::Nodes(nodes))
 }
 
-/// Marks all these, or finds one that comes twice.
-fn mark_once(marks: &mut [bool], numbers: &[u32]) -> Option<u32>
-    requires low { All (λ x. x < length marks.old) numbers.now }
-    requires clear { (p : ℕ) → marked marks.old p ≡ false }
+/// Sees all these, or finds one that comes twice.
+fn see_once(seen: &mut [bool], numbers: &[u32]) -> Option<u32>
+    requires low { All (λ x. x < length seen.old) numbers.now }
+    requires clear { (p : ℕ) → is_seen seen.old p ≡ false }
     ensures once { IfNone result (AreOnce numbers.now) }
-    ensures marks { IfNone result ((p : ℕ) → marked marks.new p ≡ is_among numbers.now p) }
+    ensures seen { IfNone result ((p : ℕ) → is_seen seen.new p ≡ is_among numbers.now p) }
     ensures twice { IfSome result (λ n. IsTwice n numbers.now) }
-    ensures len { length marks.new ≡ length marks.old }
+    ensures len { length seen.new ≡ length seen.old }
 {
     for number in numbers {
-        if marks[*number as usize] {
+        if seen[*number as usize] {
             return Some(*number);
         }
-        marks[*number as usize] = true;
+        seen[*number as usize] = true;
     }
     None
 }
 
-/// Whether a node has a value, and no mark.
+/// Whether a node has a value, and was not seen.
 fn is_missing<R: Reads>(
     alloc: Global,
     space: &mut R,
@@ -133,26 +133,26 @@ fn is_missing<R: Reads>(
     Ok(value.is_some())
 }
 
-/// The first node of the label with the key that has no mark.
+/// The first node of the label with the key that was not seen.
 fn find_missing<R: Reads>(
     alloc: Global,
     space: &mut R,
     definition: &Definition,
-    marks: &[bool],
+    seen: &[bool],
 ) -> Result<Option<u32>, Fault>
-    requires marks { length marks.now ≡ high (R.state space.old).records nodes_file }
+    requires seen { length seen.now ≡ high (R.state space.old).records nodes_file }
     requires low { high (R.state space.old).records nodes_file ≤ most_ids }
     ensures none { R.tells → IfOk result (λ found. IfNone found
         ((n : ℕ) → HasValue (R.state space.old).records definition.now n
-        → marked marks.now n ≡ true)) }
+        → is_seen seen.now n ≡ true)) }
     ensures found { R.tells → IfOk result (λ found. IfSome found
-        (λ n. IsMissing (R.state space.old).records definition.now n (marked marks.now n))) }
+        (λ n. IsMissing (R.state space.old).records definition.now n (is_seen seen.now n))) }
     ensures sound { R.tells → AreReadable (R.state space.old).records → NotDamaged result }
     ensures read { IsRead R.Reads space.old space.new }
     ensures cause { HasFaultCause (R.faults space.old) (R.faults space.new) result }
 {
     for node in 0..space.meta(NODES).high {
-        if is_missing(alloc, space, definition, node, marks[node as usize])? {
+        if is_missing(alloc, space, definition, node, seen[node as usize])? {
             return Ok(Some(node));
         }
     }
@@ -160,17 +160,17 @@ fn find_missing<R: Reads>(
 }
 
 /// The first of these nodes that comes twice, or a node of the label with the key that is none of
-/// them, with marks for all nodes, none of them set.
-fn check_marked<R: Reads>(
+/// them, with a bit for each node, none of them seen.
+fn check_seen<R: Reads>(
     alloc: Global,
     space: &mut R,
     definition: &Definition,
     nodes: &[u32],
-    marks: &mut [bool],
+    seen: &mut [bool],
 ) -> Result<Option<u32>, Fault>
-    requires nodes { All (λ n. n < length marks.old) nodes.now }
-    requires marks { length marks.old ≡ high (R.state space.old).records nodes_file }
-    requires clear { (p : ℕ) → marked marks.old p ≡ false }
+    requires nodes { All (λ n. n < length seen.old) nodes.now }
+    requires seen { length seen.old ≡ high (R.state space.old).records nodes_file }
+    requires clear { (p : ℕ) → is_seen seen.old p ≡ false }
     requires low { high (R.state space.old).records nodes_file ≤ most_ids }
     ensures none { R.tells → IfOk result (λ found. IfNone found
         (AreNodesRight (R.state space.old).records definition.now nodes.now)) }
@@ -180,10 +180,10 @@ fn check_marked<R: Reads>(
     ensures read { IsRead R.Reads space.old space.new }
     ensures cause { HasFaultCause (R.faults space.old) (R.faults space.new) result }
 {
-    if let Some(node) = mark_once(marks, nodes) {
+    if let Some(node) = see_once(seen, nodes) {
         return Ok(Some(node));
     }
-    match find_missing(alloc, space, definition, marks)? {
+    match find_missing(alloc, space, definition, seen)? {
         Some(node) => Ok(Some(node)),
         None => Ok(None),
     }
@@ -207,6 +207,6 @@ pub(crate) fn check_nodes<R: Reads>(
     ensures read { IsRead R.Reads space.old space.new }
     ensures cause { HasFaultCause (R.faults space.old) (R.faults space.new) result }
 {
-    let mut marks = no_marks(alloc, space.meta(NODES).high as usize)?;
-    check_marked(alloc, space, definition, nodes, &mut marks)
+    let mut seen = none_seen(alloc, space.meta(NODES).high as usize)?;
+    check_seen(alloc, space, definition, nodes, &mut seen)
 }

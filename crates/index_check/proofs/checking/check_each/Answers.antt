@@ -1,4 +1,4 @@
-use Rattle.std.proofs.Common.{rules, arith, ◌≡◌, ◌∙◌, ◌<◌, ◌+◌, ◌∷◌, [], ℕ, List, length, map, take, get_or, sym, subst, refl, ⊎_elim}
+use Rattle.std.proofs.Common.{rules, arith, ◌≡◌, ◌<◌, ◌+◌, ◌∷◌, [], ℕ, List, length, map, take, get_or, sym, subst, ⊎_elim}
 use Rattle.std.proofs.lemmas.List.{map_more, take_all}
 use Rattle.prop_store.proofs.Causes.{cause_passed}
 use Rattle.store_rules.specs.Chains.{In}

@@ -1,4 +1,4 @@
-use Rattle.std.proofs.Common.{◌≡◌, ◌≤◌, ℕ, take, map}
+use Rattle.std.proofs.Common.{ℕ, take, map}
 use Rattle.store_rules.specs.Chains.{In}
 use Rattle.index_check.specs.Indexing.{IsRight}
 use Rattle.index_check.specs.declared.definitions.Definition.{Definition}

@@ -1,38 +1,38 @@
-use Rattle.std.proofs.Common.{rules, arith, ◌≡◌, ◌<◌, ℕ, true, IfNone, IfSome, subst, ◌∙◌}
+use Rattle.std.proofs.Common.{rules, arith, ◌≡◌, ◌<◌, ℕ, true, IfNone, IfSome, subst}
 use Rattle.rec_bytes.specs.Format as format
-use Rattle.record_lists.specs.Marks.{marked}
+use Rattle.record_lists.specs.Seen.{is_seen}
 use Rattle.record_lists.proofs.Causes.{cause_passed}
 use Rattle.store_rules.specs.Views.{Records, high, is_live}
-use Rattle.index_check.specs.Indexing.{AreAllMarked}
+use Rattle.index_check.specs.Indexing.{AreAllSeen}
 use Rattle.index_check.proofs.IndexLaws.{breaks_by}
 use Rattle.index_check.proofs.ListedLaws.{all_held, left_over}
 use Rattle.rec_bytes.proofs.Causes.{never_ok, ok_cause}
 use Rattle.record_lists.proofs.OnlyReads.{is_read-on}
 use Rattle.prop_store.proofs.Causes.{later_on}
-use Rattle.index_check.proofs.checking.check_marked.Goals as goal
+use Rattle.index_check.proofs.checking.check_seen.Goals as goal
 
 pub returns-in-Some-2-clause-broken : goal.returns-in-Some-2-clause-broken
 returns-in-Some-2-clause-broken g c = λ tells.
     let records = (g.R.Reads.state c.args.space.now).records in
-    let marks = c.mark_lists.new.marks in
-    let all : AreAllMarked records c.args.ids.now marks = search (rules, c.in_ok-damage.ensures.right tells) in
-    let found : IfSome c.in_ok-id.field-0 (λ x. ¬ (is_live records format.index_file x ≡ true → marked marks x ≡ true))
-    = subst (λ (r : Records). IfSome c.in_ok-id.field-0 (λ x. ¬ (is_live r format.index_file x ≡ true → marked marks x ≡ true)))
+    let seen = c.see_lists.new.seen in
+    let all : AreAllSeen records c.args.ids.now seen = search (rules, c.in_ok-damage.ensures.right tells) in
+    let found : IfSome c.in_ok-id.field-0 (λ x. ¬ (is_live records format.index_file x ≡ true → is_seen seen x ≡ true))
+    = subst (λ (r : Records). IfSome c.in_ok-id.field-0 (λ x. ¬ (is_live r format.index_file x ≡ true → is_seen seen x ≡ true)))
     c.in_ok-damage.ensures.read.records
     (c.in_ok-id.ensures.found tells) in
-    let bad : ¬ (is_live records format.index_file c.in-Some-2.id ≡ true → marked marks c.in-Some-2.id ≡ true) = search (rules, found) in
-    breaks_by records c.broken.result format.index_file c.in-Some-2.id c.broken.ensures (left_over records c.args.ids.now marks all c.in-Some-2.id bad)
+    let bad : ¬ (is_live records format.index_file c.in-Some-2.id ≡ true → is_seen seen c.in-Some-2.id ≡ true) = search (rules, found) in
+    breaks_by records c.broken.result format.index_file c.in-Some-2.id c.broken.ensures (left_over records c.args.ids.now seen all c.in-Some-2.id bad)
 
 pub returns-in-None-clause-right : goal.returns-in-None-clause-right
 returns-in-None-clause-right g c = λ tells.
     let records = (g.R.Reads.state c.args.space.now).records in
-    let marks = c.mark_lists.new.marks in
-    let all : AreAllMarked records c.args.ids.now marks = search (rules, c.in_ok-damage.ensures.right tells) in
-    let none : IfNone c.in_ok-id.field-0 ((x : ℕ) → x < high records format.index_file → is_live records format.index_file x ≡ true → marked marks x ≡ true)
-    = subst (λ (r : Records). IfNone c.in_ok-id.field-0 ((x : ℕ) → x < high r format.index_file → is_live r format.index_file x ≡ true → marked marks x ≡ true))
+    let seen = c.see_lists.new.seen in
+    let all : AreAllSeen records c.args.ids.now seen = search (rules, c.in_ok-damage.ensures.right tells) in
+    let none : IfNone c.in_ok-id.field-0 ((x : ℕ) → x < high records format.index_file → is_live records format.index_file x ≡ true → is_seen seen x ≡ true)
+    = subst (λ (r : Records). IfNone c.in_ok-id.field-0 ((x : ℕ) → x < high r format.index_file → is_live r format.index_file x ≡ true → is_seen seen x ≡ true))
     c.in_ok-damage.ensures.read.records (c.in_ok-id.ensures.none tells) in
-    let each : (x : ℕ) → x < high records format.index_file → is_live records format.index_file x ≡ true → marked marks x ≡ true = search (rules, none) in
-    all_held records c.args.ids.now marks all each
+    let each : (x : ℕ) → x < high records format.index_file → is_live records format.index_file x ≡ true → is_seen seen x ≡ true = search (rules, none) in
+    all_held records c.args.ids.now seen all each
 
 pub returns-in_err-damage-clause-cause : goal.returns-in_err-damage-clause-cause
 returns-in_err-damage-clause-cause g c =

@@ -1,4 +1,4 @@
-use Rattle.std.proofs.Common.{rules, ℕ, List, ◌∙◌, arith}
+use Rattle.std.proofs.Common.{rules, ℕ, List, arith}
 use Rattle.rec_bytes.specs.Format as format
 use Rattle.store_rules.specs.IndexBreaking.{AreDefinitions}
 use Rattle.store_rules.specs.IndexBreaking.IndexBreaks.{WrongDefinitions}

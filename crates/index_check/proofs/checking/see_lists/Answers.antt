@@ -2,7 +2,7 @@ use Rattle.std.proofs.Common.{rules, arith, ◌≡◌, ◌∙◌, ◌*◌, ◌/�
 use Rattle.std.specs.Bool.{Decides}
 use Rattle.rec_bytes.specs.Format as format
 use Rattle.record_lists.specs.Heads.{AmongHeads, BrokeIs, HeadKeeps, IsOnce}
-use Rattle.record_lists.specs.Marks.{is_among, marked}
+use Rattle.record_lists.specs.Seen.{is_among, is_seen}
 use Rattle.record_lists.specs.declared.heads.Broke.TheVariants.{Head, Item}
 use Rattle.record_lists.proofs.Causes.{cause_passed}
 use Rattle.record_lists.proofs.LineLaws.{in_from_among}
@@ -18,13 +18,13 @@ use Rattle.index_check.proofs.PlaceLaws.{many_place, twelve_place}
 use Rattle.rec_bytes.proofs.Causes.{never_ok, ok_cause}
 use Rattle.record_lists.proofs.OnlyReads.{is_read-on}
 use Rattle.prop_store.proofs.Causes.{later_on}
-use Rattle.index_check.proofs.checking.mark_lists.Goals as goal
+use Rattle.index_check.proofs.checking.see_lists.Goals as goal
 
--- what was marked after the records of heads
-met_before : (records : Records) (ids : List ℕ) (old mid : List Bool) → ((p : ℕ) → marked old p ≡ is_among ids p)
-    → ((p : ℕ) → Decides (marked mid p) ((marked old p ≡ true) ⊎ AmongHeads Always (IsHeadItem records ids) (12 * length ids) p))
-    → (p : ℕ) → marked mid p ≡ true → (In p ids) ⊎ AmongHeads Always (IsHeadItem records ids) (12 * length ids) p
-met_before records ids old mid first told p m = ⊎_elim (λ (o : marked old p ≡ true). inl (in_from_among p ids (sym (first p) ∙ o))) (λ a. inr a) ((told p).0 m)
+-- what was seen after the records of heads
+met_before : (records : Records) (ids : List ℕ) (old mid : List Bool) → ((p : ℕ) → is_seen old p ≡ is_among ids p)
+    → ((p : ℕ) → Decides (is_seen mid p) ((is_seen old p ≡ true) ⊎ AmongHeads Always (IsHeadItem records ids) (12 * length ids) p))
+    → (p : ℕ) → is_seen mid p ≡ true → (In p ids) ⊎ AmongHeads Always (IsHeadItem records ids) (12 * length ids) p
+met_before records ids old mid first told p m = ⊎_elim (λ (o : is_seen old p ≡ true). inl (in_from_among p ids (sym (first p) ∙ o))) (λ a. inr a) ((told p).0 m)
 
 pub returns-in-Some-Head-clause-broken : goal.returns-in-Some-Head-clause-broken
 returns-in-Some-Head-clause-broken g c = λ tells.
@@ -32,7 +32,7 @@ returns-in-Some-Head-clause-broken g c = λ tells.
     let ids = c.args.ids.now in
     let are = c.requires.listed tells in
     let id = c.in-Some-Head.id in
-    let b : BrokeIs Always (IsHeadItem records ids) (12 * length ids) c.args.marks.now (Head id) = search (rules, c.in_ok-id.ensures.broken tells) in
+    let b : BrokeIs Always (IsHeadItem records ids) (12 * length ids) c.args.seen.now (Head id) = search (rules, c.in_ok-id.ensures.broken tells) in
     let place = (twelve_place (length ids) id b.0).0 in
     let at : c.named_at.result ≡ definition_of 12 ids id = subst (λ (i : ℕ). i / 12 < length ids → c.named_at.result ≡ get_or ids (i / 12) 0)
     c.in-Some-Head.id-is c.named_at.ensures place in
@@ -45,16 +45,16 @@ returns-in-Some-Item-clause-broken g c = λ tells.
     let ids = c.args.ids.now in
     let are = c.requires.listed tells in
     let id = c.in-Some-Item.id in
-    let b : BrokeIs Always (IsHeadItem records ids) (12 * length ids) c.args.marks.now (Item id) = search (rules, c.in_ok-id.ensures.broken tells) in
+    let b : BrokeIs Always (IsHeadItem records ids) (12 * length ids) c.args.seen.now (Item id) = search (rules, c.in_ok-id.ensures.broken tells) in
     breaks_by records c.broken-in-Some-Item.result format.index_file id (c.broken-in-Some-Item.ensures ∙ ap (λ i. damage 8 i 8) c.in-Some-Item.id-is)
-    (head_twice records ids are c.args.marks.now c.requires.told id b)
+    (head_twice records ids are c.args.seen.now c.requires.told id b)
 
 pub returns-in-Some-Head-2-clause-broken : goal.returns-in-Some-Head-2-clause-broken
 returns-in-Some-Head-2-clause-broken g c = λ tells.
     let records = (g.R.Reads.state c.args.space.now).records in
     let ids = c.args.ids.now in
     let are = c.requires.listed tells in
-    let first = c.list_heads.new.marks in
+    let first = c.list_heads.new.seen in
     let id = c.in-Some-Head-2.id in
     let told : IfSome c.in_ok-id-2.field-0 (BrokeIs Always (AreItsEntries records ids) (180 * length ids) first)
     = subst (λ (r : Records). IfSome c.in_ok-id-2.field-0 (BrokeIs Always (AreItsEntries r ids) (180 * length ids) first)) c.in_ok-id.ensures.read.records
@@ -69,35 +69,35 @@ returns-in-Some-Item-2-clause-broken g c = λ tells.
     let records = (g.R.Reads.state c.args.space.now).records in
     let ids = c.args.ids.now in
     let are = c.requires.listed tells in
-    let first = c.list_heads.new.marks in
+    let first = c.list_heads.new.seen in
     let id = c.in-Some-Item-2.id in
-    let marks : (p : ℕ) → Decides (marked first p) ((marked c.args.marks.now p ≡ true) ⊎ AmongHeads Always (IsHeadItem records ids) (12 * length ids) p) =
-    search (rules, c.in_ok-id.ensures.marks tells) in
+    let seen : (p : ℕ) → Decides (is_seen first p) ((is_seen c.args.seen.now p ≡ true) ⊎ AmongHeads Always (IsHeadItem records ids) (12 * length ids) p) =
+    search (rules, c.in_ok-id.ensures.seen tells) in
     let told : IfSome c.in_ok-id-2.field-0 (BrokeIs Always (AreItsEntries records ids) (180 * length ids) first)
     = subst (λ (r : Records). IfSome c.in_ok-id-2.field-0 (BrokeIs Always (AreItsEntries r ids) (180 * length ids) first)) c.in_ok-id.ensures.read.records
     (c.in_ok-id-2.ensures.broken tells) in
     let b : BrokeIs Always (AreItsEntries records ids) (180 * length ids) first (Item id) = search (rules, told) in
     breaks_by records c.broken-in-Some-Item-2.result format.index_file id c.broken-in-Some-Item-2.ensures
-    (entry_twice records ids are first (met_before records ids c.args.marks.now first c.requires.told marks) id b)
+    (entry_twice records ids are first (met_before records ids c.args.seen.now first c.requires.told seen) id b)
 
 pub returns-in-None-2-clause-right : goal.returns-in-None-2-clause-right
 returns-in-None-2-clause-right g c = λ tells.
     let records = (g.R.Reads.state c.args.space.now).records in
     let ids = c.args.ids.now in
     let are = c.requires.listed tells in
-    let old = c.args.marks.now in
-    let first = c.list_heads.new.marks in
-    let last = c.list_heads-2.new.marks in
-    let marks : (p : ℕ) → Decides (marked first p) ((marked old p ≡ true) ⊎ AmongHeads Always (IsHeadItem records ids) (12 * length ids) p) =
-    search (rules, c.in_ok-id.ensures.marks tells) in
+    let old = c.args.seen.now in
+    let first = c.list_heads.new.seen in
+    let last = c.list_heads-2.new.seen in
+    let seen : (p : ℕ) → Decides (is_seen first p) ((is_seen old p ≡ true) ⊎ AmongHeads Always (IsHeadItem records ids) (12 * length ids) p) =
+    search (rules, c.in_ok-id.ensures.seen tells) in
     let keeps : (k : ℕ) → k < 12 * length ids → HeadKeeps Always (IsHeadItem records ids) k = search (rules, c.in_ok-id.ensures.keeps tells) in
     let once : (p : ℕ) → IsOnce Always (IsHeadItem records ids) (12 * length ids) p = search (rules, c.in_ok-id.ensures.once tells) in
-    let marks_after : IfNone c.in_ok-id-2.field-0 ((p : ℕ) → Decides (marked last p) ((marked first p ≡ true) ⊎ AmongHeads Always (AreItsEntries records ids)
+    let seen_after : IfNone c.in_ok-id-2.field-0 ((p : ℕ) → Decides (is_seen last p) ((is_seen first p ≡ true) ⊎ AmongHeads Always (AreItsEntries records ids)
     (180 * length ids) p))
-    = subst (λ (r : Records). IfNone c.in_ok-id-2.field-0 ((p : ℕ) → Decides (marked last p) ((marked first p ≡ true) ⊎ AmongHeads Always (AreItsEntries r ids)
-    (180 * length ids) p))) c.in_ok-id.ensures.read.records (c.in_ok-id-2.ensures.marks tells) in
-    let last_marks : (p : ℕ) → Decides (marked last p) ((marked first p ≡ true) ⊎ AmongHeads Always (AreItsEntries records ids) (180 * length ids) p) =
-    search (rules, marks_after) in
+    = subst (λ (r : Records). IfNone c.in_ok-id-2.field-0 ((p : ℕ) → Decides (is_seen last p) ((is_seen first p ≡ true) ⊎ AmongHeads Always (AreItsEntries r ids)
+    (180 * length ids) p))) c.in_ok-id.ensures.read.records (c.in_ok-id-2.ensures.seen tells) in
+    let last_seen : (p : ℕ) → Decides (is_seen last p) ((is_seen first p ≡ true) ⊎ AmongHeads Always (AreItsEntries records ids) (180 * length ids) p) =
+    search (rules, seen_after) in
     let keeps_after : IfNone c.in_ok-id-2.field-0 ((k : ℕ) → k < 180 * length ids → HeadKeeps Always (AreItsEntries records ids) k)
     = subst (λ (r : Records). IfNone c.in_ok-id-2.field-0 ((k : ℕ) → k < 180 * length ids → HeadKeeps Always (AreItsEntries r ids) k))
     c.in_ok-id.ensures.read.records
@@ -114,7 +114,7 @@ returns-in-None-2-clause-right g c = λ tells.
         head_once = heads_once records ids are keeps once;
         entry_once = entries_once records ids are last_keeps last_once;
       };
-      told = all_told records ids are last_keeps old first last c.requires.told keeps marks last_marks;
+      told = all_told records ids are last_keeps old first last c.requires.told keeps seen last_seen;
     }
 
 pub returns-in_err-id-clause-cause : goal.returns-in_err-id-clause-cause

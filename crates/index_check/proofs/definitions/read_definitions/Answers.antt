@@ -1,4 +1,4 @@
-use Rattle.std.proofs.Common.{[], ap, arith, get_or, map, refl, rules, sym, take, ◌++◌, ◌∙◌, ◌∷◌, ◌≡◌}
+use Rattle.std.proofs.Common.{[], ap, arith, get_or, map, rules, sym, take, ◌++◌, ◌∙◌, ◌∷◌, ◌≡◌}
 use Rattle.std.proofs.lemmas.List.{map-append, map_more, take_all, take_more}
 use Rattle.store_rules.specs.Views.{Records}
 use Rattle.record_lists.proofs.Causes.{cause_passed}

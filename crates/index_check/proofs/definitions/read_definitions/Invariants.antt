@@ -1,4 +1,4 @@
-use Rattle.std.proofs.Common.{◌≡◌, ◌≤◌, take, map}
+use Rattle.std.proofs.Common.{◌≡◌, take, map}
 use Rattle.index_check.specs.Definitions.{definition_at}
 use Rattle.index_check.specs.declared.definitions.Definition.{Definition}
 use Rattle.rec_bytes.specs.Frame.{IsRead}

@@ -1,4 +1,4 @@
-use Rattle.std.proofs.Common.{ap, arith, length, refl, rules, subst, sym, ◌++◌, ◌+◌, ◌<◌, ◌∙◌, ◌≡◌}
+use Rattle.std.proofs.Common.{ap, arith, length, rules, subst, sym, ◌++◌, ◌+◌, ◌<◌, ◌∙◌, ◌≡◌}
 use Rattle.std.specs.List.{All}
 use Rattle.rec_bytes.specs.Format as format
 use Rattle.rec_bytes.specs.declared.meta.Meta.{Meta}

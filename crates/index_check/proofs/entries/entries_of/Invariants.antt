@@ -1,4 +1,4 @@
-use Rattle.std.proofs.Common.{◌≡◌, ◌≤◌, ◌<◌}
+use Rattle.std.proofs.Common.{◌<◌}
 use Rattle.std.specs.List.{All}
 use Rattle.rec_bytes.specs.Format.{most_ids}
 use Rattle.index_check.specs.Entries.{AreEntriesTo}

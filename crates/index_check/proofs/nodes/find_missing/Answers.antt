@@ -1,10 +1,10 @@
-use Rattle.std.proofs.Common.{rules, arith, ◌≡◌, ◌<◌, ◌∙◌, ℕ, Bool, true, false, ap, sym, subst, refl, ⊎_elim}
+use Rattle.std.proofs.Common.{rules, arith, ◌≡◌, ◌<◌, ◌∙◌, ℕ, Bool, true, false, ap, sym, subst, ⊎_elim}
 use Rattle.std.specs.Bool.{Decides}
 use Rattle.std.proofs.lemmas.Bool.{cases_Bool, true≢false}
 use Rattle.rec_bytes.specs.Format as format
 use Rattle.rec_bytes.specs.declared.meta.Meta.{Meta}
 use Rattle.prop_store.proofs.Causes.{cause_passed, later_on}
-use Rattle.record_lists.specs.Marks.{marked}
+use Rattle.record_lists.specs.Seen.{is_seen}
 use Rattle.record_lists.proofs.HeadLaws.{one_more}
 use Rattle.store_rules.specs.Views.{Records, high}
 use Rattle.index_check.specs.Nodes.{HasValue, IsMissing}
@@ -36,12 +36,12 @@ loop-node-preserved g c =
     let inv = c.loop-node.invariant in
     let d = c.args.definition.now in
     let n = c.loop-node.node in
-    let marks = c.args.marks.now in
+    let seen = c.args.seen.now in
     let no : c.in_ok-is_missing.field-0 ≡ false = search rules in
     record {
-      met = λ tells. one_more (λ k. HasValue records d k → marked marks k ≡ true) n (inv.met tells)
-          (met_of records d n (marked marks n) c.in_ok-is_missing.field-0 no (subst (λ (r : Records). Decides c.in_ok-is_missing.field-0
-          (IsMissing r d n (marked marks n))) inv.read.records (c.in_ok-is_missing.ensures.told tells)));
+      met = λ tells. one_more (λ k. HasValue records d k → is_seen seen k ≡ true) n (inv.met tells)
+          (met_of records d n (is_seen seen n) c.in_ok-is_missing.field-0 no (subst (λ (r : Records). Decides c.in_ok-is_missing.field-0
+          (IsMissing r d n (is_seen seen n))) inv.read.records (c.in_ok-is_missing.ensures.told tells)));
       read = is_read-on g.R.Reads g.met.R.Reads.further_onward c.args.space.now c.loop-node.space c.is_missing.new.space inv.read
           c.in_ok-is_missing.ensures.read;
     }
@@ -50,9 +50,9 @@ pub returns-then-branch-clause-found : goal.returns-then-branch-clause-found
 returns-then-branch-clause-found g c = λ tells.
     let d = c.args.definition.now in
     let n = c.loop-node.node in
-    let marks = c.args.marks.now in
+    let seen = c.args.seen.now in
     let yes : c.in_ok-is_missing.field-0 ≡ true = search rules in
-    subst (λ (r : Records). IsMissing r d n (marked marks n)) c.loop-node.invariant.read.records ((c.in_ok-is_missing.ensures.told tells).0 yes)
+    subst (λ (r : Records). IsMissing r d n (is_seen seen n)) c.loop-node.invariant.read.records ((c.in_ok-is_missing.ensures.told tells).0 yes)
 
 pub returns-clause-none : goal.returns-clause-none
 returns-clause-none g c = λ tells n h.

@@ -1,5 +1,5 @@
 use Rattle.std.proofs.Common.{rules, arith, ◌≡◌, ◌<◌, ◌+◌, ◌∙◌, ◌++◌, ◌∷◌, [], ℕ, zero, suc, List, true, false, length}
-use Rattle.std.proofs.Common.{map, take, get_or, ap, sym, subst, refl, ⊎_elim}
+use Rattle.std.proofs.Common.{map, take, get_or, ap, sym, subst, ⊎_elim}
 use Rattle.std.specs.List.{All}
 use Rattle.std.proofs.lemmas.List.{map_more, take_all, take_more}
 use Rattle.std.proofs.lemmas.List.Elements.{All-append}

@@ -1,4 +1,4 @@
-use Rattle.std.proofs.Common.{◌≡◌, ◌≤◌, ◌<◌, ℕ, true, take, map}
+use Rattle.std.proofs.Common.{◌≡◌, ◌<◌, ℕ, true, take, map}
 use Rattle.std.specs.List.{All}
 use Rattle.rec_bytes.specs.Format.{nodes_file}
 use Rattle.store_rules.specs.Chains.{In}
