@@ -180,8 +180,8 @@ module _ {D : Type 0} {g : Ghosts D} {reply : Reply} (old new : SharedView D) wh
       by Sight is same = inl same
       by Change is (inl (same, none)) = inl same
       by Change is (inr (closed, written, writes, committed, done)) =
-          kept (λ asks. subst AreQuestions is asks) written (inr (uncommitted is, closed, start_weight + writes.more, writes.weighed, writes.light, committed))
-          done
+          kept (λ asks. subst AreQuestions is asks) written
+          (inr (uncommitted is, closed, start_weight + writes.more, writes.weighed, writes.light, writes.changed, committed)) done
       by Question is same = inl same
 
   -- a line of the session that writes, which asks for no snapshot

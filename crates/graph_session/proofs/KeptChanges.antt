@@ -1,5 +1,6 @@
 -- What a change leaves of the old records that are kept for snapshots.
-use Rattle.std.proofs.Common.{◌≡◌, ◌⊎◌, ◌∙◌, ℕ, ◌+◌, ◌≤◌, true, false, Ok, Err, Result, is_some, [], length, inl, inr, true≢false, refl, sym, ap, subst, arith}
+use Rattle.std.proofs.Common.{◌≡◌, ◌⊎◌, ◌∙◌, ℕ, ◌+◌, ◌≤◌, true, false, Ok, Err, Result, OnOk, is_some, [], length, inl, inr, true≢false}
+use Rattle.std.proofs.Common.{refl, sym, ap, subst, arith}
 use Rattle.disk_model.specs.declared.disk.Disk.{Ghosts}
 use Rattle.plain_graph.specs.Changes.{IsChange, most_weight, start_weight}
 use Rattle.plain_graph.specs.Kinds.{AreChanges, AreQuestions, Blanks, Bound, Change, Ending, Kind, Question, Sight, Upkeep}
@@ -18,19 +19,21 @@ use Rattle.store_rules.specs.Indexes.{IsIndexed}
 use Rattle.snap_store.specs.Keeping.{EndsFor, KeepsHeld}
 use Rattle.snap_store.specs.Snaps.{Snapshots}
 use Rattle.txn_core.specs.Base.{SameBeneath}
-use Rattle.txn_core.specs.Store.{committed, drafted, state_of}
+use Rattle.txn_core.specs.Store.{committed, drafted, state_of, working}
+use Rattle.txn_core.proofs.StoreRecords.{working-none}
 use Rattle.graph_session.specs.Answering.{reply_of}
 use Rattle.graph_session.specs.Drafting.{BeginsChange, Drafts, EndsChange, EndsCommit, Finishes, FinishesAlone}
-use Rattle.graph_session.specs.Drafting.{HasStore, IsStopped, IsUnkeptAlone, OnlyDrafts, TriesCommit}
+use Rattle.graph_session.specs.Drafting.{HasOnlyChanged, HasStore, IsStopped, IsUnkeptAlone, OnlyDrafts, TriesCommit}
 use Rattle.graph_session.specs.MayStep.{TellsMade}
 use Rattle.graph_session.specs.Session.{shared_view, view}
-use Rattle.graph_session.specs.SnapshotEffects.{AreWeighed, Confirms, KeepsChange, KeepsKind, KeepsOlds, SharedView, WritesAlone}
+use Rattle.graph_session.specs.SnapshotEffects.{AreWeighed, Confirms, DifferJustAt, KeepsChange, KeepsKind, KeepsOlds, SharedView, WritesAlone}
 use Rattle.graph_session.specs.declared.answer.Answer.{Answer}
 use Rattle.graph_session.specs.declared.answer.Answer.TheVariants as answers
 use Rattle.graph_session.specs.declared.changing.Begun.{Begun}
 use Rattle.graph_session.specs.declared.changing.Drafted.{Drafted}
 use Rattle.graph_session.specs.declared.health.Health.TheVariants as healths
 use Rattle.graph_session.specs.declared.session.Session.{Session}
+use Rattle.graph_session.proofs.ChangedDrafts.{changed-merged, differ-just_at}
 use Rattle.graph_session.proofs.Drafts.{sights-as}
 use Rattle.graph_session.proofs.FinishingAlone.{committed-mid, disk-dropped, drafted-begun}
 use Rattle.graph_session.proofs.Weighing.{weighed-kept, weighed-start}
@@ -160,24 +163,28 @@ module _ {D : Type 0} {g : Ghosts D} {command : Command} (change : IsChange comm
         (drafts.2 (omega (arith, light))))
 
     -- what it has written by itself
-    pub writes-alone : (made : Drafted) → start_weight + made.weight ≤ most_weight → Drafts command begun mid (Ok made)
+    pub writes-alone : (made : Drafted) → start_weight + made.weight ≤ most_weight → Drafts command begun mid (Ok made) → HasOnlyChanged mid
         → WritesAlone g command (view old) (merged mid.store.base.own.pairs mid.store.draft.pairs)
-    writes-alone made light drafts = record {
+    writes-alone made light drafts changed = record {
       more = made.weight;
       weighed = weighed-alone made light drafts;
       light = light;
       weighs = λ told store named. weighs-alone made light drafts told store named;
+      changed = λ told.
+          changed-merged (working mid.store) (committed old.store) mid.store.base.own.pairs mid.store.draft.pairs (own-mid only ∙ own) changed.rising
+          (working-none mid.store.base (own-mid only ∙ own) ∙ committed-mid old new live closed idle same own draft names health only)
+          (changed.changed told);
     }
 
-    keeps-tried : (made : Drafted) (answer : Answer) → start_weight + made.weight ≤ most_weight → Drafts command begun mid (Ok made)
+    keeps-tried : (made : Drafted) (answer : Answer) → start_weight + made.weight ≤ most_weight → Drafts command begun mid (Ok made) → HasOnlyChanged mid
         → TriesCommit (drafted mid.store) (merged mid.store.base.own.pairs mid.store.draft.pairs) mid new made.answer answer
         → KeepsOlds g command (shared_view old) (reply_of answer) (shared_view new)
-    keeps-tried made answer light drafts tries = record {
+    keeps-tried made answer light drafts changed tries = record {
       held = keeps-kind g (shared_view old) (reply_of answer) (shared_view new) command change (inr (
         closed,
         merged mid.store.base.own.pairs mid.store.draft.pairs,
-        writes-alone made light drafts,
-        λ told confirms. is_committed told tries.ends confirms,
+        writes-alone made light drafts changed,
+        λ told confirms. (is_committed told tries.ends confirms, differs told (is_committed told tries.ends confirms)),
         record {
           ends = ends tries.ends;
           sights = sights-as g new.store.base.disk.now (committed mid.store) (committed old.store) mid.snaps old.snaps new.snaps
@@ -202,16 +209,21 @@ module _ {D : Type 0} {g : Ghosts D} {command : Command} (change : IsChange comm
             (committed-mid old new live closed idle same own draft names health only)
         is_committed told (inr (is, failed)) confirms = absurd (subst (λ (a : Answer). Confirms (reply_of a)) is confirms)
 
+        differs : g.tells_reads → committed new.store ≡ laid_over (committed old.store) (merged mid.store.base.own.pairs mid.store.draft.pairs)
+            → DifferJustAt (committed old.store) (committed new.store) (merged mid.store.base.own.pairs mid.store.draft.pairs)
+        differs told is = differ-just_at (committed old.store) (committed new.store) (merged mid.store.base.own.pairs mid.store.draft.pairs) is
+            ((writes-alone made light drafts changed).changed told)
+
         closes : EndsCommit (drafted mid.store) mid new made.answer answer → new.store.base.in_transaction ≡ false
         closes (inl (is, commits)) = commits.closes.in_transaction
         closes (inr (is, inl drops)) = drops.closes.in_transaction
         closes (inr (is, inr doubts)) = doubts.closes.in_transaction
 
     pub keeps-finish_alone : (count : ℕ) → count ≡ length old.names.names → (result : Result Drafted Answer) (answer : Answer) → Drafts command begun mid result
-        → FinishesAlone result count mid new answer
+        → OnOk result (HasOnlyChanged mid) → FinishesAlone result count mid new answer
         → KeepsOlds g command (shared_view old) (reply_of answer) (shared_view new)
-    keeps-finish_alone count counts (Ok made) answer drafts (inl (light, tries)) = keeps-tried made answer light drafts tries
-    keeps-finish_alone count counts (Ok made) answer drafts (inr (unkept, drops)) = record {
+    keeps-finish_alone count counts (Ok made) answer drafts changed (inl (light, tries)) = keeps-tried made answer light drafts changed tries
+    keeps-finish_alone count counts (Ok made) answer drafts changed (inr (unkept, drops)) = record {
       held = keeps-kind g (shared_view old) (reply_of answer) (shared_view new) command change
           (inl (
             drops.snaps ∙ only.snaps ∙ snaps,
@@ -222,7 +234,7 @@ module _ {D : Type 0} {g : Ghosts D} {command : Command} (change : IsChange comm
           ));
       weighed = λ none weighed opened. absurd (true≢false (sym opened ∙ drops.closes.in_transaction));
     }
-    keeps-finish_alone count counts (Err why) answer drafts (is, drops) = record {
+    keeps-finish_alone count counts (Err why) answer drafts changed (is, drops) = record {
       held = keeps-kind g (shared_view old) (reply_of answer) (shared_view new) command change
           (inl (
             drops.snaps ∙ only.snaps ∙ snaps,
@@ -237,14 +249,14 @@ module _ {D : Type 0} {g : Ghosts D} {command : Command} (change : IsChange comm
 module _ {D : Type 0} {g : Ghosts D} {command : Command} (change : IsChange command) {old : Session D g} (live : old.health ≡ healths.Live)
     {mid then : Session D g} (new : Session D g) (begun : Begun) where
   -- what is drafted keeps the old records
-  pub keeps-change : BeginsChange old mid begun → OnlyDrafts mid then → (drafted : Result Drafted Answer) → Drafts command mid then drafted → (answer : Answer)
-      → EndsChange begun drafted then new answer
+  pub keeps-change : BeginsChange old mid begun → OnlyDrafts mid then → (drafted : Result Drafted Answer) → Drafts command mid then drafted
+      → (begun.alone ≡ true → OnOk drafted (HasOnlyChanged then)) → (answer : Answer) → EndsChange begun drafted then new answer
       → KeepsOlds g command (shared_view old) (reply_of answer) (shared_view new)
-  keeps-change (counts, inl (within, opened, same)) only drafted drafts answer (inl (is, ends)) =
+  keeps-change (counts, inl (within, opened, same)) only drafted drafts changed answer (inl (is, ends)) =
       keeps-finish change new opened (subst (λ (s : Session D g). OnlyDrafts s then) same only) begun.names drafted answer
       (subst (λ (s : Session D g). Drafts command s then drafted) same drafts) ends
-  keeps-change (counts, inl (within, opened, same)) only drafted drafts answer (inr (is, ends)) = absurd (true≢false (sym is ∙ within))
-  keeps-change (counts, inr (alone, begins)) only drafted drafts answer (inl (is, ends)) = absurd (true≢false (sym alone ∙ is))
-  keeps-change (counts, inr (alone, begins)) only drafted drafts answer (inr (is, ends)) =
+  keeps-change (counts, inl (within, opened, same)) only drafted drafts changed answer (inr (is, ends)) = absurd (true≢false (sym is ∙ within))
+  keeps-change (counts, inr (alone, begins)) only drafted drafts changed answer (inl (is, ends)) = absurd (true≢false (sym alone ∙ is))
+  keeps-change (counts, inr (alone, begins)) only drafted drafts changed answer (inr (is, ends)) =
       keeps-finish_alone change old new live begins.closed begins.idle begins.same begins.own begins.draft begins.names begins.health begins.snaps only
-      begun.names counts drafted answer drafts ends
+      begun.names counts drafted answer drafts (changed alone) ends

@@ -4,6 +4,7 @@ pub mod Asking
 pub mod AtOnce
 pub mod Beginnings
 pub mod ChangeEnds
+pub mod ChangedDrafts
 pub mod Changes
 pub mod Conditions
 pub mod DiskUse

@@ -35,7 +35,7 @@ use Rattle.change_parts.specs.Damage.{BlamesMaking}
 use Rattle.change_parts.specs.Degrees.{HasDegree}
 use Rattle.node_changes.specs.NodeDeleting.{IsUnused}
 use Rattle.graph_session.specs.Answering.{reply_of}
-use Rattle.graph_session.specs.ChangeDamage.{Blames, BlamesMutation}
+use Rattle.graph_session.specs.ChangeDamage.{Blames}
 use Rattle.graph_session.specs.ChangeLeft.{LeavesRecords}
 use Rattle.graph_session.specs.Console.{BeginWith}
 use Rattle.graph_session.specs.Drafting.{Drafts, HasStore, IsStopped, MakesLine, OnlyDrafts, answer_for, drafted_by}

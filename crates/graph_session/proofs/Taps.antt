@@ -1,5 +1,5 @@
 -- What a line leaves in the set that takes the records of its transaction.
-use Rattle.std.proofs.Common.{◌≡◌, ◌≢◌, ◌∙◌, Bool, true, false, Option, None, Some, List, ℕ, Ok, Err, Result, inl, inr, refl, sym, ap, subst, true≢false}
+use Rattle.std.proofs.Common.{◌≡◌, ◌≢◌, ◌∙◌, Bool, true, false, Option, None, Some, List, ℕ, Ok, Err, Result, OnOk, inl, inr, refl, sym, ap, subst, true≢false}
 use Rattle.disk_model.specs.declared.disk.Disk.{Ghosts as DiskGhosts}
 use Rattle.stream_io.specs.Lines.{InputLine, Whole}
 use Rattle.stream_io.specs.declared.streams.Sink.{Ghosts as SinkGhosts}
@@ -21,7 +21,7 @@ use Rattle.txn_core.proofs.StoreRecords.{committed-beneath, committed-read}
 use Rattle.graph_session.specs.Answer.{AnswersLine, Terminal}
 use Rattle.graph_session.specs.Answering.{reply_of}
 use Rattle.graph_session.specs.Console.{SessionView}
-use Rattle.graph_session.specs.Drafting.{BeginsChange, Drafts, OnlyDrafts}
+use Rattle.graph_session.specs.Drafting.{BeginsChange, Drafts, HasOnlyChanged, OnlyDrafts}
 use Rattle.graph_session.specs.Refusals.{SpellsOnly, refusal_of}
 use Rattle.graph_session.specs.Session.{view}
 use Rattle.graph_session.specs.Settling.{told_by, told_of}
@@ -36,6 +36,7 @@ use Rattle.graph_session.specs.declared.health.Health.TheVariants as healths
 use Rattle.graph_session.specs.declared.session.Session.{Session}
 use Rattle.graph_session.specs.declared.turn.Turn.{Turn}
 use Rattle.graph_session.proofs.Answering.{AnswersWith}
+use Rattle.graph_session.proofs.ChangedDrafts.{differ-just_at}
 use Rattle.graph_session.proofs.KeptChanges.{made-confirmed, stopped-unconfirmed, unkept-unconfirmed, writes-alone}
 
 -- ---- the set
@@ -96,6 +97,7 @@ module _ {D : Type 0} {g : DiskGhosts D} {command : Command} {old new : SessionV
     taken = λ confirms ends. absurd (refused confirms);
     written = λ confirms commits. absurd (refused confirms);
     alone = λ confirms change closed. absurd (refused confirms);
+    only = λ confirms change closed told. absurd (refused confirms);
     empty = λ no. none;
   }
 
@@ -104,14 +106,21 @@ module _ {D : Type 0} {g : DiskGhosts D} {command : Command} {old new : SessionV
     taken = λ confirms ends. absurd (other ends);
     written = λ confirms commits. absurd (other (inl commits));
     alone = λ confirms change closed. absurd (other (inr (closed, change)));
+    only = λ confirms change closed told. absurd (other (inr (closed, change)));
     empty = λ no. none;
   }
 
   pub taps-ended : Confirms reply → EndsOne old.console.is_open command → (pairs : Pairs) → (command ≡ commands.Commit → pairs ≡ old.console.written)
       → (IsChange command → WritesAlone g command old pairs) → IsTapped g old new pairs
       → TapsCommand g command old reply new pairs
-  taps-ended confirms ends pairs written alone tapped =
-      record { taken = λ also so. tapped; written = λ also. written; alone = λ also change closed. alone change; empty = λ no. absurd (no (confirms, ends)) }
+  taps-ended confirms ends pairs written alone tapped = record {
+    taken = λ also so. tapped;
+    written = λ also. written;
+    alone = λ also change closed. alone change;
+    only = λ also change closed told.
+        differ-just_at old.console.committed new.console.committed pairs (tapped.committed told) ((alone change).changed told);
+    empty = λ no. absurd (no (confirms, ends));
+  }
 
 -- a command of another kind ends no transaction
 pub apart-ends : (command : Command) → ¬ IsChange command → command ≢ commands.Commit → (is_open : Bool) → ¬ EndsOne is_open command
@@ -176,30 +185,30 @@ module _ {D : Type 0} {g : DiskGhosts D} (command : Command) (change : IsChange 
     {mid then : Session D g} (new : Session D g) (begun : Begun) where
   -- a change, from its beginning to its end
   pub taps-change : BeginsChange old mid begun → OnlyDrafts mid then → (drafted : Result Drafted Answer) → Drafts command mid then drafted
-      → (answer : Answer) (was tap : Option Held)
+      → (begun.alone ≡ true → OnOk drafted (HasOnlyChanged then)) → (answer : Answer) (was tap : Option Held)
       → TapsChange g begun drafted (view then) (view new) answer was tap → Takes (TapsCommand g command (view old) (reply_of answer) (view new)) was tap
-  taps-change (counts, inl (within, opened, same)) only drafted drafts answer was tap (inl (is, none)) =
+  taps-change (counts, inl (within, opened, same)) only drafted drafts changed answer was tap (inl (is, none)) =
       takes-weaker was tap (taps-other (inside-apart command change old.store.base.in_transaction opened)) none
-  taps-change (counts, inl (within, opened, same)) only drafted drafts answer was tap (inr (is, taps)) = absurd (true≢false (sym is ∙ within))
-  taps-change (counts, inr (alone, begins)) only drafted drafts answer was tap (inl (is, none)) = absurd (true≢false (sym alone ∙ is))
-  taps-change (counts, inr (alone, begins)) only drafted drafts answer was tap (inr (is, taps)) = by drafted drafts taps
+  taps-change (counts, inl (within, opened, same)) only drafted drafts changed answer was tap (inr (is, taps)) = absurd (true≢false (sym is ∙ within))
+  taps-change (counts, inr (alone, begins)) only drafted drafts changed answer was tap (inl (is, none)) = absurd (true≢false (sym alone ∙ is))
+  taps-change (counts, inr (alone, begins)) only drafted drafts changed answer was tap (inr (is, taps)) = by drafted drafts (changed alone) taps
     where
-      by : (drafted : Result Drafted Answer) → Drafts command mid then drafted → TapsAlone g drafted (view then) (view new) answer was tap
-          → Takes (TapsCommand g command (view old) (reply_of answer) (view new)) was tap
-      by (Ok made) drafts (inl (light, inl (told, takes))) =
+      by : (drafted : Result Drafted Answer) → Drafts command mid then drafted → OnOk drafted (HasOnlyChanged then)
+          → TapsAlone g drafted (view then) (view new) answer was tap → Takes (TapsCommand g command (view old) (reply_of answer) (view new)) was tap
+      by (Ok made) drafts changed (inl (light, inl (told, takes))) =
           takes-weaker was tap (λ pairs tapped.
           taps-ended (subst (λ (a : Answer). Confirms (reply_of a)) (sym told) (made-confirmed command (reply_of made.answer) drafts.0))
           (inr (begins.closed, change)) pairs
           (λ commits. absurd (commit-still (subst IsChange commits change)))
           (λ also. subst (WritesAlone g command (view old)) (sym tapped.0)
           (writes-alone change old new live begins.closed begins.idle begins.same begins.own begins.draft begins.names begins.health begins.snaps only made
-          light drafts))
+          light drafts changed))
           (tapped-from (view old) (view then) (view new) (committed-read mid.store.base then.store.base only.base ∙ committed-beneath old.store.base
           mid.store.base begins.same) pairs tapped.1)) takes
-      by (Ok made) drafts (inl (light, inr (told, none))) = takes-weaker was tap
+      by (Ok made) drafts changed (inl (light, inr (told, none))) = takes-weaker was tap
           (taps-unconfirmed (λ confirms. subst (λ (a : Answer). Confirms (reply_of a)) told confirms)) none
-      by (Ok made) drafts (inr (unkept, none)) = takes-weaker was tap (taps-unconfirmed (unkept-unconfirmed made.weight answer unkept)) none
-      by (Err why) drafts (told, none) =
+      by (Ok made) drafts changed (inr (unkept, none)) = takes-weaker was tap (taps-unconfirmed (unkept-unconfirmed made.weight answer unkept)) none
+      by (Err why) drafts changed (told, none) =
           takes-weaker was tap (taps-unconfirmed (subst (λ (a : Answer). ¬ Confirms (reply_of a)) (sym told)
           (stopped-unconfirmed command mid then.store.base.disk.now why drafts))) none
 
@@ -233,6 +242,8 @@ module _ {D : Type 0} {g : DiskGhosts D} {old new : SessionView D} where
     alone = λ ends other spells change. let is = only.only other spells in let both = acknowledges-ends only old.console.is_open reply ends in
         subst (λ (c : Command). WritesAlone g c old pairs) (sym is) (taps.alone both.0 (subst IsChange is change) (closed-by (subst IsChange is change)
         both.1));
+    only = λ ends other spells change. let is = only.only other spells in let both = acknowledges-ends only old.console.is_open reply ends in
+        taps.only both.0 (subst IsChange is change) (closed-by (subst IsChange is change) both.1);
     empty = λ no. taps.empty (λ both. no (ends-acknowledges only old.console.is_open reply first both.0 both.1));
   }
 
@@ -242,6 +253,7 @@ module _ {D : Type 0} {g : DiskGhosts D} {old new : SessionView D} where
     taken = λ ends. absurd (never ends);
     written = λ ends commits. absurd (never ends);
     alone = λ ends command spells change. absurd (never ends);
+    only = λ ends command spells change told. absurd (never ends);
     empty = λ so. none;
   }
 

@@ -1,5 +1,4 @@
 -- What a change that is answered leaves of the records, whatever they are.
-use Rattle.std.specs.Prelude.{ℕ}
 use Rattle.plain_graph.specs.declared.command.Command.{Command}
 use Rattle.plain_graph.specs.declared.command.Command.TheVariants as commands
 use Rattle.plain_graph.specs.declared.command.Target.TheVariants as targets

@@ -13,7 +13,7 @@ use Rattle.plain_graph.specs.declared.refusal.Refusal.{Refusal}
 use Rattle.plain_graph.specs.declared.refusal.Refusal.TheVariants as refusals
 use Rattle.rec_bytes.specs.declared.key.Key.{Key}
 use Rattle.rec_bytes.specs.declared.record.Rec.{Rec}
-use Rattle.rec_bytes.specs.Pairs.{Pairs, merged}
+use Rattle.rec_bytes.specs.Pairs.{IsOrdered, Pairs, merged}
 use Rattle.rec_bytes.specs.Space.{State as Space, laid_over}
 use Rattle.rec_bytes.specs.declared.fault.Fault.{Fault}
 use Rattle.rec_bytes.specs.declared.fault.Fault.TheVariants as read_faults
@@ -21,6 +21,7 @@ use Rattle.record_file.specs.Redone.{Redoes}
 use Rattle.store_rules.specs.Writes.{WritesAtMost}
 use Rattle.snap_store.specs.Keeping.{EndsFor, KeepsHeld}
 use Rattle.txn_core.specs.Base.{OnlyReadsBase, SameBeneath, SameStore}
+use Rattle.txn_core.specs.Changed.{AreChanged, HasChanged}
 use Rattle.txn_core.specs.Kept.{IsOnDisk}
 use Rattle.txn_core.specs.Sights.{KeepsSights}
 use Rattle.txn_core.specs.Store.{committed, drafted, state_of, working}
@@ -156,6 +157,26 @@ module _ {D : Type 0} {g : Ghosts D} where
       → WritesAtMost made.weight (state_of old.store) (state_of new.store))
       × (g.tells_reads → LeavesRecords command (drafted old.store) (drafted new.store))
   Drafts command old new (Err why) = IsStopped command old new.store.base.disk.now why
+
+  -- The draft has the changed records of what it was, and no others. The names are the same.
+  pub record KeepsOnlyChanged (old new : Session D g) : Type 0 where
+    pub names : new.names.names ≡ old.names.names
+    pub rising : IsOrdered new.store.draft.pairs
+    pub records : HasChanged g.tells_reads (working old.store) old.store.draft.pairs
+        new.store.draft.pairs
+
+  -- What came of dropping the records that a draft leaves as they were. It is refused for want of
+  -- memory, or where the disk failed.
+  abbrev pub DropsUnchanged : Drafted → Session D g → Session D g → Result Drafted Answer → Type 0
+  DropsUnchanged made old new (Ok also) = (also ≡ made) × KeepsOnlyChanged old new
+  DropsUnchanged made old new (Err why) = (why ≡ answers.NoMemory)
+      ⊎ ((why ≡ answers.DiskFailed)
+      × Rose (g.faults old.store.base.disk.now) (g.faults new.store.base.disk.now))
+
+  -- each record of the draft differs from the one beneath it
+  pub record HasOnlyChanged (session : Session D g) : Type 0 where
+    pub rising : IsOrdered session.store.draft.pairs
+    pub changed : g.tells_reads → AreChanged (working session.store) session.store.draft.pairs
 
   -- The draft was dropped, and the names cut back to so many. The transaction is as it was.
   pub record Discards (count : ℕ) (old new : Session D g) : Type 0 where

@@ -18,6 +18,7 @@ use Rattle.snap_store.specs.Layers.{released}
 use Rattle.snap_store.specs.Snaps.{state_of, taken}
 use Rattle.snap_store.specs.declared.snap_state.SnapState.{SnapState}
 use Rattle.snap_store.specs.declared.snap_state.SnapState.TheVariants as states
+use Rattle.txn_core.specs.Changed.{AreChanged}
 use Rattle.graph_session.specs.Effects.{Stays}
 use Rattle.graph_session.specs.Exchange.{told_fault}
 use Rattle.graph_session.specs.MayStep.{IsUnread, MayStep, MayTell}
@@ -112,13 +113,14 @@ AsksQuestion line = (command : Command) × SpellsLine line command × IsQuestion
 
 module _ {D : Type 0} (g : Ghosts D) (old : SharedView D) (reply : Reply) (new : SharedView D) where
   -- The records that the line commits: those of the open transaction; of a change by itself those
-  -- that it writes, no more than a transaction may weigh.
+  -- that it changes, no more than a transaction may weigh.
   abbrev pub IsWrittenBy : InputLine → Pairs → Type 0
   IsWrittenBy line written =
       (SpellsLine line commands.Commit × (old.session.console.is_open ≡ true)
       × (written ≡ old.session.console.written))
       ⊎ ((¬ SpellsLine line commands.Commit) × (old.session.console.is_open ≡ false)
       × (weight : ℕ) × AreWeighed written weight × (weight ≤ most_weight)
+      × (g.tells_reads → AreChanged old.session.console.committed written)
       × IsCommittedBy g old reply new written)
 
   -- Snapshots end only by a line that ends a transaction, just so many that the old records that it

@@ -1,5 +1,5 @@
 -- What a command of the session that writes leaves of the old records that are kept, over any disk.
-use Rattle.std.specs.Prelude.{◌≡◌, ◌⊎◌, ◌+◌, ◌≤◌, ℕ, true, false, List, [], ◌++◌, length}
+use Rattle.std.specs.Prelude.{◌≡◌, ◌⊎◌, ◌+◌, ◌≤◌, ◌↔◌, ℕ, true, false, List, [], ◌++◌, length}
 use Rattle.std.specs.Prelude.{is_some}
 use Rattle.disk_model.specs.Spans.{OnlyReads}
 use Rattle.disk_model.specs.declared.disk.Disk.{Ghosts}
@@ -13,11 +13,13 @@ use Rattle.plain_graph.specs.declared.command.Command.TheVariants as commands
 use Rattle.rec_bytes.specs.Pairs.{IsOrdered, Pairs, find_pair}
 use Rattle.rec_bytes.specs.Space.{IsAmong, laid_over}
 use Rattle.rec_bytes.specs.declared.key.Key.{Key}
+use Rattle.rec_bytes.specs.declared.record.Rec.{Rec}
 use Rattle.store_rules.specs.Graph.{graph_of, names_of}
 use Rattle.store_rules.specs.Indexes.{IsIndexed}
 use Rattle.store_rules.specs.Writes.{meta_keys}
 use Rattle.snap_store.specs.Keeping.{EndsFor, KeepsHeld}
 use Rattle.snap_store.specs.Snaps.{Snapshots}
+use Rattle.txn_core.specs.Changed.{AreChanged}
 use Rattle.txn_core.specs.Sights.{KeepsSights}
 use Rattle.graph_session.specs.Console.{ConsoleView, HasNoDraft, SessionView}
 
@@ -38,9 +40,14 @@ pub record AreWeighed (written : Pairs) (weight : ℕ) : Type 0 where
 abbrev pub IsWeighed : ConsoleView → Type 0
 IsWeighed console = console.is_open ≡ true → AreWeighed console.written console.weight
 
+-- The two differ just at the keys of these records.
+abbrev pub DifferJustAt : (Key → Rec) → (Key → Rec) → Pairs → Type 0
+DifferJustAt old new written =
+    (key : Key) → (is_some (find_pair written key) ≡ true) ↔ (¬ (new key ≡ old key))
+
 -- A change by itself has written these records: beside the meta records at most so many as it
 -- weighs, which with a transaction's first weight is no more than one may. Where the store has a
--- graph, that is what the line weighs.
+-- graph, that is what the line weighs. Each of them differs from what was committed.
 pub record WritesAlone {D : Type 0} (g : Ghosts D) (command : Command) (old : SessionView D)
     (written : Pairs) : Type 0 where
   pub more : ℕ
@@ -50,6 +57,7 @@ pub record WritesAlone {D : Type 0} (g : Ghosts D) (command : Command) (old : Se
       → old.console.names ≡ names_of old.console.committed
       → LineWeighs old.console.shape.limit old.console.shape.threshold
       (graph_of old.console.committed) command more
+  pub changed : g.tells_reads → AreChanged old.console.committed written
 
 -- the reply says that the line was carried out
 abbrev pub Confirms : Reply → Type 0
@@ -76,11 +84,12 @@ module _ {D : Type 0} (g : Ghosts D) (old : SharedView D) (reply : Reply) (new :
       ⊎ ((old.session.console.is_open ≡ true) × KeepsFor old.session.console.written)
 
   -- The records are what a change by itself has written: where it is made they are what was
-  -- committed with it.
+  -- committed with it, and no other record differs from what it was.
   abbrev pub IsCommittedBy : Pairs → Type 0
   IsCommittedBy written =
       g.tells_reads → Confirms reply
-      → new.session.console.committed ≡ laid_over old.session.console.committed written
+      → (new.session.console.committed ≡ laid_over old.session.console.committed written)
+      × DifferJustAt old.session.console.committed new.session.console.committed written
 
   -- A change outside a transaction is one by itself. One that is not made, or in a transaction,
   -- keeps nothing.

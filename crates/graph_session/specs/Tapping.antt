@@ -16,7 +16,7 @@ use Rattle.redo_log.specs.Appending.{AreWhole}
 use Rattle.txn_core.specs.Shipped.{AllShip}
 use Rattle.graph_session.specs.Answer.{AnswersLine, Terminal}
 use Rattle.graph_session.specs.Console.{ConsoleView, HasNoDraft, SessionView}
-use Rattle.graph_session.specs.SnapshotEffects.{Confirms, WritesAlone}
+use Rattle.graph_session.specs.SnapshotEffects.{Confirms, DifferJustAt, WritesAlone}
 use Rattle.graph_session.specs.State.{SpellsLine, session_in}
 use Rattle.graph_session.specs.declared.turn.Turn.{Turn}
 
@@ -40,7 +40,7 @@ pub record IsTapped {D : Type 0} (g : DiskGhosts D) (old new : SessionView D) (t
 
 -- The set has what was committed where the reply acknowledges a transaction, and else nothing. For
 -- `commit` that is what the open transaction had written, and for a change by itself what that has
--- written.
+-- written: just the records that are committed otherwise than they were.
 pub record Taps {D : Type 0} (g : DiskGhosts D) (line : InputLine) (old : SessionView D)
     (reply : Reply) (new : SessionView D) (tap : Pairs) : Type 0 where
   pub taken : Acknowledges old.console.is_open line reply → IsTapped g old new tap
@@ -48,6 +48,9 @@ pub record Taps {D : Type 0} (g : DiskGhosts D) (line : InputLine) (old : Sessio
       → tap ≡ old.console.written
   pub alone : Acknowledges old.console.is_open line reply → (command : Command)
       → SpellsLine line command → IsChange command → WritesAlone g command old tap
+  pub only : Acknowledges old.console.is_open line reply → (command : Command)
+      → SpellsLine line command → IsChange command → g.tells_reads
+      → DifferJustAt old.console.committed new.console.committed tap
   pub empty : ¬ Acknowledges old.console.is_open line reply → tap ≡ []
 
 -- A line is answered, and its set has what its transaction wrote.
@@ -85,13 +88,16 @@ EndsOne is_open command =
     (command ≡ commands.Commit) ⊎ ((is_open ≡ false) × IsChange command)
 
 -- What a command leaves in the set: what was committed where it ended a transaction, for `commit`
--- what the open one had written, for a change by itself what that has written, and else nothing.
+-- what the open one had written, for a change by itself what that has written, which is what it
+-- changed, and else nothing.
 pub record TapsCommand {D : Type 0} (g : DiskGhosts D) (command : Command) (old : SessionView D)
     (reply : Reply) (new : SessionView D) (tap : Pairs) : Type 0 where
   pub taken : Confirms reply → EndsOne old.console.is_open command → IsTapped g old new tap
   pub written : Confirms reply → command ≡ commands.Commit → tap ≡ old.console.written
   pub alone : Confirms reply → IsChange command → old.console.is_open ≡ false
       → WritesAlone g command old tap
+  pub only : Confirms reply → IsChange command → old.console.is_open ≡ false → g.tells_reads
+      → DifferJustAt old.console.committed new.console.committed tap
   pub empty : ¬ (Confirms reply × EndsOne old.console.is_open command) → tap ≡ []
 
 -- A line is answered, and the set, where there is one, has what its transaction wrote.

@@ -1,4 +1,4 @@
-ghost use Rattle.std.specs.Prelude.{◌≡◌, [], IfErr, IfOk, IsTrue, OnErr, OnOk};
+ghost use Rattle.std.specs.Prelude.{◌≡◌, [], IfErr, IfOk, IsTrue, OnErr, OnOk, true};
 ghost use Rattle.std.specs.List.{AllByRecursion};
 ghost use Rattle.plain_graph.specs.Forms.{IsShown};
 ghost use Rattle.plain_graph.specs.LineChanges.{read_items};
@@ -35,7 +35,7 @@ use graph_ops::{
     unset,
 };
 use plain_graph::{Item, MOST_WEIGHT, Mutation, Query, Refusal, START_WEIGHT, Target};
-use rec_bytes::{Fault, INDEX, NODES, PROPERTIES, RELATIONSHIPS, WriteSet};
+use rec_bytes::{Fault, INDEX, NODES, PROPERTIES, RELATIONSHIPS, SpaceFault, WriteSet};
 use std::alloc::AllocError;
 use traversal_run::items_of;
 use txn_core::Store;
@@ -64,9 +64,11 @@ impl<'d, D: Disk> Session<'d, D> {
       Discards,
       Drafts,
       DropsAlone,
+      DropsUnchanged,
       EndsChange,
       Finishes,
       FinishesAlone,
+      HasOnlyChanged,
       HasStore,
       IsStopped,
       IsUnkept,
@@ -91,7 +93,7 @@ impl<'d, D: Disk> Session<'d, D> {
         ensures same_disk { HaveSameDisk self.old self.new }
     {
         let begun = self.begin_change();
-        let drafted = self.draft(change);
+        let drafted = self.draft_begun(begun, change);
         self.end_change(begun, drafted, tap)
     }
 
@@ -126,6 +128,46 @@ impl<'d, D: Disk> Session<'d, D> {
             self.finish_alone(drafted, begun.names, tap)
         } else {
             self.finish(drafted, begun.names)
+        }
+    }
+
+    // The change in the draft. Where it is a transaction by itself, the draft has the changed
+    // records alone.
+    fn draft_begun(&mut self, begun: Begun, change: Change<'_>) -> Result<Drafted, Answer>
+        requires { HasForm (change_command change) }
+        ensures only { OnlyDrafts self.old self.new }
+        ensures drafts { Drafts (change_command change.entry) self.old self.new result }
+        ensures changed { begun.alone ≡ true → OnOk result (HasOnlyChanged self.new) }
+    {
+        if begun.alone {
+            self.draft_changed(change)
+        } else {
+            self.draft(change)
+        }
+    }
+
+    // The change in the draft, which has the changed records alone.
+    fn draft_changed(&mut self, change: Change<'_>) -> Result<Drafted, Answer>
+        requires { HasForm (change_command change) }
+        ensures only { OnlyDrafts self.old self.new }
+        ensures drafts { Drafts (change_command change.entry) self.old self.new result }
+        ensures changed { OnOk result (HasOnlyChanged self.new) }
+    {
+        match self.draft(change) {
+            Ok(drafted) => self.drop_unchanged(drafted),
+            Err(answer) => Err(answer),
+        }
+    }
+
+    // Drops the records that the draft leaves as they were.
+    fn drop_unchanged(&mut self, drafted: Drafted) -> Result<Drafted, Answer>
+        ensures only { OnlyDrafts self.old self.new }
+        ensures drops { DropsUnchanged drafted self.old self.new result }
+    {
+        match self.store.drop_unchanged() {
+            Ok(()) => Ok(drafted),
+            Err(SpaceFault::Memory) => Err(Answer::NoMemory),
+            Err(SpaceFault::Disk) => Err(Answer::DiskFailed),
         }
     }
 
