@@ -10,7 +10,7 @@ use Rattle.store_rules.specs.Breaking.{ElementKeeps, HasProperty, IsPropertyList
 use Rattle.store_check.specs.Elements.{AreItsProperties, IsInUse}
 use Rattle.record_lists.specs.Heads.{AmongHeads, AtHead, HeadKeeps, IsOnce, IsTwice}
 use Rattle.store_check.specs.Listing.{AreListed, IsHadTwice, IsOfFile}
-use Rattle.record_lists.specs.Marks.{marked}
+use Rattle.record_lists.specs.Seen.{is_seen}
 use Rattle.record_lists.proofs.LiveLaws.{live_below}
 
 module _ (records : Records) (heads : ElementHeads) (known : is_element_file heads.file ≡ true) where
@@ -66,13 +66,13 @@ module _ (records : Records) (heads : ElementHeads) (known : is_element_file hea
   }
 
   pub are_listed : (n : ℕ) (old new : List Bool) → n ≡ high records heads.file
-      → ((x : ℕ) → x < n → HeadKeeps Has Lists x) → ((p : ℕ) → Decides (marked new p) ((marked old p ≡ true) ⊎ AmongHeads Has Lists n p))
-      → ((p : ℕ) → IsOnce Has Lists n p) → ((k : ℕ) → k < n → (p : ℕ) → AtHead Has Lists k p → marked old p ≡ false)
+      → ((x : ℕ) → x < n → HeadKeeps Has Lists x) → ((p : ℕ) → Decides (is_seen new p) ((is_seen old p ≡ true) ⊎ AmongHeads Has Lists n p))
+      → ((p : ℕ) → IsOnce Has Lists n p) → ((k : ℕ) → k < n → (p : ℕ) → AtHead Has Lists k p → is_seen old p ≡ false)
       → ((x : ℕ) → x < n → is_live records heads.file x ≡ true → label_of records heads.file x < high records format.names_file)
       → AreListed records heads.file old new
   are_listed n old new mark keeps told once fresh named = record {
     keeps = λ x lt. head_element x (keeps x (omega arith)) (named x (omega arith));
-    marks = λ p. (
+    seen = λ p. (
       (λ m. ⊎_elim (λ o. inl o) (λ (a : AmongHeads Has Lists n p). inr (record { element = a.id; has = at_has a.id p a.here })) ((told p).0 m)),
       (λ i. (told p).1 (⊎_elim (λ o. inl o) (λ (f : IsOfFile records heads.file p). let low = has_low f.element p f.has in inr
           (record { id = f.element; below = omega arith; here = has_at f.element p f.has })) i)),

@@ -15,7 +15,7 @@ use Rattle.store_check.specs.declared.free.Counted.{Counted}
 use Rattle.store_rules.specs.Breaking.{HasFreeList, IsFreeList, IsOnFreeList}
 use Rattle.store_check.specs.Free.{IsCounted, free_line}
 use Rattle.record_lists.specs.Lines.{IsLineIn}
-use Rattle.record_lists.specs.Marks.{is_among, marked}
+use Rattle.record_lists.specs.Seen.{is_among, is_seen}
 use Rattle.record_lists.proofs.LineLaws.{among_from_in, below_in, in_from_among, line_of_walk, tested_in, walk_members, walk_of_line}
 
 module _ (records : Records) (file : ℕ) where
@@ -65,26 +65,26 @@ module _ (records : Records) (file : ℕ) where
     members_same : (xs ys : List ℕ) → IsIt xs → IsFreeList records file ys → (q : ℕ) → In q ys → In q xs
     members_same xs ys h l q i = walk_members (rules.next_free records file) (meta_in records file).free ys xs l.walk (list_of xs h).walk q i
 
-    pub is_split : (marks : List Bool) (xs : List ℕ) → IsIt xs → ((p : ℕ) → marked marks p ≡ is_among xs p)
+    pub is_split : (seen : List Bool) (xs : List ℕ) → IsIt xs → ((p : ℕ) → is_seen seen p ≡ is_among xs p)
         → (meta_in records file).live ≡ length (ids (is_live records file) (high records file))
-        → ((x : ℕ) → x < high records file → is_live records file x ≡ false → marked marks x ≡ true) → (free : List ℕ)
+        → ((x : ℕ) → x < high records file → is_live records file x ≡ false → is_seen seen x ≡ true) → (free : List ℕ)
         × rules.IsSplit records file (is_live records file) free
-    is_split marks xs h ms count all =
+    is_split seen xs h ms count all =
         let l = list_of xs h in (
           xs,
           record { walk = l.walk; low = l.low; only = l.only; all = λ x lt free. in_from_among x xs (sym (ms x) ∙ all x lt free); exact = count },
         )
 
-    pub is_off : (marks : List Bool) (xs : List ℕ) → IsIt xs → ((p : ℕ) → marked marks p ≡ is_among xs p) → (x : ℕ) → marked marks x ≡ false
+    pub is_off : (seen : List Bool) (xs : List ℕ) → IsIt xs → ((p : ℕ) → is_seen seen p ≡ is_among xs p) → (x : ℕ) → is_seen seen x ≡ false
         → ¬ IsOnFreeList records file x
-    is_off marks xs h ms x out held = true≢false (sym (among_from_in x xs (members_same xs held.members h held.list x held.member)) ∙ sym (ms x) ∙ out)
+    is_off seen xs h ms x out held = true≢false (sym (among_from_in x xs (members_same xs held.members h held.list x held.member)) ∙ sym (ms x) ∙ out)
 
     -- where the count is another one the rule is broken
     pub wrong_count : (n : ℕ) → n ≡ length (ids (is_live records file) (high records file)) → n ≢ (meta_in records file).live → ¬ HasFreeList records file
     wrong_count n e ne h = ne (e ∙ sym h.exact)
 
 -- a count of the same records
-pub counted_at : (now records : Records) (file : ℕ) (seen marks : List Bool) (found was : Counted) → now ≡ records → seen ≡ marks → was ≡ found
-    → IsCounted now file seen was → IsCounted records file marks found
-counted_at now records file seen marks found was e s f h =
-    subst (λ (r : Records). IsCounted r file marks found) e (subst (λ ms. IsCounted now file ms found) s (subst (λ k. IsCounted now file seen k) f h))
+pub counted_at : (now records : Records) (file : ℕ) (earlier seen : List Bool) (found was : Counted) → now ≡ records → earlier ≡ seen → was ≡ found
+    → IsCounted now file earlier was → IsCounted records file seen found
+counted_at now records file earlier seen found was e s f h =
+    subst (λ (r : Records). IsCounted r file seen found) e (subst (λ ms. IsCounted now file ms found) s (subst (λ k. IsCounted now file earlier k) f h))

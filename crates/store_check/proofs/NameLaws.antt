@@ -1,9 +1,8 @@
 -- Names that a load finds wrong.
-use Rattle.std.proofs.Common.{◌≡◌, ℕ, zero, suc, Some, None, sym, ◌∙◌, arith, refl}
+use Rattle.std.proofs.Common.{◌≡◌, Some, None, sym, ◌∙◌, arith, refl}
 use Rattle.rec_bytes.specs.declared.damage.Damage.{Damage}
 use Rattle.rec_bytes.specs.declared.shape.Shape.{Shape}
 use Rattle.rec_bytes.specs.Format as format
-use Rattle.rec_bytes.specs.Space.{State, after_gets}
 use Rattle.store_rules.specs.Ranges as ranges
 use Rattle.store_rules.specs.Views.{Records, high}
 use Rattle.name_store.specs.Loading.{IsNameDamage}

@@ -22,7 +22,7 @@ pub record AreKeys (names : ℕ) (keys : List ℕ) : Type 0 where
   pub named : list_all (is_below names) keys ≡ true
   pub distinct : IsDistinct nat_eq keys
 
--- the marks are those of the records, and low
+-- the bits are those of the records, whose high-water mark is low
 pub record AreElements (heads : ElementHeads) (records : Records) : Type 0 where
   pub known : is_element_file heads.file ≡ true
   pub file : is_record_file heads.file ≡ true

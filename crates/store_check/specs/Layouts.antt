@@ -33,13 +33,13 @@ IsBlankBut used r = (i : ℕ) → i < 64 → list_any (has_place i) used ≡ fal
 
 -- the number is right in the record
 abbrev pub is_right_in : (ℕ → ℕ) → Rec → Pointer → Bool
-is_right_in marks r p = ranges.points marks r (pointer_of p)
+is_right_in seen r p = ranges.points seen r (pointer_of p)
 
 -- there is a layout, and the record has it
-pub record HasLayout (marks : ℕ → ℕ) (r : Rec) (layout : ranges.Layout) : Type 0 where
-  pub point : ranges.all_point marks r layout.pointers ≡ true
+pub record HasLayout (seen : ℕ → ℕ) (r : Rec) (layout : ranges.Layout) : Type 0 where
+  pub point : ranges.all_point seen r layout.pointers ≡ true
   pub blank : ranges.IsBlankOutside layout.used r
 
 abbrev pub HasLayoutOf : (ℕ → ℕ) → Rec → Option ranges.Layout → Type 0
-HasLayoutOf marks r None = ⊥
-HasLayoutOf marks r (Some layout) = HasLayout marks r layout
+HasLayoutOf seen r None = ⊥
+HasLayoutOf seen r (Some layout) = HasLayout seen r layout

@@ -9,7 +9,7 @@ use Rattle.record_lists.specs.Lines.{LineKind, live_line}
 abbrev pub block_line : LineKind
 block_line = live_line format.strings_file format.block_next
 
--- the marks are those of the records, and low
+-- the bits are those of the records, whose high-water mark is low
 pub record AreTexts (heads : TextHeads) (records : Records) : Type 0 where
   pub properties : heads.properties ≡ high records format.properties_file
   pub blocks : heads.blocks ≡ high records format.strings_file

@@ -22,7 +22,7 @@ pub struct Defined {
 impl Sentence for Defined {
     ghost suits = { IsOnIndex };
 
-    ghost mark = { λ sentence. sentence.mark };
+    ghost count = { λ sentence. sentence.mark };
 
     ghost says = { HasNames };
 

@@ -12,7 +12,7 @@ ghost use Rattle.store_rules.specs.Views.{high};
 ghost use Rattle.store_rules.specs.Breaking.{IsPropertyList, is_element_file};
 ghost use Rattle.store_check.specs.Holding.{AreElementsRight};
 ghost use Rattle.store_check.specs.Listing.{AreListed, IsUnlisted};
-ghost use Rattle.record_lists.specs.Marks.{marked};
+ghost use Rattle.record_lists.specs.Seen.{is_seen};
 ghost use Rattle.record_lists.specs.Deciding.{AreMarksLow, BreaksRule};
 ghost use Rattle.store_check.specs.Elements.{
   AreElements,
@@ -30,8 +30,8 @@ use rec_bytes::{
     RELATIONSHIPS, Reads, SpaceFault,
 };
 use record_lists::{
-    Broke, Found, Heads, LiveLine, Sentence, are_distinct, broken, find_false, find_unmarked,
-    follow, list_heads, no_marks, numbers_of,
+    Broke, Found, Heads, LiveLine, Sentence, are_distinct, broken, find_false, find_unseen, follow,
+    list_heads, none_seen, numbers_of,
 };
 use std::alloc::Global;
 
@@ -100,7 +100,7 @@ impl Heads for ElementHeads {
 
     ghost suits = { AreElements };
 
-    ghost mark = { λ heads. heads.elements };
+    ghost count = { λ heads. heads.elements };
 
     ghost bound = { λ heads. heads.properties };
 
@@ -142,7 +142,7 @@ pub struct Named {
 impl Sentence for Named {
     ghost suits = { IsOnElements };
 
-    ghost mark = { λ sentence. sentence.elements };
+    ghost count = { λ sentence. sentence.elements };
 
     ghost says = { HasName };
 
@@ -156,21 +156,21 @@ impl Sentence for Named {
 }
 
 /// Finds a node or a relationship whose properties or whose label are wrong, or a property that two
-/// of them have. Where there is none, just the properties of elements are marked.
+/// of them have. Where there is none, just the properties of elements are seen.
 fn check_file<R: Reads>(
     alloc: Global,
     space: &mut R,
     file: u8,
-    marks: &mut [bool],
+    seen: &mut [bool],
 ) -> Result<Option<Damage>, SpaceFault>
     requires file { is_element_file file ≡ true }
     requires low { AreMarksLow (R.state space.old).records }
-    requires marks { length marks.old ≡ high (R.state space.old).records properties_file }
+    requires seen { length seen.old ≡ high (R.state space.old).records properties_file }
     ensures none { R.tells → IfOk result (λ found. IfNone found
-        (AreListed (R.state space.old).records file marks.old marks.new)) }
+        (AreListed (R.state space.old).records file seen.old seen.new)) }
     ensures found { R.tells → IfOk result (λ found. IfSome found
-        (IsUnlisted (R.state space.old).records file marks.old)) }
-    ensures len { length marks.new ≡ length marks.old }
+        (IsUnlisted (R.state space.old).records file seen.old)) }
+    ensures len { length seen.new ≡ length seen.old }
     ensures read { IsRead R.Reads space.old space.new }
     ensures cause { HasCause (R.faults space.old) (R.faults space.new) result }
 {
@@ -181,7 +181,7 @@ fn check_file<R: Reads>(
         elements,
         properties,
     };
-    match list_heads(alloc, space, &heads, elements, marks)? {
+    match list_heads(alloc, space, &heads, elements, seen)? {
         Some(Broke::Head(id)) => return Ok(Some(broken(file, id, PROPERTY_RULE))),
         Some(Broke::Item(id)) => return Ok(Some(broken(PROPERTIES, id, PROPERTY_RULE))),
         None => {}
@@ -192,16 +192,16 @@ fn check_file<R: Reads>(
     }
 }
 
-/// Finds what breaks the fifth rule of elements and of properties, with marks for all properties,
-/// none of them set.
-fn check_marked<R: Reads>(
+/// Finds what breaks the fifth rule of elements and of properties, with a bit for each property,
+/// none of them seen.
+fn check_seen<R: Reads>(
     alloc: Global,
     space: &mut R,
-    marks: &mut [bool],
+    seen: &mut [bool],
 ) -> Result<Option<Damage>, SpaceFault>
     requires low { AreMarksLow (R.state space.old).records }
-    requires marks { length marks.old ≡ high (R.state space.old).records properties_file }
-    requires clear { (p : ℕ) → marked marks.old p ≡ false }
+    requires seen { length seen.old ≡ high (R.state space.old).records properties_file }
+    requires clear { (p : ℕ) → is_seen seen.old p ≡ false }
     ensures none { R.tells → IfOk result (λ found. IfNone found
         (AreElementsRight (R.state space.old).records)) }
     ensures found { R.tells → IfOk result (λ found. IfSome found
@@ -209,13 +209,13 @@ fn check_marked<R: Reads>(
     ensures read { IsRead R.Reads space.old space.new }
     ensures cause { HasCause (R.faults space.old) (R.faults space.new) result }
 {
-    if let Some(damage) = check_file(alloc, space, NODES, marks)? {
+    if let Some(damage) = check_file(alloc, space, NODES, seen)? {
         return Ok(Some(damage));
     }
-    if let Some(damage) = check_file(alloc, space, RELATIONSHIPS, marks)? {
+    if let Some(damage) = check_file(alloc, space, RELATIONSHIPS, seen)? {
         return Ok(Some(damage));
     }
-    match find_unmarked(space, PROPERTIES, marks)? {
+    match find_unseen(space, PROPERTIES, seen)? {
         Some(id) => Ok(Some(broken(PROPERTIES, id, PROPERTY_RULE))),
         None => Ok(None),
     }
@@ -234,8 +234,8 @@ pub(crate) fn check_elements<R: Reads>(
     ensures read { IsRead R.Reads space.old space.new }
     ensures cause { HasCause (R.faults space.old) (R.faults space.new) result }
 {
-    let Ok(mut marks) = no_marks(alloc, space.meta(PROPERTIES).high as usize) else {
+    let Ok(mut seen) = none_seen(alloc, space.meta(PROPERTIES).high as usize) else {
         return Err(SpaceFault::Memory);
     };
-    check_marked(alloc, space, &mut marks)
+    check_seen(alloc, space, &mut seen)
 }

@@ -14,7 +14,7 @@ ghost use Rattle.record_lists.specs.Deciding.{AreMarksLow, BreaksRule, DecidesRu
 use rec_bytes::{
     Damage, FREE, FREE_NEXT, KIND, Key, META, NAMES, Reads, Rec, RecordFile, SPLIT_RULE, SpaceFault,
 };
-use record_lists::{Line, follow, marks_of};
+use record_lists::{Line, follow, seen_of};
 use std::alloc::Global;
 
 /// The free list of a file.
@@ -40,20 +40,20 @@ impl Line for FreeLine {
     }
 }
 
-/// How many records are in use, or one that isn't and has no mark.
+/// How many records are in use, or one that isn't and was not seen.
 #[derive(Clone, Copy)]
 pub enum Counted {
     Live(u32),
     OffList(u32),
 }
 
-/// Counts the records of a file that are in use, where all others have marks.
-fn count_live<R: Reads>(space: &mut R, file: u8, marks: &[bool]) -> Result<Counted, SpaceFault>
+/// Counts the records of a file that are in use, where all others are seen.
+fn count_live<R: Reads>(space: &mut R, file: u8, seen: &[bool]) -> Result<Counted, SpaceFault>
     requires file { is_meta_file file ≡ true }
     requires mark { high (R.state space.old).records file ≤ most_ids }
-    requires marks { length marks.now ≡ high (R.state space.old).records file }
+    requires seen { length seen.now ≡ high (R.state space.old).records file }
     ensures counted { R.tells
-        → IfOk result (IsCounted (R.state space.old).records file marks.now) }
+        → IfOk result (IsCounted (R.state space.old).records file seen.now) }
     ensures read { IsRead R.Reads space.old space.new }
     ensures cause { HasCause (R.faults space.old) (R.faults space.new) result }
 {
@@ -62,7 +62,7 @@ fn count_live<R: Reads>(space: &mut R, file: u8, marks: &[bool]) -> Result<Count
         let rec = space.get(Key { file, id })?;
         if rec.byte(KIND) != FREE {
             live += 1;
-        } else if !marks[id as usize] {
+        } else if !seen[id as usize] {
             return Ok(Counted::OffList(id));
         }
     }
@@ -95,10 +95,10 @@ fn check_free<R: Reads>(
     let Some(ids) = follow(alloc, space, &line, meta.free, meta.high)? else {
         return Ok(Some(on_meta));
     };
-    let Ok(marks) = marks_of(alloc, meta.high as usize, &ids) else {
+    let Ok(seen) = seen_of(alloc, meta.high as usize, &ids) else {
         return Err(SpaceFault::Memory);
     };
-    match count_live(space, file, &marks)? {
+    match count_live(space, file, &seen)? {
         Counted::Live(live) if live == meta.live => Ok(None),
         Counted::Live(_) => Ok(Some(on_meta)),
         Counted::OffList(id) => Ok(Some(Damage {

@@ -1,5 +1,5 @@
 //! Whether the records of a space are those of a well-formed store with its indexes. A check reads
-//! the records below the marks, each a few times, and keeps a few bytes for each.
+//! the records below the high-water marks, each a few times, and keeps a few bytes for each.
 #![tactic(auto)]
 
 mod checking;

@@ -67,7 +67,7 @@ pub struct Fitting {
 impl Sentence for Fitting {
     ghost suits = { IsOnFile };
 
-    ghost mark = { λ sentence. sentence.records };
+    ghost count = { λ sentence. sentence.records };
 
     ghost says = { IsFitting };
 

@@ -7,7 +7,7 @@ ghost use Rattle.rec_bytes.specs.Frame.{IsRead};
 ghost use Rattle.rec_bytes.specs.Space.{HasCause};
 ghost use Rattle.store_rules.specs.Breaking.{IsBlockList, IsLong, block_size};
 ghost use Rattle.store_check.specs.Holding.{AreTextsRight};
-ghost use Rattle.record_lists.specs.Marks.{marked};
+ghost use Rattle.record_lists.specs.Seen.{is_seen};
 ghost use Rattle.store_check.specs.Texts.{AreTexts};
 ghost use Rattle.record_lists.specs.Deciding.{AreMarksLow, BreaksRule};
 ghost use Rattle.store_rules.specs.Views.{high};
@@ -18,7 +18,7 @@ use rec_bytes::{
     PROPERTY_RULE, Reads, STRINGS, SpaceFault, TEXT_IN_BLOCKS,
 };
 use record_lists::{
-    Broke, Found, Heads, LiveLine, broken, find_unmarked, follow, list_heads, no_marks,
+    Broke, Found, Heads, LiveLine, broken, find_unseen, follow, list_heads, none_seen,
 };
 use std::alloc::Global;
 
@@ -57,7 +57,7 @@ impl Heads for TextHeads {
 
     ghost suits = { AreTexts };
 
-    ghost mark = { λ heads. heads.properties };
+    ghost count = { λ heads. heads.properties };
 
     ghost bound = { λ heads. heads.blocks };
 
@@ -82,16 +82,16 @@ impl Heads for TextHeads {
     }
 }
 
-/// Finds what breaks the fifth rule of texts and of blocks, with marks for all blocks, none of them
-/// set.
-fn check_marked<R: Reads>(
+/// Finds what breaks the fifth rule of texts and of blocks, with a bit for each block, none of them
+/// seen.
+fn check_seen<R: Reads>(
     alloc: Global,
     space: &mut R,
-    marks: &mut [bool],
+    seen: &mut [bool],
 ) -> Result<Option<Damage>, SpaceFault>
     requires low { AreMarksLow (R.state space.old).records }
-    requires marks { length marks.old ≡ high (R.state space.old).records strings_file }
-    requires clear { (b : ℕ) → marked marks.old b ≡ false }
+    requires seen { length seen.old ≡ high (R.state space.old).records strings_file }
+    requires clear { (b : ℕ) → is_seen seen.old b ≡ false }
     ensures none { R.tells → IfOk result (λ found. IfNone found
         (AreTextsRight (R.state space.old).records)) }
     ensures found { R.tells → IfOk result (λ found. IfSome found
@@ -102,12 +102,12 @@ fn check_marked<R: Reads>(
     let properties = space.meta(PROPERTIES).high;
     let blocks = space.meta(STRINGS).high;
     let heads = TextHeads { properties, blocks };
-    match list_heads(alloc, space, &heads, properties, marks)? {
+    match list_heads(alloc, space, &heads, properties, seen)? {
         Some(Broke::Head(id)) => return Ok(Some(broken(PROPERTIES, id, PROPERTY_RULE))),
         Some(Broke::Item(id)) => return Ok(Some(broken(STRINGS, id, PROPERTY_RULE))),
         None => {}
     }
-    match find_unmarked(space, STRINGS, marks)? {
+    match find_unseen(space, STRINGS, seen)? {
         Some(id) => Ok(Some(broken(STRINGS, id, PROPERTY_RULE))),
         None => Ok(None),
     }
@@ -126,8 +126,8 @@ pub(crate) fn check_texts<R: Reads>(
     ensures read { IsRead R.Reads space.old space.new }
     ensures cause { HasCause (R.faults space.old) (R.faults space.new) result }
 {
-    let Ok(mut marks) = no_marks(alloc, space.meta(STRINGS).high as usize) else {
+    let Ok(mut seen) = none_seen(alloc, space.meta(STRINGS).high as usize) else {
         return Err(SpaceFault::Memory);
     };
-    check_marked(alloc, space, &mut marks)
+    check_seen(alloc, space, &mut seen)
 }

@@ -1,4 +1,4 @@
-use Rattle.std.proofs.Common.{arith, ◌≡◌, ◌<◌, ◌≤◌, ◌∙◌, Option, IfNone, ⊎_elim, sym, subst, rules}
+use Rattle.std.proofs.Common.{arith, ◌≡◌, ◌<◌, ◌≤◌, Option, IfNone, ⊎_elim, sym, subst, rules}
 use Rattle.std.proofs.lemmas.Bool.{cases_lt}
 use Rattle.rec_bytes.specs.Frame.{IsRead}
 use Rattle.rec_bytes.specs.Space.{SameButReads}

@@ -1,4 +1,4 @@
-use Rattle.std.proofs.Common.{◌≡◌, ◌≤◌, ◌<◌, ℕ}
+use Rattle.std.proofs.Common.{◌≤◌, ◌<◌, ℕ}
 use Rattle.store_rules.specs.Breaking.{Keeps}
 use Rattle.record_lists.specs.Deciding.{AreMarksLow}
 use Rattle.rec_bytes.specs.Frame.{IsRead}

@@ -7,7 +7,7 @@ use Rattle.store_check.specs.declared.elements.Named.{Named}
 use Rattle.record_lists.specs.declared.heads.Broke.TheVariants.{Head, Item}
 use Rattle.store_check.specs.Elements.{AreItsProperties, HasName, IsInUse}
 use Rattle.record_lists.specs.Heads.{AmongHeads, AtHead, BrokeIs, HeadKeeps, IsOnce}
-use Rattle.record_lists.specs.Marks.{marked}
+use Rattle.record_lists.specs.Seen.{is_seen}
 use Rattle.store_check.proofs.ElementLaws.{are_listed, element_head, had_twice}
 use Rattle.record_lists.proofs.Causes.{cause_passed}
 use Rattle.rec_bytes.proofs.Causes.{never_ok, ok_cause}
@@ -19,7 +19,7 @@ returns-in-Some-Head-clause-found g c = λ tells.
     let records = (g.R.Reads.state c.args.space.now).records in
     let heads : ElementHeads = record { file = c.args.file; elements = c.meta-elements.result.high; properties = c.meta-properties.result.high } in
     let mark : c.meta-elements.result.high ≡ high records c.args.file = ap (λ (m : Meta). m.high) c.meta-elements.ensures in
-    let b : BrokeIs (IsInUse heads records) (AreItsProperties heads records) c.meta-elements.result.high c.args.marks.now (Head c.in-Some-Head.id) =
+    let b : BrokeIs (IsInUse heads records) (AreItsProperties heads records) c.meta-elements.result.high c.args.seen.now (Head c.in-Some-Head.id) =
     search (rules, c.in_ok-id.ensures.broken tells) in
     inl (c.in-Some-Head.id, c.broken.ensures, omega (arith, b.0), (λ k. b.1 (element_head records heads c.requires.file c.in-Some-Head.id k)))
 
@@ -27,12 +27,12 @@ pub returns-in-Some-Item-clause-found : goal.returns-in-Some-Item-clause-found
 returns-in-Some-Item-clause-found g c = λ tells.
     let records = (g.R.Reads.state c.args.space.now).records in
     let heads : ElementHeads = record { file = c.args.file; elements = c.meta-elements.result.high; properties = c.meta-properties.result.high } in
-    let b : BrokeIs (IsInUse heads records) (AreItsProperties heads records) c.meta-elements.result.high c.args.marks.now (Item c.in-Some-Item.id) =
+    let b : BrokeIs (IsInUse heads records) (AreItsProperties heads records) c.meta-elements.result.high c.args.seen.now (Item c.in-Some-Item.id) =
     search (rules, c.in_ok-id.ensures.broken tells) in
     inr (
       c.in-Some-Item.id,
       c.broken-in-Some-Item.ensures,
-      had_twice records heads c.requires.file c.meta-elements.result.high c.args.marks.now
+      had_twice records heads c.requires.file c.meta-elements.result.high c.args.seen.now
           c.in-Some-Item.id b,
     )
 
@@ -42,15 +42,15 @@ returns-in-None-2-clause-none g c = λ tells.
     let heads : ElementHeads = record { file = c.args.file; elements = c.meta-elements.result.high; properties = c.meta-properties.result.high } in
     let named : Named = record { file = c.args.file; elements = c.meta-elements.result.high } in
     let n = c.meta-elements.result.high in
-    let old = c.args.marks.now in
-    let new = c.list_heads.new.marks in
+    let old = c.args.seen.now in
+    let new = c.list_heads.new.seen in
     let mark : n ≡ high records c.args.file = ap (λ (m : Meta). m.high) c.meta-elements.ensures in
     let keeps : (x : ℕ) → x < n → HeadKeeps (IsInUse heads records) (AreItsProperties heads records) x = search (rules, c.in_ok-id.ensures.keeps tells) in
-    let told : (p : ℕ) → Decides (marked new p) ((marked old p ≡ true) ⊎ AmongHeads (IsInUse heads records) (AreItsProperties heads records) n p) =
-    search (rules, c.in_ok-id.ensures.marks tells) in
+    let told : (p : ℕ) → Decides (is_seen new p) ((is_seen old p ≡ true) ⊎ AmongHeads (IsInUse heads records) (AreItsProperties heads records) n p) =
+    search (rules, c.in_ok-id.ensures.seen tells) in
     let once : (p : ℕ) → IsOnce (IsInUse heads records) (AreItsProperties heads records) n p = search (rules, c.in_ok-id.ensures.once tells) in
     let fresh : (k : ℕ) → k < n → (p : ℕ) → AtHead (IsInUse heads records) (AreItsProperties heads records) k p
-    → marked old p ≡ false = search (rules, c.in_ok-id.ensures.fresh tells) in
+    → is_seen old p ≡ false = search (rules, c.in_ok-id.ensures.fresh tells) in
     let names : IfNone c.in_ok-id-2.field-0 ((x : ℕ) → x < n → HasName named records x)
     = subst (λ (r : Records). IfNone c.in_ok-id-2.field-0 ((x : ℕ) → x < n → HasName named r x)) c.in_ok-id.ensures.read.records
     (c.in_ok-id-2.ensures.none tells) in

@@ -6,13 +6,13 @@ use Rattle.store_rules.specs.Breaking.{damage}
 use Rattle.store_rules.specs.Breaking.Breaks.{WrongHolding}
 use Rattle.store_check.specs.Holding.{AllListed}
 use Rattle.store_check.specs.Listing.{AreListed, IsUnlisted}
-use Rattle.record_lists.specs.Marks.{marked}
-use Rattle.store_check.proofs.ListingLaws.{all_listed, elements_right, first_marks, not_held, unlisted_breaks}
+use Rattle.record_lists.specs.Seen.{is_seen}
+use Rattle.store_check.proofs.ListingLaws.{all_listed, elements_right, seen_first, not_held, unlisted_breaks}
 use Rattle.record_lists.proofs.DecidingLaws.{breaks_by}
 use Rattle.record_lists.proofs.Causes.{cause_passed}
 use Rattle.rec_bytes.proofs.Causes.{never_ok, ok_cause}
 use Rattle.record_lists.proofs.OnlyReads.{is_read-on}
-use Rattle.store_check.proofs.elements.check_marked.Goals as goal
+use Rattle.store_check.proofs.elements.check_seen.Goals as goal
 
 differ : (file : ℕ) → file ≡ 1 → file ≡ 2 → ⊥
 differ file e f = absurd (omega arith)
@@ -20,55 +20,55 @@ differ file e f = absurd (omega arith)
 pub returns-in-Some-clause-found : goal.returns-in-Some-clause-found
 returns-in-Some-clause-found g c = λ tells.
     let s = g.R.Reads.state c.args.space.now in
-    let clear = c.args.marks.now in
+    let clear = c.args.seen.now in
     let u : IsUnlisted s.records 1 clear c.in-Some.damage = search (rules, c.in_ok-damage.ensures.found tells) in
     unlisted_breaks s.records s.shape 1 clear c.in-Some.damage refl (λ p m. absurd (true≢false (sym m ∙ c.requires.clear p))) u
 
 pub returns-in-Some-2-clause-found : goal.returns-in-Some-2-clause-found
 returns-in-Some-2-clause-found g c = λ tells.
     let s = g.R.Reads.state c.args.space.now in
-    let clear = c.args.marks.now in
-    let m = c.check_file.new.marks in
+    let clear = c.args.seen.now in
+    let m = c.check_file.new.seen in
     let a : AreListed s.records 1 clear m = search (rules, c.in_ok-damage.ensures.none tells) in
     let found : IfSome c.in_ok-damage-2.field-0 (IsUnlisted s.records 2 m)
     = subst (λ (r : Records). IfSome c.in_ok-damage-2.field-0 (IsUnlisted r 2 m)) c.in_ok-damage.ensures.read.records (c.in_ok-damage-2.ensures.found tells) in
     let u : IsUnlisted s.records 2 m c.in-Some-2.damage = search (rules, found) in
-    unlisted_breaks s.records s.shape 2 m c.in-Some-2.damage refl (λ p t. let f = first_marks s.records clear m c.requires.clear a p t in
+    unlisted_breaks s.records s.shape 2 m c.in-Some-2.damage refl (λ p t. let f = seen_first s.records clear m c.requires.clear a p t in
     (1, f.element, (differ 1 refl, f.has))) u
 
 pub returns-in-Some-3-clause-found : goal.returns-in-Some-3-clause-found
 returns-in-Some-3-clause-found g c = λ tells.
     let s = g.R.Reads.state c.args.space.now in
-    let clear = c.args.marks.now in
-    let m = c.check_file.new.marks in
-    let n = c.check_file-2.new.marks in
+    let clear = c.args.seen.now in
+    let m = c.check_file.new.seen in
+    let n = c.check_file-2.new.seen in
     let a : AreListed s.records 1 clear m = search (rules, c.in_ok-damage.ensures.none tells) in
     let second : IfNone c.in_ok-damage-2.field-0 (AreListed s.records 2 m n)
     = subst (λ (r : Records). IfNone c.in_ok-damage-2.field-0 (AreListed r 2 m n)) c.in_ok-damage.ensures.read.records (c.in_ok-damage-2.ensures.none tells) in
     let b : AreListed s.records 2 m n = search (rules, second) in
     let all : AllListed s.records n = all_listed s.records clear m n c.requires.clear a b in
-    let found : IfSome c.in_ok-id.field-0 (λ x. ¬ (is_live s.records properties_file x ≡ true → marked n x ≡ true))
-    = subst (λ (r : Records). IfSome c.in_ok-id.field-0 (λ x. ¬ (is_live r properties_file x ≡ true → marked n x ≡ true)))
+    let found : IfSome c.in_ok-id.field-0 (λ x. ¬ (is_live s.records properties_file x ≡ true → is_seen n x ≡ true))
+    = subst (λ (r : Records). IfSome c.in_ok-id.field-0 (λ x. ¬ (is_live r properties_file x ≡ true → is_seen n x ≡ true)))
     (c.in_ok-damage-2.ensures.read.records ∙ c.in_ok-damage.ensures.read.records) (c.in_ok-id.ensures.found tells) in
-    let bad : ¬ (is_live s.records properties_file c.in-Some-3.id ≡ true → marked n c.in-Some-3.id ≡ true) = search (rules, found) in
+    let bad : ¬ (is_live s.records properties_file c.in-Some-3.id ≡ true → is_seen n c.in-Some-3.id ≡ true) = search (rules, found) in
     breaks_by s.records s.shape 5 c.broken.result (damage 4 c.in-Some-3.id 5) c.broken.ensures refl
     (WrongHolding c.in-Some-3.id (not_held s.records n c.in-Some-3.id all bad))
 
 pub returns-in-None-clause-none : goal.returns-in-None-clause-none
 returns-in-None-clause-none g c = λ tells.
     let s = g.R.Reads.state c.args.space.now in
-    let clear = c.args.marks.now in
-    let m = c.check_file.new.marks in
-    let n = c.check_file-2.new.marks in
+    let clear = c.args.seen.now in
+    let m = c.check_file.new.seen in
+    let n = c.check_file-2.new.seen in
     let a : AreListed s.records 1 clear m = search (rules, c.in_ok-damage.ensures.none tells) in
     let second : IfNone c.in_ok-damage-2.field-0 (AreListed s.records 2 m n)
     = subst (λ (r : Records). IfNone c.in_ok-damage-2.field-0 (AreListed r 2 m n)) c.in_ok-damage.ensures.read.records (c.in_ok-damage-2.ensures.none tells) in
     let b : AreListed s.records 2 m n = search (rules, second) in
     let all : AllListed s.records n = all_listed s.records clear m n c.requires.clear a b in
-    let none : IfNone c.in_ok-id.field-0 ((x : ℕ) → x < high s.records properties_file → is_live s.records properties_file x ≡ true → marked n x ≡ true)
-    = subst (λ (r : Records). IfNone c.in_ok-id.field-0 ((x : ℕ) → x < high r properties_file → is_live r properties_file x ≡ true → marked n x ≡ true))
+    let none : IfNone c.in_ok-id.field-0 ((x : ℕ) → x < high s.records properties_file → is_live s.records properties_file x ≡ true → is_seen n x ≡ true)
+    = subst (λ (r : Records). IfNone c.in_ok-id.field-0 ((x : ℕ) → x < high r properties_file → is_live r properties_file x ≡ true → is_seen n x ≡ true))
     (c.in_ok-damage-2.ensures.read.records ∙ c.in_ok-damage.ensures.read.records) (c.in_ok-id.ensures.none tells) in
-    let each : (x : ℕ) → x < high s.records properties_file → is_live s.records properties_file x ≡ true → marked n x ≡ true = search (rules, none) in
+    let each : (x : ℕ) → x < high s.records properties_file → is_live s.records properties_file x ≡ true → is_seen n x ≡ true = search (rules, none) in
     elements_right s.records n all each
 
 pub returns-in_err-damage-2-clause-read : goal.returns-in_err-damage-2-clause-read

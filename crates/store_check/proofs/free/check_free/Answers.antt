@@ -7,7 +7,7 @@ use Rattle.store_rules.specs.Breaking.{damage}
 use Rattle.store_rules.specs.Breaking.Breaks.{FreeList, OffFreeList}
 use Rattle.store_check.specs.Free.{IsCounted, free_line}
 use Rattle.record_lists.specs.Lines.{IsLineIn}
-use Rattle.record_lists.specs.Marks.{is_among, marked}
+use Rattle.record_lists.specs.Seen.{is_among, is_seen}
 use Rattle.store_check.specs.declared.free.Counted.TheVariants.{Live, OffList}
 use Rattle.store_check.proofs.FreeLaws.{IsIt, counted_at, is_off, is_split, no_list, wrong_count}
 use Rattle.record_lists.proofs.DecidingLaws.{breaks_by}
@@ -33,19 +33,19 @@ returns-in-Live-clause-sound g c = λ tells.
     let found : IsLineIn (free_line c.args.file) s.records m.high m.free c.in-Some.ids.items = search (rules, c.in_ok-ids.ensures.found tells) in
     let it : IsIt s.records c.args.file c.in-Some.ids.items = subst (λ (n : Meta). IsLineIn (free_line c.args.file) s.records n.high n.free c.in-Some.ids.items)
     c.meta-meta.ensures found in
-    let counted : IsCounted s.records c.args.file c.in-Ok.marks.items (Live c.in-Live.live) =
-    counted_at _ s.records c.args.file _ c.in-Ok.marks.items (Live c.in-Live.live) _ c.in_ok-ids.ensures.read.records c.deref-2.ensures.value c.in-Live.is
+    let counted : IsCounted s.records c.args.file c.in-Ok.seen.items (Live c.in-Live.live) =
+    counted_at _ s.records c.args.file _ c.in-Ok.seen.items (Live c.in-Live.live) _ c.in_ok-ids.ensures.read.records c.deref-2.ensures.value c.in-Live.is
     (c.in_ok-live.ensures.counted tells) in
-    let marks : (p : ℕ) → marked c.in-Ok.marks.items p ≡ is_among c.in-Some.ids.items p = search rules in
+    let seen : (p : ℕ) → is_seen c.in-Ok.seen.items p ≡ is_among c.in-Some.ids.items p = search rules in
     let exact : (meta_in s.records c.args.file).live ≡ length (ids (is_live s.records c.args.file) (high s.records c.args.file)) =
     ap (λ (n : Meta). n.live) (sym c.meta-meta.ensures) ∙ sym c.if-live-meta.true ∙ counted.0 in
-    is_split s.records c.args.file c.requires.mark c.in-Ok.marks.items c.in-Some.ids.items it marks exact counted.1
+    is_split s.records c.args.file c.requires.mark c.in-Ok.seen.items c.in-Some.ids.items it seen exact counted.1
 
 pub returns-in-Live-2-clause-broken : goal.returns-in-Live-2-clause-broken
 returns-in-Live-2-clause-broken g c = λ tells.
     let s = g.R.Reads.state c.args.space.now in
-    let counted : IsCounted s.records c.args.file c.in-Ok.marks.items (Live c.in-Live.live) =
-    counted_at _ s.records c.args.file _ c.in-Ok.marks.items (Live c.in-Live.live) _ c.in_ok-ids.ensures.read.records c.deref-2.ensures.value c.in-Live.is
+    let counted : IsCounted s.records c.args.file c.in-Ok.seen.items (Live c.in-Live.live) =
+    counted_at _ s.records c.args.file _ c.in-Ok.seen.items (Live c.in-Live.live) _ c.in_ok-ids.ensures.read.records c.deref-2.ensures.value c.in-Live.is
     (c.in_ok-live.ensures.counted tells) in
     let other : c.in-Live.live ≢ (meta_in s.records c.args.file).live = λ e. c.if-live-meta.false (e ∙ ap (λ (n : Meta). n.live) (sym c.meta-meta.ensures)) in
     breaks_by s.records s.shape 2 _ (damage 0 c.args.file 2) refl refl (FreeList c.args.file c.requires.file (wrong_count s.records c.args.file c.requires.mark
@@ -58,14 +58,14 @@ returns-clause-broken g c = λ tells.
     let found : IsLineIn (free_line c.args.file) s.records m.high m.free c.in-Some.ids.items = search (rules, c.in_ok-ids.ensures.found tells) in
     let it : IsIt s.records c.args.file c.in-Some.ids.items = subst (λ (n : Meta). IsLineIn (free_line c.args.file) s.records n.high n.free c.in-Some.ids.items)
     c.meta-meta.ensures found in
-    let counted : IsCounted s.records c.args.file c.in-Ok.marks.items (OffList c.in-OffList.id) =
-    counted_at _ s.records c.args.file _ c.in-Ok.marks.items (OffList c.in-OffList.id) _ c.in_ok-ids.ensures.read.records c.deref-2.ensures.value
+    let counted : IsCounted s.records c.args.file c.in-Ok.seen.items (OffList c.in-OffList.id) =
+    counted_at _ s.records c.args.file _ c.in-Ok.seen.items (OffList c.in-OffList.id) _ c.in_ok-ids.ensures.read.records c.deref-2.ensures.value
     c.in-OffList.is
     (c.in_ok-live.ensures.counted tells) in
-    let marks : (p : ℕ) → marked c.in-Ok.marks.items p ≡ is_among c.in-Some.ids.items p = search rules in
+    let seen : (p : ℕ) → is_seen c.in-Ok.seen.items p ≡ is_among c.in-Some.ids.items p = search rules in
     breaks_by s.records s.shape 2 _ (damage c.args.file c.in-OffList.id 2) refl refl
-    (OffFreeList c.args.file c.in-OffList.id c.requires.file counted.0 counted.1 (is_off s.records c.args.file c.requires.mark c.in-Ok.marks.items
-    c.in-Some.ids.items it marks c.in-OffList.id counted.2))
+    (OffFreeList c.args.file c.in-OffList.id c.requires.file counted.0 counted.1 (is_off s.records c.args.file c.requires.mark c.in-Ok.seen.items
+    c.in-Some.ids.items it seen c.in-OffList.id counted.2))
 
 pub returns-in_err-ids-clause-cause : goal.returns-in_err-ids-clause-cause
 returns-in_err-ids-clause-cause g c =
@@ -110,11 +110,11 @@ returns-in_default-clause-read g c = c.follow.ensures.read
 pub returns-in_default-clause-cause : goal.returns-in_default-clause-cause
 returns-in_default-clause-cause g c = ok_cause _ _ _ _ (returns-in_default-clause-read g c).later
 
-pub returns-in_default-marks_of-clause-read : goal.returns-in_default-marks_of-clause-read
-returns-in_default-marks_of-clause-read g c = c.follow.ensures.read
+pub returns-in_default-seen_of-clause-read : goal.returns-in_default-seen_of-clause-read
+returns-in_default-seen_of-clause-read g c = c.follow.ensures.read
 
-pub returns-in_default-marks_of-clause-cause : goal.returns-in_default-marks_of-clause-cause
-returns-in_default-marks_of-clause-cause g c = no_memory _ _ (returns-in_default-marks_of-clause-read g c).later
+pub returns-in_default-seen_of-clause-cause : goal.returns-in_default-seen_of-clause-cause
+returns-in_default-seen_of-clause-cause g c = no_memory _ _ (returns-in_default-seen_of-clause-read g c).later
 
 pub returns-in-Live-clause-cause : goal.returns-in-Live-clause-cause
 returns-in-Live-clause-cause g c = ok_cause _ _ _ _ (returns-in-Live-clause-read g c).later

@@ -1,4 +1,4 @@
-use Rattle.std.proofs.Common.{arith, ◌≢◌, ◌≤◌, ℕ, List, slice_index_or, sym, subst, refl, rules}
+use Rattle.std.proofs.Common.{arith, ◌≢◌, ◌≤◌, ℕ, List, slice_index_or, sym, subst}
 use Rattle.rec_bytes.specs.declared.record_files.RecordFile.{RecordFile}
 use Rattle.rec_bytes.specs.declared.record_files.RecordRoom.TheVariants.{Fixed}
 use Rattle.rec_bytes.specs.Format.{most_ids, names_file}

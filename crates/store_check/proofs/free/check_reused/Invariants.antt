@@ -1,4 +1,4 @@
-use Rattle.std.proofs.Common.{◌≡◌, ◌≢◌, ◌≤◌, ℕ, List}
+use Rattle.std.proofs.Common.{◌≢◌, ℕ, List}
 use Rattle.rec_bytes.specs.Format.{names_file}
 use Rattle.store_rules.specs.Rules.{IsSplit}
 use Rattle.store_rules.specs.Views.{is_live}

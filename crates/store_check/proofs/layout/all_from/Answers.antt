@@ -12,10 +12,10 @@ returns-then-not-is_right g c =
 
 pub loop-number-preserved : goal.loop-number-preserved
 loop-number-preserved g c =
-    let marks = high (g.R.Reads.state c.args.space.now).records in
+    let seen = high (g.R.Reads.state c.args.space.now).records in
     let like = pointer_like c.args.first in
     let more : suc c.loop-number.number ≡ c.loop-number.number + 1 = omega arith in
-    subst (λ n. all_point marks c.args.rec.now (pointers_from n like c.args.first.place) ≡ true) more
-    (from_more marks c.args.rec.now like c.loop-number.number c.args.first.place
-    ∙ ap (λ b. b && points marks c.args.rec.now (like (c.args.first.place + 4 * c.loop-number.number))) c.loop-number.invariant
+    subst (λ n. all_point seen c.args.rec.now (pointers_from n like c.args.first.place) ≡ true) more
+    (from_more seen c.args.rec.now like c.loop-number.number c.args.first.place
+    ∙ ap (λ b. b && points seen c.args.rec.now (like (c.args.first.place + 4 * c.loop-number.number))) c.loop-number.invariant
     ∙ sym c.is_right.ensures ∙ c.if-not-is_right.false)

@@ -9,10 +9,10 @@ use Rattle.store_check.proofs.layout.is_definition.Goals as goal
 
 pub returns-then-is_laid : goal.returns-then-is_laid
 returns-then-is_laid g c =
-    let marks = high (g.R.Reads.state c.args.space.now).records in
+    let seen = high (g.R.Reads.state c.args.space.now).records in
     let r = c.args.rec.now in
-    let has : HasLayoutOf marks r (laid (may 12 8 ∷ []) (bytes_of 0 1 ∷ bytes_of 4 60 ∷ []))
-    = subst (λ (h : List Pointer × List Range). HasLayoutOf marks r (laid (map pointer_of h.0) (map range_of h.1)))
+    let has : HasLayoutOf seen r (laid (may 12 8 ∷ []) (bytes_of 0 1 ∷ bytes_of 4 60 ∷ []))
+    = subst (λ (h : List Pointer × List Range). HasLayoutOf seen r (laid (map pointer_of h.0) (map range_of h.1)))
     (λ i. (c.may-next.ensures i ∷ [], c.of.ensures i ∷ c.of-2.ensures i ∷ [])) (c.is_laid.ensures.0 c.if-is_laid.true) in
-    laid_and marks r (may 12 8 ∷ []) (pointers_from 12 (λ place. must place 8) 16) (bytes_of 0 1 ∷ bytes_of 4 60 ∷ []) c.all_from.result has
-    (c.all_from.ensures ∙ ap (λ (p : Pointer). all_point marks r (pointers_from 12 (pointer_like p) p.place)) c.must-heads.ensures)
+    laid_and seen r (may 12 8 ∷ []) (pointers_from 12 (λ place. must place 8) 16) (bytes_of 0 1 ∷ bytes_of 4 60 ∷ []) c.all_from.result has
+    (c.all_from.ensures ∙ ap (λ (p : Pointer). all_point seen r (pointers_from 12 (pointer_like p) p.place)) c.must-heads.ensures)

@@ -1,4 +1,4 @@
-use Rattle.std.proofs.Common.{rules, arith, ◌≡◌, ◌≤◌, ◌∙◌, true, subst, refl}
+use Rattle.std.proofs.Common.{rules, arith, ◌≡◌, ◌≤◌, true, subst}
 use Rattle.rec_bytes.specs.declared.shape.Shape.{Shape}
 use Rattle.rec_bytes.specs.Format.{most_ids}
 use Rattle.rec_bytes.specs.RecordFiles.{is_meta_file}

@@ -1,4 +1,4 @@
-use Rattle.std.proofs.Common.{◌≡◌, ◌≤◌, ◌<◌, ℕ}
+use Rattle.std.proofs.Common.{◌<◌, ℕ}
 use Rattle.store_rules.specs.Views.{high}
 use Rattle.store_check.specs.Fitting.{FitsAt}
 use Rattle.store_check.proofs.FileLaws.{HoldsBefore}

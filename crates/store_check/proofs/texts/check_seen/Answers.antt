@@ -8,20 +8,20 @@ use Rattle.store_rules.specs.Breaking.{IsBlockList, IsLong, damage}
 use Rattle.store_rules.specs.Breaking.Breaks.{WrongBlock, WrongText}
 use Rattle.record_lists.specs.Heads.{AmongHeads, BrokeIs, HeadKeeps, IsOnce}
 use Rattle.store_check.specs.Holding.{AllTexts}
-use Rattle.record_lists.specs.Marks.{marked}
+use Rattle.record_lists.specs.Seen.{is_seen}
 use Rattle.store_check.proofs.BlockLaws.{all_texts, not_held, text_head, texts_right, twice_breaks}
 use Rattle.record_lists.proofs.DecidingLaws.{breaks_by}
 use Rattle.record_lists.proofs.Causes.{cause_passed}
 use Rattle.rec_bytes.proofs.Causes.{never_ok, ok_cause}
 use Rattle.record_lists.proofs.OnlyReads.{is_read-on}
-use Rattle.store_check.proofs.texts.check_marked.Goals as goal
+use Rattle.store_check.proofs.texts.check_seen.Goals as goal
 
 pub returns-in-Some-Head-clause-found : goal.returns-in-Some-Head-clause-found
 returns-in-Some-Head-clause-found g c = λ tells.
     let s = g.R.Reads.state c.args.space.now in
     let n = c.meta-properties.result.high in
     let mark : n ≡ high s.records properties_file = ap (λ (m : Meta). m.high) c.meta-properties.ensures in
-    let b : BrokeIs (IsLong s.records) (IsBlockList s.records) n c.args.marks.now (Head c.in-Some-Head.id) = search (rules, c.in_ok-id.ensures.broken tells) in
+    let b : BrokeIs (IsLong s.records) (IsBlockList s.records) n c.args.seen.now (Head c.in-Some-Head.id) = search (rules, c.in_ok-id.ensures.broken tells) in
     breaks_by s.records s.shape 5 c.broken.result (damage 4 c.in-Some-Head.id 5) c.broken.ensures refl
     (WrongText c.in-Some-Head.id (omega (arith, b.0)) (λ k. b.1 (text_head s.records c.in-Some-Head.id k)))
 
@@ -29,25 +29,25 @@ pub returns-in-Some-Item-clause-found : goal.returns-in-Some-Item-clause-found
 returns-in-Some-Item-clause-found g c = λ tells.
     let s = g.R.Reads.state c.args.space.now in
     let n = c.meta-properties.result.high in
-    let b : BrokeIs (IsLong s.records) (IsBlockList s.records) n c.args.marks.now (Item c.in-Some-Item.id) = search (rules, c.in_ok-id.ensures.broken tells) in
+    let b : BrokeIs (IsLong s.records) (IsBlockList s.records) n c.args.seen.now (Item c.in-Some-Item.id) = search (rules, c.in_ok-id.ensures.broken tells) in
     breaks_by s.records s.shape 5 c.broken-in-Some-Item.result (damage 5 c.in-Some-Item.id 5) c.broken-in-Some-Item.ensures refl
-    (WrongBlock c.in-Some-Item.id (twice_breaks s.records n c.args.marks.now c.in-Some-Item.id c.requires.clear b))
+    (WrongBlock c.in-Some-Item.id (twice_breaks s.records n c.args.seen.now c.in-Some-Item.id c.requires.clear b))
 
 pub returns-in-Some-clause-found : goal.returns-in-Some-clause-found
 returns-in-Some-clause-found g c = λ tells.
     let s = g.R.Reads.state c.args.space.now in
     let n = c.meta-properties.result.high in
-    let now = c.list_heads.new.marks in
+    let now = c.list_heads.new.seen in
     let mark : n ≡ high s.records properties_file = ap (λ (m : Meta). m.high) c.meta-properties.ensures in
     let keeps : (p : ℕ) → p < n → HeadKeeps (IsLong s.records) (IsBlockList s.records) p = search (rules, c.in_ok-id.ensures.keeps tells) in
-    let told : (b : ℕ) → Decides (marked now b) ((marked c.args.marks.now b ≡ true) ⊎ AmongHeads (IsLong s.records) (IsBlockList s.records) n b) =
-    search (rules, c.in_ok-id.ensures.marks tells) in
+    let told : (b : ℕ) → Decides (is_seen now b) ((is_seen c.args.seen.now b ≡ true) ⊎ AmongHeads (IsLong s.records) (IsBlockList s.records) n b) =
+    search (rules, c.in_ok-id.ensures.seen tells) in
     let once : (b : ℕ) → IsOnce (IsLong s.records) (IsBlockList s.records) n b = search (rules, c.in_ok-id.ensures.once tells) in
-    let all : AllTexts s.records now = all_texts s.records n c.args.marks.now now mark c.requires.clear keeps told once in
-    let found : IfSome c.in_ok-id-2.field-0 (λ x. ¬ (is_live s.records strings_file x ≡ true → marked now x ≡ true))
-    = subst (λ (r : Records). IfSome c.in_ok-id-2.field-0 (λ x. ¬ (is_live r strings_file x ≡ true → marked now x ≡ true))) c.in_ok-id.ensures.read.records
+    let all : AllTexts s.records now = all_texts s.records n c.args.seen.now now mark c.requires.clear keeps told once in
+    let found : IfSome c.in_ok-id-2.field-0 (λ x. ¬ (is_live s.records strings_file x ≡ true → is_seen now x ≡ true))
+    = subst (λ (r : Records). IfSome c.in_ok-id-2.field-0 (λ x. ¬ (is_live r strings_file x ≡ true → is_seen now x ≡ true))) c.in_ok-id.ensures.read.records
     (c.in_ok-id-2.ensures.found tells) in
-    let bad : ¬ (is_live s.records strings_file c.in-Some.id ≡ true → marked now c.in-Some.id ≡ true) = search (rules, found) in
+    let bad : ¬ (is_live s.records strings_file c.in-Some.id ≡ true → is_seen now c.in-Some.id ≡ true) = search (rules, found) in
     breaks_by s.records s.shape 5 c.broken-in-Some.result (damage 5 c.in-Some.id 5) c.broken-in-Some.ensures refl
     (WrongBlock c.in-Some.id (not_held s.records now c.in-Some.id all bad))
 
@@ -55,17 +55,17 @@ pub returns-in-None-2-clause-none : goal.returns-in-None-2-clause-none
 returns-in-None-2-clause-none g c = λ tells.
     let s = g.R.Reads.state c.args.space.now in
     let n = c.meta-properties.result.high in
-    let now = c.list_heads.new.marks in
+    let now = c.list_heads.new.seen in
     let mark : n ≡ high s.records properties_file = ap (λ (m : Meta). m.high) c.meta-properties.ensures in
     let keeps : (p : ℕ) → p < n → HeadKeeps (IsLong s.records) (IsBlockList s.records) p = search (rules, c.in_ok-id.ensures.keeps tells) in
-    let told : (b : ℕ) → Decides (marked now b) ((marked c.args.marks.now b ≡ true) ⊎ AmongHeads (IsLong s.records) (IsBlockList s.records) n b) =
-    search (rules, c.in_ok-id.ensures.marks tells) in
+    let told : (b : ℕ) → Decides (is_seen now b) ((is_seen c.args.seen.now b ≡ true) ⊎ AmongHeads (IsLong s.records) (IsBlockList s.records) n b) =
+    search (rules, c.in_ok-id.ensures.seen tells) in
     let once : (b : ℕ) → IsOnce (IsLong s.records) (IsBlockList s.records) n b = search (rules, c.in_ok-id.ensures.once tells) in
-    let all : AllTexts s.records now = all_texts s.records n c.args.marks.now now mark c.requires.clear keeps told once in
-    let none : IfNone c.in_ok-id-2.field-0 ((x : ℕ) → x < high s.records strings_file → is_live s.records strings_file x ≡ true → marked now x ≡ true)
-    = subst (λ (r : Records). IfNone c.in_ok-id-2.field-0 ((x : ℕ) → x < high r strings_file → is_live r strings_file x ≡ true → marked now x ≡ true))
+    let all : AllTexts s.records now = all_texts s.records n c.args.seen.now now mark c.requires.clear keeps told once in
+    let none : IfNone c.in_ok-id-2.field-0 ((x : ℕ) → x < high s.records strings_file → is_live s.records strings_file x ≡ true → is_seen now x ≡ true)
+    = subst (λ (r : Records). IfNone c.in_ok-id-2.field-0 ((x : ℕ) → x < high r strings_file → is_live r strings_file x ≡ true → is_seen now x ≡ true))
     c.in_ok-id.ensures.read.records (c.in_ok-id-2.ensures.none tells) in
-    let each : (x : ℕ) → x < high s.records strings_file → is_live s.records strings_file x ≡ true → marked now x ≡ true = search (rules, none) in
+    let each : (x : ℕ) → x < high s.records strings_file → is_live s.records strings_file x ≡ true → is_seen now x ≡ true = search (rules, none) in
     texts_right s.records now all each
 
 pub returns-in_err-id-2-clause-read : goal.returns-in_err-id-2-clause-read

@@ -1,5 +1,5 @@
 use Rattle.record_lists.proofs.Causes.{cause_passed}
-use Rattle.std.proofs.Common.{arith, refl, rules}
+use Rattle.std.proofs.Common.{arith, rules}
 use Rattle.rec_bytes.proofs.Causes.{never_ok, ok_cause}
 use Rattle.record_lists.proofs.OnlyReads.{is_read-none, is_read-on, is_read-get}
 use Rattle.store_check.proofs.texts.lengths_of.Goals as goal

@@ -1,4 +1,4 @@
-use Rattle.std.proofs.Common.{◌≡◌, ◌≤◌, take, map}
+use Rattle.std.proofs.Common.{◌≡◌, take, map}
 use Rattle.store_rules.specs.Breaking.{block_size}
 use Rattle.rec_bytes.specs.Frame.{IsRead}
 use Rattle.store_check.proofs.texts.lengths_of.Given as goal
