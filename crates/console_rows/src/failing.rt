@@ -1,4 +1,4 @@
-use crate::fault::RowFault;
+use crate::error::RowError;
 use crate::text::{cut, number_of};
 use disk_model::{Calls, Crash, FaultPlan, MemoryDisk, Room};
 use std::alloc::{AllocError, Global};
@@ -39,7 +39,7 @@ fn plan(alloc: Global, fails: &[u64], stop: Option<u64>) -> Result<FaultPlan, Al
 }
 
 /// The loss of power that the text names.
-pub(crate) fn crash_of(text: &[u8]) -> Result<Crash, RowFault> {
+pub(crate) fn crash_of(text: &[u8]) -> Result<Crash, RowError> {
     match text {
         b"old" => Ok(Crash::Old),
         b"new" => Ok(Crash::New),
@@ -48,12 +48,12 @@ pub(crate) fn crash_of(text: &[u8]) -> Result<Crash, RowFault> {
 }
 
 /// One that has a number: the byte at each place, or the seed of the bytes.
-fn numbered_crash_of(text: &[u8]) -> Result<Crash, RowFault> {
+fn numbered_crash_of(text: &[u8]) -> Result<Crash, RowError> {
     let (word, number) = cut(text)?;
     let number = number_of(number)?;
     match (word, u8::try_from(number)) {
         (b"fill", Ok(byte)) => Ok(Crash::Fill(byte)),
         (b"mixed", _) => Ok(Crash::Mixed(number)),
-        _ => Err(RowFault::Malformed),
+        _ => Err(RowError::Malformed),
     }
 }

@@ -30,38 +30,38 @@
 //! isn't there, ends the program with the status 1, after what was to be written before.
 #![tactic(auto)]
 
+mod error;
 mod failing;
-mod fault;
+mod progress;
 mod run;
 mod script;
-mod stage;
 mod text;
 
-use crate::fault::Fault;
-use crate::stage::Stage;
+use crate::error::ProgramError;
+use crate::progress::Progress;
 use std::io::{Read, Write};
 
-fn main(rt: HostRuntime) -> Result<(), Fault> {
+fn main(rt: HostRuntime) -> Result<(), ProgramError> {
     let alloc = rt.alloc();
     let mut rows = Vec::new(alloc);
     rt.stdin().read_to_end(&mut rows)?;
-    let mut stage = Stage::new(alloc)?;
-    let answered = answer(&mut stage, &rows);
-    rt.stdout().write_all(stage.written())?;
+    let mut progress = Progress::new(alloc)?;
+    let answered = answer(&mut progress, &rows);
+    rt.stdout().write_all(progress.written())?;
     answered
 }
 
 /// Carries out all rows.
-fn answer(stage: &mut Stage, rows: &[u8]) -> Result<(), Fault> {
+fn answer(progress: &mut Progress, rows: &[u8]) -> Result<(), ProgramError> {
     let mut number = 0u64;
     for line in rows.split(|byte| *byte == b'\n') {
         number = number.saturating_add(1);
-        if let Err(why) = stage.take(line) {
-            return Err(Fault::Row { number, why });
+        if let Err(why) = progress.take(line) {
+            return Err(ProgramError::Row { number, why });
         }
     }
-    match stage.end_run() {
+    match progress.end_run() {
         Ok(()) => Ok(()),
-        Err(why) => Err(Fault::Row { number, why }),
+        Err(why) => Err(ProgramError::Row { number, why }),
     }
 }

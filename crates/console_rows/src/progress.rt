@@ -1,5 +1,5 @@
+use crate::error::RowError;
 use crate::failing::{crash_of, failing_disk, left_by};
-use crate::fault::RowFault;
 use crate::run::{put_run, put_run_in_pieces};
 use crate::script::{PLAIN, Script, Settings, Shown};
 use crate::text::{cut, number_of, push_bytes, put, put_numbers};
@@ -18,7 +18,7 @@ const MOST: u64 = 1 << 30;
 /// What the rows so far have left: the disk and what is set, the run whose input isn't complete,
 /// and what is to be written.
 #[derive(Drop)]
-pub(crate) struct Stage {
+pub(crate) struct Progress {
     alloc: Global,
     disk: PlainDisk,
     /// The disk that is in its place, if its calls fail or a loss of power left it.
@@ -30,10 +30,10 @@ pub(crate) struct Stage {
     written: Vec<u8>,
 }
 
-impl Stage {
-    /// The stage before the first row.
-    pub(crate) fn new(alloc: Global) -> Result<Stage, AllocError> {
-        Ok(Stage {
+impl Progress {
+    /// What there is before the first row.
+    pub(crate) fn new(alloc: Global) -> Result<Progress, AllocError> {
+        Ok(Progress {
             alloc,
             disk: PlainDisk::new(alloc, ROOM)?,
             failing: None,
@@ -51,7 +51,7 @@ impl Stage {
     }
 
     /// Carries out a row. A run is carried out when the row after its input comes.
-    pub(crate) fn take(&mut self, row: &[u8]) -> Result<(), RowFault> {
+    pub(crate) fn take(&mut self, row: &[u8]) -> Result<(), RowError> {
         match row.first() {
             None => Ok(()),
             Some(b'#') => self.begin_section(row),
@@ -59,13 +59,13 @@ impl Stage {
             Some(b'$') => self.begin_run(row),
             Some(_) => match &mut self.script {
                 Some(script) => script.add(row),
-                None => Err(RowFault::Malformed),
+                None => Err(RowError::Malformed),
             },
         }
     }
 
     /// Carries out the run whose input is complete, if there is one.
-    pub(crate) fn end_run(&mut self) -> Result<(), RowFault> {
+    pub(crate) fn end_run(&mut self) -> Result<(), RowError> {
         let Some(script) = self.script.take() else {
             return Ok(());
         };
@@ -78,7 +78,7 @@ impl Stage {
         }
     }
 
-    fn begin_section(&mut self, title: &[u8]) -> Result<(), RowFault> {
+    fn begin_section(&mut self, title: &[u8]) -> Result<(), RowError> {
         self.end_run()?;
         self.make_disk(ROOM)?;
         self.in_pieces = false;
@@ -86,14 +86,14 @@ impl Stage {
         Ok(put(&mut self.written, &[title, b"\n"])?)
     }
 
-    fn begin_run(&mut self, row: &[u8]) -> Result<(), RowFault> {
+    fn begin_run(&mut self, row: &[u8]) -> Result<(), RowError> {
         self.end_run()?;
         self.script = Some(Script::new(self.alloc, row, self.settings)?);
         self.settings = PLAIN;
         Ok(())
     }
 
-    fn take_setting(&mut self, row: &[u8]) -> Result<(), RowFault> {
+    fn take_setting(&mut self, row: &[u8]) -> Result<(), RowError> {
         self.end_run()?;
         if row == b"@pieces".as_slice() {
             self.in_pieces = true;
@@ -111,15 +111,15 @@ impl Stage {
             b"@fail-put" => self.settings.failing_put = number_of(rest)?,
             b"@first" => self.settings.shown = Shown::First(number_of(rest)?),
             b"@last" => self.settings.shown = Shown::Last(number_of(rest)?),
-            _ => return Err(RowFault::Malformed),
+            _ => return Err(RowError::Malformed),
         }
         Ok(())
     }
 
-    fn take_disk(&mut self, room: &[u8]) -> Result<(), RowFault> {
+    fn take_disk(&mut self, room: &[u8]) -> Result<(), RowError> {
         match u32::try_from(number_of(room)?) {
             Ok(room) => Ok(self.make_disk(room)?),
-            Err(_) => Err(RowFault::Malformed),
+            Err(_) => Err(RowError::Malformed),
         }
     }
 
@@ -135,43 +135,43 @@ impl Stage {
         Ok(())
     }
 
-    fn lose_power(&mut self, kind: &[u8]) -> Result<(), RowFault> {
+    fn lose_power(&mut self, kind: &[u8]) -> Result<(), RowError> {
         let left = match &self.failing {
             Some(disk) => left_by(self.alloc, disk, crash_of(kind)?)?,
-            None => return Err(RowFault::Malformed),
+            None => return Err(RowError::Malformed),
         };
         self.failing = Some(left);
         Ok(())
     }
 
     /// Puts bytes into a file, where its number and the place stand before them.
-    fn poke(&mut self, row: &[u8]) -> Result<(), RowFault> {
+    fn poke(&mut self, row: &[u8]) -> Result<(), RowError> {
         let (file, rest) = cut(row)?;
         let (place, rest) = cut(rest)?;
         let (file, place) = (number_of(file)?, number_of(place)?);
         let mut bytes = Vec::new(self.alloc);
         push_bytes(&mut bytes, rest)?;
         if self.failing.is_some() || file >= FILES || place > MOST || bytes.len() as u64 > MOST {
-            return Err(RowFault::Malformed);
+            return Err(RowError::Malformed);
         }
         let file = file as u8;
         match (self.disk.write(file, place, &bytes), self.disk.sync(file)) {
             (Ok(()), Ok(())) => Ok(()),
-            _ => Err(RowFault::Malformed),
+            _ => Err(RowError::Malformed),
         }
     }
 
     /// Writes bytes of a file as numbers.
-    fn show(&mut self, row: &[u8]) -> Result<(), RowFault> {
+    fn show(&mut self, row: &[u8]) -> Result<(), RowError> {
         let (file, rest) = cut(row)?;
         let (place, count) = cut(rest)?;
         let (file, place, count) = (number_of(file)?, number_of(place)?, number_of(count)?);
         if self.failing.is_some() || file >= FILES || place > MOST || count > MOST {
-            return Err(RowFault::Malformed);
+            return Err(RowError::Malformed);
         }
         let mut bytes = vec![in self.alloc; 0; count as usize]?;
         if self.disk.read(file as u8, place, &mut bytes).is_err() {
-            return Err(RowFault::Malformed);
+            return Err(RowError::Malformed);
         }
         Ok(put_numbers(&mut self.written, &bytes)?)
     }

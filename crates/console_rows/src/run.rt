@@ -1,4 +1,4 @@
-use crate::fault::RowFault;
+use crate::error::RowError;
 use crate::script::{Script, Shown};
 use crate::text::{put, put_number, words_of};
 use disk_model::{Disk, PlainDisk};
@@ -28,7 +28,7 @@ pub(crate) fn put_run<D: Disk>(
     out: &mut Vec<u8>,
     script: &Script,
     disk: &mut D,
-) -> Result<(), RowFault> {
+) -> Result<(), RowError> {
     let ended = run(alloc, script, PIECE, disk)?;
     Ok(put_ended(out, &ended, script.settings.shown)?)
 }
@@ -39,7 +39,7 @@ pub(crate) fn put_run_in_pieces(
     out: &mut Vec<u8>,
     script: &Script,
     room: u32,
-) -> Result<(), RowFault> {
+) -> Result<(), RowError> {
     let ended = run_anew(alloc, script, PIECES[0], room)?;
     for piece in &PIECES[1..] {
         let again = run_anew(alloc, script, *piece, room)?;
@@ -50,7 +50,7 @@ pub(crate) fn put_run_in_pieces(
     Ok(put_ended(out, &ended, script.settings.shown)?)
 }
 
-fn run_anew(alloc: Global, script: &Script, piece: usize, room: u32) -> Result<Ended, RowFault> {
+fn run_anew(alloc: Global, script: &Script, piece: usize, room: u32) -> Result<Ended, RowError> {
     let mut disk = PlainDisk::new(alloc, room)?;
     run(alloc, script, piece, &mut disk)
 }
@@ -60,7 +60,7 @@ fn run<D: Disk>(
     script: &Script,
     piece: usize,
     disk: &mut D,
-) -> Result<Ended, RowFault> {
+) -> Result<Ended, RowError> {
     let words = words_of(alloc, &script.asked)?;
     let input = Vec::from_slice(alloc, &script.input)?;
     let failing_reads = Vec::from_slice(alloc, &[script.settings.failing_read])?;

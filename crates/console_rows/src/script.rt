@@ -1,4 +1,4 @@
-use crate::fault::RowFault;
+use crate::error::RowError;
 use crate::text::{cut, number_of, push_bytes, put};
 use std::alloc::{AllocError, Global};
 
@@ -50,19 +50,19 @@ impl Script {
     }
 
     /// Adds what a row says to the input.
-    pub(crate) fn add(&mut self, row: &[u8]) -> Result<(), RowFault> {
+    pub(crate) fn add(&mut self, row: &[u8]) -> Result<(), RowError> {
         match row.split_first() {
             Some((b'>', text)) => Ok(put(&mut self.input, &[text, b"\n"])?),
             Some((b'|', text)) => Ok(put(&mut self.input, &[text])?),
             Some((b'*', rest)) => self.add_many(rest, b"\n"),
             Some((b'+', rest)) => self.add_many(rest, b""),
             Some((b'%', bytes)) => push_bytes(&mut self.input, bytes),
-            _ => Err(RowFault::Malformed),
+            _ => Err(RowError::Malformed),
         }
     }
 
     /// Adds the text that stands after a number and a blank so many times, each with this end.
-    fn add_many(&mut self, rest: &[u8], end: &[u8]) -> Result<(), RowFault> {
+    fn add_many(&mut self, rest: &[u8], end: &[u8]) -> Result<(), RowError> {
         let (count, text) = cut(rest)?;
         for _ in 0..number_of(count)? {
             put(&mut self.input, &[text, end])?;

@@ -1,4 +1,4 @@
-use crate::fault::RowFault;
+use crate::error::RowError;
 use itoa::Buffer;
 use std::alloc::{AllocError, Global};
 
@@ -27,27 +27,27 @@ pub(crate) fn put_numbers(out: &mut Vec<u8>, bytes: &[u8]) -> Result<(), AllocEr
 }
 
 /// What stands before the first blank, and what stands after it.
-pub(crate) fn cut(text: &[u8]) -> Result<(&[u8], &[u8]), RowFault> {
+pub(crate) fn cut(text: &[u8]) -> Result<(&[u8], &[u8]), RowError> {
     let mut parts = text.splitn(2, |byte| *byte == b' ');
     match (parts.next(), parts.next()) {
         (Some(before), Some(after)) => Ok((before, after)),
-        _ => Err(RowFault::Malformed),
+        _ => Err(RowError::Malformed),
     }
 }
 
 /// The number that the text spells in decimal.
-pub(crate) fn number_of(text: &[u8]) -> Result<u64, RowFault> {
+pub(crate) fn number_of(text: &[u8]) -> Result<u64, RowError> {
     let Ok(text) = str::from_utf8(text) else {
-        return Err(RowFault::Malformed);
+        return Err(RowError::Malformed);
     };
     match text.parse::<u64>() {
         Ok(number) => Ok(number),
-        Err(_) => Err(RowFault::Malformed),
+        Err(_) => Err(RowError::Malformed),
     }
 }
 
 /// Adds the bytes that the text spells as numbers, with a blank between two.
-pub(crate) fn push_bytes(out: &mut Vec<u8>, text: &[u8]) -> Result<(), RowFault> {
+pub(crate) fn push_bytes(out: &mut Vec<u8>, text: &[u8]) -> Result<(), RowError> {
     for part in text.split(|byte| *byte == b' ') {
         push_equal(out, part)?;
     }
@@ -55,7 +55,7 @@ pub(crate) fn push_bytes(out: &mut Vec<u8>, text: &[u8]) -> Result<(), RowFault>
 }
 
 /// Adds the byte that the part spells as a number, or as many equal ones as stand after a star.
-fn push_equal(out: &mut Vec<u8>, part: &[u8]) -> Result<(), RowFault> {
+fn push_equal(out: &mut Vec<u8>, part: &[u8]) -> Result<(), RowError> {
     let mut parts = part.splitn(2, |byte| *byte == b'*');
     let number = number_of(parts.next().unwrap_or(b""))?;
     let count = match parts.next() {
@@ -63,7 +63,7 @@ fn push_equal(out: &mut Vec<u8>, part: &[u8]) -> Result<(), RowFault> {
         None => 1,
     };
     let Ok(byte) = u8::try_from(number) else {
-        return Err(RowFault::Malformed);
+        return Err(RowError::Malformed);
     };
     for _ in 0..count {
         out.push(byte)?;
@@ -72,11 +72,11 @@ fn push_equal(out: &mut Vec<u8>, part: &[u8]) -> Result<(), RowFault> {
 }
 
 /// The words of a line that stand each after a blank.
-pub(crate) fn words_of(alloc: Global, line: &[u8]) -> Result<Vec<String>, RowFault> {
+pub(crate) fn words_of(alloc: Global, line: &[u8]) -> Result<Vec<String>, RowError> {
     let mut words = Vec::new(alloc);
     for word in line.split(|byte| *byte == b' ').skip(1) {
         let Ok(word) = str::from_utf8(word) else {
-            return Err(RowFault::Malformed);
+            return Err(RowError::Malformed);
         };
         words.push(String::from_str(alloc, word)?)?;
     }

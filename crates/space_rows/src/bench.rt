@@ -1,6 +1,6 @@
 use crate::call::Call;
 use crate::counted::Counted;
-use crate::fault::RowFault;
+use crate::error::RowError;
 use crate::paths::no_answer;
 use crate::spaces::new_space;
 use crate::spelling::{done, spell};
@@ -92,7 +92,7 @@ impl Bench {
     }
 
     /// Makes a call, and spells what it answers.
-    pub(crate) fn answer(&mut self, call: &Call) -> Result<String, RowFault> {
+    pub(crate) fn answer(&mut self, call: &Call) -> Result<String, RowError> {
         let alloc = self.alloc;
         let space = &mut self.store.counted.space;
         match call.layer {
@@ -110,7 +110,7 @@ impl Bench {
     }
 
     /// Makes a call that is given more than the space, or other things.
-    fn answer_by_more(&mut self, call: &Call) -> Result<String, RowFault> {
+    fn answer_by_more(&mut self, call: &Call) -> Result<String, RowError> {
         let alloc = self.alloc;
         let Store { counted, names, .. } = &mut self.store;
         let Tools {
@@ -129,22 +129,22 @@ impl Bench {
             b"form" => forms::answer(alloc, rec, call),
             b"write_set" => write_sets::answer(alloc, sets, call),
             b"store" => begin_store(alloc, &mut self.store, call),
-            _ => Err(RowFault::Malformed),
+            _ => Err(RowError::Malformed),
         }
     }
 }
 
 /// A new store with its names, or the same store with the names that were put aside.
-fn begin_store(alloc: Global, store: &mut Store, call: &Call) -> Result<String, RowFault> {
+fn begin_store(alloc: Global, store: &mut Store, call: &Call) -> Result<String, RowError> {
     match (call.verb, call.count()) {
         (b"new", 2) => renew(alloc, store, call)?,
         (b"other_names", 0) => swap(&mut store.names, &mut store.others),
-        _ => return Err(RowFault::Malformed),
+        _ => return Err(RowError::Malformed),
     }
     done(alloc)
 }
 
-fn renew(alloc: Global, store: &mut Store, call: &Call) -> Result<(), RowFault> {
+fn renew(alloc: Global, store: &mut Store, call: &Call) -> Result<(), RowError> {
     store.counted.space = new_space(alloc, call)?;
     store.names = names_of(alloc, &mut store.counted.space)?;
     Ok(())

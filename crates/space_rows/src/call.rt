@@ -1,7 +1,7 @@
 ghost use Rattle.std.specs.Prelude.{◌≡◌, IfOk};
 ghost use Rattle.rec_bytes.specs.Key.{IsKey};
 
-use crate::fault::RowFault;
+use crate::error::RowError;
 use rec_bytes::Key;
 
 /// A call as its line spells it.
@@ -44,7 +44,7 @@ impl Call<'_> {
 }
 
 /// A key that a store can have.
-pub(crate) fn key_of(file: u8, id: u32) -> Result<Key, RowFault>
+pub(crate) fn key_of(file: u8, id: u32) -> Result<Key, RowError>
     ensures valid { IfOk result (λ key. IsKey key) }
     ensures is { IfOk result (λ key. key ≡ record { file = file; id = id }) }
 {
@@ -52,6 +52,6 @@ pub(crate) fn key_of(file: u8, id: u32) -> Result<Key, RowFault>
     if key.is_valid() {
         Ok(key)
     } else {
-        Err(RowFault::Malformed)
+        Err(RowError::Malformed)
     }
 }

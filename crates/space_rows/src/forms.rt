@@ -1,7 +1,7 @@
 ghost use Rattle.std.specs.Prelude.{◌<◌};
 
 use crate::call::Call;
-use crate::fault::RowFault;
+use crate::error::RowError;
 use crate::spaces::{meta_in, shape_in};
 use crate::spelling::{spell, spell_record};
 use rec_bytes::{
@@ -10,7 +10,7 @@ use rec_bytes::{
 use std::alloc::Global;
 
 /// The calls about the form of the record at hand, and of files.
-pub(crate) fn answer(alloc: Global, rec: &mut Rec, call: &Call) -> Result<String, RowFault> {
+pub(crate) fn answer(alloc: Global, rec: &mut Rec, call: &Call) -> Result<String, RowError> {
     match (call.verb, call.count()) {
         (b"file", 1) => return file(alloc, call),
         (b"meta", 0) => return spell(alloc, &Meta::of(rec)),
@@ -21,12 +21,12 @@ pub(crate) fn answer(alloc: Global, rec: &mut Rec, call: &Call) -> Result<String
         (b"to_record", 3) => *rec = meta_in(call, 0).to_record(),
         (b"first_meta", 1) => *rec = first_meta(call.byte(0)),
         (b"write_shape", 2) => shape_in(call, 0).write(rec),
-        _ => return Err(RowFault::Malformed),
+        _ => return Err(RowError::Malformed),
     }
     spell_record(alloc, rec)
 }
 
-fn is_in_range(alloc: Global, rec: &Rec, call: &Call) -> Result<String, RowFault> {
+fn is_in_range(alloc: Global, rec: &Rec, call: &Call) -> Result<String, RowError> {
     spell(
         alloc,
         &Meta::is_in_range(rec, call.byte(0), shape_in(call, 1)),
@@ -34,10 +34,10 @@ fn is_in_range(alloc: Global, rec: &Rec, call: &Call) -> Result<String, RowFault
 }
 
 /// Whether the record is right in the versions 1, 2 and 3.
-fn is_right(alloc: Global, rec: &Rec, call: &Call) -> Result<String, RowFault> {
+fn is_right(alloc: Global, rec: &Rec, call: &Call) -> Result<String, RowError> {
     let (id, shape) = (call.at(0), shape_in(call, 1));
     if id >= 9 {
-        return Err(RowFault::Malformed);
+        return Err(RowError::Malformed);
     }
     let first = is_meta_right(rec, id, 1, shape);
     let second = is_meta_right(rec, id, 2, shape);
@@ -46,7 +46,7 @@ fn is_right(alloc: Global, rec: &Rec, call: &Call) -> Result<String, RowFault> {
 
 /// Whether a file has records and a meta record, its room in the largest store, and the key of its
 /// meta record.
-fn file(alloc: Global, call: &Call) -> Result<String, RowFault> {
+fn file(alloc: Global, call: &Call) -> Result<String, RowError> {
     let file = call.byte(0);
     let shape = Shape {
         threshold: 50,

@@ -1,5 +1,5 @@
 use crate::call::Call;
-use crate::fault::RowFault;
+use crate::error::RowError;
 use crate::mutations;
 use crate::names::name_in;
 use crate::properties::value_in;
@@ -16,7 +16,7 @@ pub(crate) fn answer(
     space: &mut MapSpace,
     names: &mut Names,
     call: &Call,
-) -> Result<String, RowFault> {
+) -> Result<String, RowError> {
     match (call.verb, call.count()) {
         (b"add_node", 0) => node(alloc, space, names, call),
         (b"add_nodes", 1) => nodes(alloc, space, names, call),
@@ -35,7 +35,7 @@ fn node(
     space: &mut MapSpace,
     names: &mut Names,
     call: &Call,
-) -> Result<String, RowFault> {
+) -> Result<String, RowError> {
     let label = Text::new(Vec::from_slice(alloc, name_in(call)?)?);
     let no_pairs = Pairs::new(Vec::new(alloc));
     spell(alloc, &add_node(alloc, space, names, &label, &no_pairs))
@@ -47,12 +47,12 @@ fn nodes(
     space: &mut MapSpace,
     names: &mut Names,
     call: &Call,
-) -> Result<String, RowFault> {
+) -> Result<String, RowError> {
     for _ in 0..call.at(0) {
         let label = Text::new(Vec::from_slice(alloc, name_in(call)?)?);
         let no_pairs = Pairs::new(Vec::new(alloc));
         if add_node(alloc, space, names, &label, &no_pairs).is_err() {
-            return Err(RowFault::Malformed);
+            return Err(RowError::Malformed);
         }
     }
     spell(alloc, &call.at(0))
@@ -64,7 +64,7 @@ fn edge(
     space: &mut MapSpace,
     names: &mut Names,
     call: &Call,
-) -> Result<String, RowFault> {
+) -> Result<String, RowError> {
     let label = Text::new(Vec::from_slice(alloc, name_in(call)?)?);
     let no_pairs = Pairs::new(Vec::new(alloc));
     let (from, to) = (call.at(0), call.at(1));
@@ -85,7 +85,7 @@ fn set_one(
     space: &mut MapSpace,
     names: &mut Names,
     call: &Call,
-) -> Result<String, RowFault> {
+) -> Result<String, RowError> {
     let key = Text::new(Vec::from_slice(alloc, name_in(call)?)?);
     let value = value_in(alloc, call)?;
     spell(
@@ -99,7 +99,7 @@ fn unset_one(
     space: &mut MapSpace,
     names: &Names,
     call: &Call,
-) -> Result<String, RowFault> {
+) -> Result<String, RowError> {
     let key = Text::new(Vec::from_slice(alloc, name_in(call)?)?);
     spell(alloc, &unset(alloc, space, names, target_in(call), &key))
 }

@@ -22,7 +22,7 @@ mod call;
 mod chains;
 mod counted;
 mod edges_met;
-mod fault;
+mod error;
 mod forms;
 mod graphs;
 mod groups;
@@ -32,6 +32,7 @@ mod mutations;
 mod names;
 mod nodes;
 mod paths;
+mod progress;
 mod properties;
 mod reading;
 mod records;
@@ -39,35 +40,38 @@ mod relationships;
 mod runs;
 mod spaces;
 mod spelling;
-mod stage;
 mod write_sets;
 
-use crate::fault::{Fault, RowFault};
-use crate::stage::Stage;
+use crate::error::{ProgramError, RowError};
+use crate::progress::Progress;
 use std::alloc::Global;
 use std::io::{Read, Write};
 
-fn main(rt: HostRuntime) -> Result<(), Fault> {
+fn main(rt: HostRuntime) -> Result<(), ProgramError> {
     let alloc = rt.alloc();
     let mut rows = Vec::new(alloc);
     rt.stdin().read_to_end(&mut rows)?;
     let mut answers = Vec::new(alloc);
     if answer(alloc, &rows, &mut answers).is_err() {
-        return Err(Fault::Memory);
+        return Err(ProgramError::Memory);
     }
     rt.stdout().write_all(&answers)?;
     Ok(())
 }
 
 /// Carries out all rows.
-fn answer(alloc: Global, rows: &[u8], out: &mut Vec<u8>) -> Result<(), RowFault> {
-    let mut stage = Stage::new(alloc)?;
-    take_all(&mut stage, rows, out)
+fn answer(alloc: Global, rows: &[u8], out: &mut Vec<u8>) -> Result<(), RowError> {
+    let mut progress = Progress::new(alloc)?;
+    take_all(&mut progress, rows, out)
 }
 
-fn take_all<'a>(stage: &mut Stage<'a>, rows: &'a [u8], out: &mut Vec<u8>) -> Result<(), RowFault> {
+fn take_all<'a>(
+    progress: &mut Progress<'a>,
+    rows: &'a [u8],
+    out: &mut Vec<u8>,
+) -> Result<(), RowError> {
     for line in rows.split(|byte| *byte == b'\n') {
-        stage.take(line, out)?;
+        progress.take(line, out)?;
     }
     Ok(())
 }

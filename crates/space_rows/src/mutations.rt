@@ -3,7 +3,7 @@ ghost use Rattle.plain_graph.specs.Forms.{ArePairs, HasMutationForm};
 ghost use Rattle.plain_graph.specs.Names.{IsShortName};
 
 use crate::call::Call;
-use crate::fault::RowFault;
+use crate::error::RowError;
 use crate::names::name_in;
 use crate::properties::value_in;
 use crate::spelling::spell_fault;
@@ -20,7 +20,7 @@ pub(crate) fn answer(
     space: &mut MapSpace,
     names: &mut Names,
     call: &Call,
-) -> Result<String, RowFault> {
+) -> Result<String, RowError> {
     let mutation = mutation_in(alloc, call)?;
     let items = items_in(alloc, call)?;
     match mutate(alloc, space, names, items, &mutation) {
@@ -34,7 +34,7 @@ pub(crate) fn answer(
 }
 
 /// The step of a call: its name is the label, and the key of its value where it has one.
-fn mutation_in(alloc: Global, call: &Call) -> Result<Mutation, RowFault>
+fn mutation_in(alloc: Global, call: &Call) -> Result<Mutation, RowError>
     ensures { IfOk result HasMutationForm }
 {
     match (call.verb, call.count()) {
@@ -49,18 +49,18 @@ fn mutation_in(alloc: Global, call: &Call) -> Result<Mutation, RowFault>
         }),
         (b"property", 3) => Ok(Mutation::Property(pairs_in(alloc, call)?)),
         (b"drop", 3) => Ok(Mutation::Drop),
-        _ => Err(RowFault::Malformed),
+        _ => Err(RowError::Malformed),
     }
 }
 
-fn text_in(alloc: Global, call: &Call) -> Result<Text, RowFault>
+fn text_in(alloc: Global, call: &Call) -> Result<Text, RowError>
     ensures { IfOk result IsShortName }
 {
     Ok(Text::new(Vec::from_slice(alloc, name_in(call)?)?))
 }
 
 /// The value of a call under its name, or nothing where it has none.
-fn pairs_in(alloc: Global, call: &Call) -> Result<Pairs, RowFault>
+fn pairs_in(alloc: Global, call: &Call) -> Result<Pairs, RowError>
     ensures { IfOk result ArePairs }
 {
     if call.value.is_empty() {
@@ -72,7 +72,7 @@ fn pairs_in(alloc: Global, call: &Call) -> Result<Pairs, RowFault>
 }
 
 /// The results on which a step works: so many nodes from this one on, or this edge so many times.
-fn items_in(alloc: Global, call: &Call) -> Result<Vec<Item>, RowFault> {
+fn items_in(alloc: Global, call: &Call) -> Result<Vec<Item>, RowError> {
     let mut items = Vec::new(alloc);
     for place in 0..call.at(2) {
         items.push(item_in(alloc, call, place))?;

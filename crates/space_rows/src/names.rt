@@ -2,7 +2,7 @@ ghost use Rattle.std.specs.Prelude.{◌<◌, IfOk};
 ghost use Rattle.plain_graph.specs.Names.{IsShortName};
 
 use crate::call::Call;
-use crate::fault::RowFault;
+use crate::error::RowError;
 use crate::spelling::{spell, spell_fault};
 use name_store::{Names, load};
 use plain_graph::is_short_name;
@@ -15,7 +15,7 @@ pub(crate) fn answer(
     space: &mut MapSpace,
     names: &mut Names,
     call: &Call,
-) -> Result<String, RowFault> {
+) -> Result<String, RowError> {
     match (call.verb, call.count()) {
         (b"load", 0) => reload(alloc, space, names),
         (b"intern", 0) => intern(alloc, space, names, call),
@@ -26,12 +26,12 @@ pub(crate) fn answer(
         (b"count", 0) => spell(alloc, &names.count()),
         (b"cut", 1) => cut(alloc, names, call),
         (b"again", 0) => spell(alloc, &names.again(space)),
-        _ => Err(RowFault::Malformed),
+        _ => Err(RowError::Malformed),
     }
 }
 
 /// The names of the space come in place of those at hand. Their number is answered.
-fn reload(alloc: Global, space: &mut MapSpace, names: &mut Names) -> Result<String, RowFault> {
+fn reload(alloc: Global, space: &mut MapSpace, names: &mut Names) -> Result<String, RowError> {
     match load(alloc, space) {
         Ok(found) => *names = found,
         Err(fault) => return spell_fault(alloc, &fault),
@@ -40,13 +40,13 @@ fn reload(alloc: Global, space: &mut MapSpace, names: &mut Names) -> Result<Stri
 }
 
 /// A name that a store may have.
-pub(crate) fn name_in<'a>(call: &Call<'a>) -> Result<&'a [u8], RowFault>
+pub(crate) fn name_in<'a>(call: &Call<'a>) -> Result<&'a [u8], RowError>
     ensures { IfOk result (λ name. IsShortName name.now) }
 {
     if is_short_name(call.text) {
         Ok(call.text)
     } else {
-        Err(RowFault::Malformed)
+        Err(RowError::Malformed)
     }
 }
 
@@ -55,28 +55,28 @@ fn intern(
     space: &mut MapSpace,
     names: &mut Names,
     call: &Call,
-) -> Result<String, RowFault> {
+) -> Result<String, RowError> {
     let name = name_in(call)?;
     spell(alloc, &names.intern(space, name))
 }
 
-fn hold(alloc: Global, names: &mut Names, call: &Call) -> Result<String, RowFault> {
+fn hold(alloc: Global, names: &mut Names, call: &Call) -> Result<String, RowError> {
     let name = name_in(call)?;
     spell(alloc, &names.hold(name))
 }
 
-fn text(alloc: Global, names: &Names, call: &Call) -> Result<String, RowFault> {
+fn text(alloc: Global, names: &Names, call: &Call) -> Result<String, RowError> {
     let id = call.at(0);
     if id >= names.count() {
-        return Err(RowFault::Malformed);
+        return Err(RowError::Malformed);
     }
     match str::from_utf8(names.text(id)) {
         Ok(text) => spell(alloc, &text),
-        Err(_) => Err(RowFault::Malformed),
+        Err(_) => Err(RowError::Malformed),
     }
 }
 
-fn cut(alloc: Global, names: &mut Names, call: &Call) -> Result<String, RowFault> {
+fn cut(alloc: Global, names: &mut Names, call: &Call) -> Result<String, RowError> {
     names.cut(call.at(0));
     spell(alloc, &names.count())
 }
@@ -97,11 +97,11 @@ fn intern_many(
     space: &mut MapSpace,
     names: &mut Names,
     call: &Call,
-) -> Result<String, RowFault> {
+) -> Result<String, RowError> {
     for number in 0..call.at(0) {
         let text = numbered(number);
         if is_short_name(&text) && names.intern(space, &text).is_err() {
-            return Err(RowFault::Malformed);
+            return Err(RowError::Malformed);
         }
     }
     spell(alloc, &names.count())

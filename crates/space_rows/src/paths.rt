@@ -1,6 +1,6 @@
 use crate::call::Call;
 use crate::edges_met::direction_in;
-use crate::fault::RowFault;
+use crate::error::RowError;
 use crate::spelling::{spell, spell_fault};
 use path_find::{Answer, Levels, Walk, WalkSearch, check_levels, find_path};
 use plain_graph::NodeLevel;
@@ -13,13 +13,13 @@ pub(crate) fn answer(
     space: &mut MapSpace,
     found: &mut Answer,
     call: &Call,
-) -> Result<String, RowFault> {
+) -> Result<String, RowError> {
     match call.verb {
         b"find_path" => find(alloc, space, found, call),
         b"check_levels" => check(alloc, space, found, call),
         b"without_last" => spoil(alloc, found, false),
         b"with_higher_last" => spoil(alloc, found, true),
-        _ => Err(RowFault::Malformed),
+        _ => Err(RowError::Malformed),
     }
 }
 
@@ -40,7 +40,7 @@ fn find(
     space: &mut MapSpace,
     found: &mut Answer,
     call: &Call,
-) -> Result<String, RowFault> {
+) -> Result<String, RowError> {
     let (from, to, direction) = (call.at(0), call.at(1), direction_in(call, 2));
     match find_path(alloc, space, from, to, direction, call.after(3)) {
         Ok(answer) => *found = answer,
@@ -50,7 +50,7 @@ fn find(
 }
 
 /// Spells the nodes of the walk, and each node of the levels with its level.
-fn spell_answer(alloc: Global, found: &Answer) -> Result<String, RowFault> {
+fn spell_answer(alloc: Global, found: &Answer) -> Result<String, RowError> {
     let mut text = spell(alloc, &found.walk.as_slice())?;
     for row in found.levels.as_slice() {
         write!(text, " {}:{}", row.node, row.level)?;
@@ -63,7 +63,7 @@ fn check(
     space: &mut MapSpace,
     found: &Answer,
     call: &Call,
-) -> Result<String, RowFault> {
+) -> Result<String, RowError> {
     let sought = WalkSearch {
         from: call.at(0),
         to: call.at(1),
@@ -74,7 +74,7 @@ fn check(
     spell(alloc, &passes)
 }
 
-fn spoil(alloc: Global, found: &mut Answer, higher: bool) -> Result<String, RowFault> {
+fn spoil(alloc: Global, found: &mut Answer, higher: bool) -> Result<String, RowError> {
     *found = spoiled(alloc, found, higher)?;
     spell_answer(alloc, found)
 }

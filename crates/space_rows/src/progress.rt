@@ -1,21 +1,21 @@
 use crate::bench::Bench;
-use crate::fault::RowFault;
+use crate::error::RowError;
 use crate::reading::Glossary;
 use std::alloc::{AllocError, Global};
 
 /// What the lines so far have left: the words that they explained, and what the calls work on.
 #[derive(Drop)]
-pub(crate) struct Stage<'a> {
+pub(crate) struct Progress<'a> {
     alloc: Global,
     glossary: Glossary<'a>,
     bench: Box<Bench>,
 }
 
-impl<'a> Stage<'a> {
-    /// The stage before the first line.
-    pub(crate) fn new(alloc: Global) -> Result<Stage<'a>, AllocError> {
+impl<'a> Progress<'a> {
+    /// What there is before the first line.
+    pub(crate) fn new(alloc: Global) -> Result<Progress<'a>, AllocError> {
         let bench = Bench::new(alloc)?;
-        Ok(Stage {
+        Ok(Progress {
             alloc,
             glossary: Glossary::new(alloc),
             bench,
@@ -23,7 +23,7 @@ impl<'a> Stage<'a> {
     }
 
     /// Carries out a line, and writes what it answers.
-    pub(crate) fn take(&mut self, line: &'a [u8], out: &mut Vec<u8>) -> Result<(), RowFault> {
+    pub(crate) fn take(&mut self, line: &'a [u8], out: &mut Vec<u8>) -> Result<(), RowError> {
         match line.split_first() {
             None | Some((b'-', _)) => Ok(()),
             Some((b'#', _)) => self.begin_section(line, out),
@@ -34,13 +34,13 @@ impl<'a> Stage<'a> {
         }
     }
 
-    fn begin_section(&mut self, title: &[u8], out: &mut Vec<u8>) -> Result<(), RowFault> {
+    fn begin_section(&mut self, title: &[u8], out: &mut Vec<u8>) -> Result<(), RowError> {
         self.bench = Bench::new(self.alloc)?;
         Ok(put(out, &[title, b"\n"])?)
     }
 
     /// Makes the calls for which a word stands, and writes those whose answer isn't `Ok`.
-    fn prepare(&mut self, word: &[u8], out: &mut Vec<u8>) -> Result<(), RowFault> {
+    fn prepare(&mut self, word: &[u8], out: &mut Vec<u8>) -> Result<(), RowError> {
         for line in self.glossary.calls_of(word)? {
             let answer = self.answer(line)?;
             if !answer.starts_with("Ok") {
@@ -50,20 +50,20 @@ impl<'a> Stage<'a> {
         Ok(())
     }
 
-    fn show(&mut self, line: &'a [u8], out: &mut Vec<u8>) -> Result<(), RowFault> {
+    fn show(&mut self, line: &'a [u8], out: &mut Vec<u8>) -> Result<(), RowError> {
         let answer = self.answer(line)?;
         Ok(put_row(out, line, &answer)?)
     }
 
     /// What the call of a line answers.
-    fn answer(&mut self, line: &'a [u8]) -> Result<String, RowFault> {
+    fn answer(&mut self, line: &'a [u8]) -> Result<String, RowError> {
         match self.call(line) {
-            Err(RowFault::Malformed) => Ok(String::from_str(self.alloc, "bad line")?),
+            Err(RowError::Malformed) => Ok(String::from_str(self.alloc, "bad line")?),
             other => other,
         }
     }
 
-    fn call(&mut self, line: &'a [u8]) -> Result<String, RowFault> {
+    fn call(&mut self, line: &'a [u8]) -> Result<String, RowError> {
         let call = self.glossary.read(line)?;
         self.bench.answer(&call)
     }

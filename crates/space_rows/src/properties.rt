@@ -3,7 +3,7 @@ ghost use Rattle.plain_graph.specs.Forms.{IsKept};
 ghost use Rattle.prop_store.specs.Owner.{IsOwner};
 
 use crate::call::{Call, key_of};
-use crate::fault::RowFault;
+use crate::error::RowError;
 use crate::reading::number_in;
 use crate::spelling::{spell, spell_fault, spell_value};
 use plain_graph::{Text, Value};
@@ -12,7 +12,7 @@ use rec_bytes::{MapSpace, NODE_FIRST_PROPERTY, NODES, RELATIONSHIP_FIRST_PROPERT
 use std::alloc::Global;
 
 /// The calls of `prop_store`.
-pub(crate) fn answer(alloc: Global, space: &mut MapSpace, call: &Call) -> Result<String, RowFault> {
+pub(crate) fn answer(alloc: Global, space: &mut MapSpace, call: &Call) -> Result<String, RowError> {
     let owner = owner_in(call)?;
     match (call.verb, call.count()) {
         (b"add", 3) => add_one(alloc, space, owner, call),
@@ -21,25 +21,25 @@ pub(crate) fn answer(alloc: Global, space: &mut MapSpace, call: &Call) -> Result
         (b"read_all", 2) => count_all(alloc, space, owner),
         (b"unset", 3) => spell(alloc, &unset(space, owner, call.at(2))),
         (b"drop_all", 2) => drop_each(alloc, space, owner),
-        _ => Err(RowFault::Malformed),
+        _ => Err(RowError::Malformed),
     }
 }
 
 /// The node or relationship whose file and number a call has first.
-fn owner_in(call: &Call) -> Result<Owner, RowFault>
+fn owner_in(call: &Call) -> Result<Owner, RowError>
     ensures { IfOk result (λ owner. IsOwner owner) }
 {
     let key = key_of(call.byte(0), call.at(1))?;
     let field = match key.file {
         NODES => NODE_FIRST_PROPERTY,
         RELATIONSHIPS => RELATIONSHIP_FIRST_PROPERTY,
-        _ => return Err(RowFault::Malformed),
+        _ => return Err(RowError::Malformed),
     };
     Ok(Owner { key, field })
 }
 
 /// The value of a call: `true`, `false`, a text of so many equal letters as `97x`, or a number.
-pub(crate) fn value_in(alloc: Global, call: &Call) -> Result<Value, RowFault>
+pub(crate) fn value_in(alloc: Global, call: &Call) -> Result<Value, RowError>
     ensures { IfOk result (λ value. IsKept value) }
 {
     match call.value {
@@ -54,26 +54,26 @@ pub(crate) fn value_in(alloc: Global, call: &Call) -> Result<Value, RowFault>
     }
 }
 
-fn long_text(alloc: Global, letter: u8, count: &[u8]) -> Result<Value, RowFault>
+fn long_text(alloc: Global, letter: u8, count: &[u8]) -> Result<Value, RowError>
     ensures { IfOk result (λ value. IsKept value) }
 {
     let count = number_in(count)?;
     if count > 1024 {
-        return Err(RowFault::Malformed);
+        return Err(RowError::Malformed);
     }
     let bytes = vec![in alloc; letter; count as usize]?;
     Ok(Value::Text(Text::new(bytes)))
 }
 
-fn whole_number(text: &[u8]) -> Result<Value, RowFault>
+fn whole_number(text: &[u8]) -> Result<Value, RowError>
     ensures { IfOk result (λ value. IsKept value) }
 {
     let Ok(text) = str::from_utf8(text) else {
-        return Err(RowFault::Malformed);
+        return Err(RowError::Malformed);
     };
     match text.parse::<i64>() {
         Ok(number) => Ok(Value::Int(number)),
-        Err(_) => Err(RowFault::Malformed),
+        Err(_) => Err(RowError::Malformed),
     }
 }
 
@@ -82,7 +82,7 @@ fn add_one(
     space: &mut MapSpace,
     owner: Owner,
     call: &Call,
-) -> Result<String, RowFault>
+) -> Result<String, RowError>
     requires { IsOwner owner }
 {
     let value = value_in(alloc, call)?;
@@ -94,7 +94,7 @@ fn set_one(
     space: &mut MapSpace,
     owner: Owner,
     call: &Call,
-) -> Result<String, RowFault>
+) -> Result<String, RowError>
     requires { IsOwner owner }
 {
     let value = value_in(alloc, call)?;
@@ -106,7 +106,7 @@ fn read_one(
     space: &mut MapSpace,
     owner: Owner,
     call: &Call,
-) -> Result<String, RowFault>
+) -> Result<String, RowError>
     requires { IsOwner owner }
 {
     match read_key(alloc, space, owner, call.at(2)) {
@@ -117,7 +117,7 @@ fn read_one(
 }
 
 /// How many properties there are.
-fn count_all(alloc: Global, space: &mut MapSpace, owner: Owner) -> Result<String, RowFault>
+fn count_all(alloc: Global, space: &mut MapSpace, owner: Owner) -> Result<String, RowError>
     requires { IsOwner owner }
 {
     match read_all(alloc, space, owner) {
@@ -127,7 +127,7 @@ fn count_all(alloc: Global, space: &mut MapSpace, owner: Owner) -> Result<String
 }
 
 /// How many properties and blocks went.
-fn drop_each(alloc: Global, space: &mut MapSpace, owner: Owner) -> Result<String, RowFault>
+fn drop_each(alloc: Global, space: &mut MapSpace, owner: Owner) -> Result<String, RowError>
     requires { IsOwner owner }
 {
     match drop_all(space, owner) {

@@ -1,5 +1,5 @@
 use crate::call::Call;
-use crate::fault::RowFault;
+use crate::error::RowError;
 use std::alloc::{AllocError, Global};
 
 /// Words that stand for numbers, and calls that stand for others, each with its name.
@@ -21,7 +21,7 @@ impl<'a> Glossary<'a> {
     }
 
     /// Lets a word stand for the number after it.
-    pub(crate) fn add_number(&mut self, line: &'a [u8]) -> Result<(), RowFault> {
+    pub(crate) fn add_number(&mut self, line: &'a [u8]) -> Result<(), RowError> {
         let (word, number) = cut(line);
         let number = self.number_of(number)?;
         Ok(self.numbers.push((word, number))?)
@@ -44,7 +44,7 @@ impl<'a> Glossary<'a> {
     }
 
     /// The call that a line spells.
-    pub(crate) fn read(&self, line: &'a [u8]) -> Result<Call<'a>, RowFault> {
+    pub(crate) fn read(&self, line: &'a [u8]) -> Result<Call<'a>, RowError> {
         let (layer, rest) = cut(line);
         let (verb, rest) = cut(rest);
         let mut call = Call {
@@ -60,7 +60,7 @@ impl<'a> Glossary<'a> {
         Ok(call)
     }
 
-    fn add_word(&self, call: &mut Call<'a>, word: &'a [u8]) -> Result<(), RowFault> {
+    fn add_word(&self, call: &mut Call<'a>, word: &'a [u8]) -> Result<(), RowError> {
         match word.split_first() {
             None => {}
             Some((b'\'', text)) => call.text = text,
@@ -71,7 +71,7 @@ impl<'a> Glossary<'a> {
     }
 
     /// The number that a word spells, or for which it stands.
-    fn number_of(&self, word: &[u8]) -> Result<u32, RowFault> {
+    fn number_of(&self, word: &[u8]) -> Result<u32, RowError> {
         for (known, number) in &self.numbers {
             if *known == word {
                 return Ok(*number);
@@ -82,13 +82,13 @@ impl<'a> Glossary<'a> {
 }
 
 /// The number that the text spells in decimal.
-pub(crate) fn number_in(text: &[u8]) -> Result<u32, RowFault> {
+pub(crate) fn number_in(text: &[u8]) -> Result<u32, RowError> {
     let Ok(text) = str::from_utf8(text) else {
-        return Err(RowFault::Malformed);
+        return Err(RowError::Malformed);
     };
     match text.parse::<u32>() {
         Ok(number) => Ok(number),
-        Err(_) => Err(RowFault::Malformed),
+        Err(_) => Err(RowError::Malformed),
     }
 }
 

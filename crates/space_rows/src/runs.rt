@@ -1,6 +1,6 @@
 use crate::call::Call;
 use crate::counted::Counted;
-use crate::fault::RowFault;
+use crate::error::RowError;
 use crate::spelling::spell;
 use name_store::Names;
 use plain_graph::{Direction, Hop, Ids, Item, Query, Source, Step, StepList, Texts};
@@ -15,19 +15,19 @@ pub(crate) fn answer(
     space: &mut Counted,
     names: &Names,
     call: &Call,
-) -> Result<String, RowFault> {
+) -> Result<String, RowError> {
     match (call.verb, call.count()) {
         (b"all", _) => begin(alloc, run, space, names, &[], &call.numbers),
         (b"from", _) => begin(alloc, run, space, names, &[call.at(0)], call.after(1)),
         (b"next", 0) => next(alloc, run, space, names),
         (b"held", 0) => held(alloc, run),
-        _ => Err(RowFault::Malformed),
+        _ => Err(RowError::Malformed),
     }
 }
 
 /// A query of these nodes, or of all, with a step for each number: at most so many results, or,
 /// for 0, the nodes at the other ends of edges in both directions.
-fn query_of(alloc: Global, ids: &[u32], numbers: &[u32]) -> Result<Query, RowFault> {
+fn query_of(alloc: Global, ids: &[u32], numbers: &[u32]) -> Result<Query, RowError> {
     let mut steps = Vec::new(alloc);
     for number in numbers {
         steps.push(step_of(alloc, *number))?;
@@ -57,7 +57,7 @@ fn begin(
     names: &Names,
     ids: &[u32],
     steps: &[u32],
-) -> Result<String, RowFault> {
+) -> Result<String, RowError> {
     let query = query_of(alloc, ids, steps)?;
     match Run::new(alloc, space, names, &query) {
         Ok(begun) => {
@@ -65,15 +65,15 @@ fn begin(
             *run = Some(Box::new(alloc, begun)?);
             spell(alloc, &count)
         }
-        Err(LookupFault::Memory) => Err(RowFault::Memory),
+        Err(LookupFault::Memory) => Err(RowError::Memory),
         Err(_) => Ok(String::from_str(alloc, "a fault")?),
     }
 }
 
-fn held(alloc: Global, run: &Option<Box<Run>>) -> Result<String, RowFault> {
+fn held(alloc: Global, run: &Option<Box<Run>>) -> Result<String, RowError> {
     match run {
         Some(run) => spell(alloc, &run.held()),
-        None => Err(RowFault::Malformed),
+        None => Err(RowError::Malformed),
     }
 }
 
@@ -82,9 +82,9 @@ fn next(
     run: &mut Option<Box<Run>>,
     space: &mut Counted,
     names: &Names,
-) -> Result<String, RowFault> {
+) -> Result<String, RowError> {
     let Some(run) = run else {
-        return Err(RowFault::Malformed);
+        return Err(RowError::Malformed);
     };
     let text = match run.next(space, names) {
         Next::Item(Item::Vertex(id)) => return spell(alloc, &Some(id)),

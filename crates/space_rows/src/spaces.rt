@@ -2,7 +2,7 @@ ghost use Rattle.std.specs.Prelude.{◌≡◌, IfOk, true};
 ghost use Rattle.rec_bytes.specs.RecordFiles.{is_meta_file};
 
 use crate::call::{Call, key_of};
-use crate::fault::RowFault;
+use crate::error::RowError;
 use crate::spelling::{spell, spell_fault, spell_record};
 use rec_bytes::{
     MapSpace, Meta, Reads, Rec, Shape, Space, change_meta, is_meta_file, set_byte, set_number,
@@ -10,7 +10,7 @@ use rec_bytes::{
 use std::alloc::Global;
 
 /// The calls of a space.
-pub(crate) fn answer(alloc: Global, space: &mut MapSpace, call: &Call) -> Result<String, RowFault> {
+pub(crate) fn answer(alloc: Global, space: &mut MapSpace, call: &Call) -> Result<String, RowError> {
     match (call.verb, call.count()) {
         (b"get", 2) => get(alloc, space, call),
         (b"number", 3) => number(alloc, space, call),
@@ -21,17 +21,17 @@ pub(crate) fn answer(alloc: Global, space: &mut MapSpace, call: &Call) -> Result
         (b"meta", 1) => meta(alloc, space, call),
         (b"live", 1) => live(alloc, space, call),
         (b"shape", 0) => spell(alloc, &space.shape()),
-        _ => Err(RowFault::Malformed),
+        _ => Err(RowError::Malformed),
     }
 }
 
 /// A new space of the shape.
-pub(crate) fn new_space(alloc: Global, call: &Call) -> Result<MapSpace, RowFault> {
+pub(crate) fn new_space(alloc: Global, call: &Call) -> Result<MapSpace, RowError> {
     let shape = shape_in(call, 0);
     if shape.is_allowed() {
         Ok(MapSpace::new(alloc, shape)?)
     } else {
-        Err(RowFault::Malformed)
+        Err(RowError::Malformed)
     }
 }
 
@@ -64,18 +64,18 @@ pub(crate) fn meta_in(call: &Call, place: usize) -> Meta {
 }
 
 /// The file at this place, which has a meta record.
-pub(crate) fn meta_file_in(call: &Call, place: usize) -> Result<u8, RowFault>
+pub(crate) fn meta_file_in(call: &Call, place: usize) -> Result<u8, RowError>
     ensures { IfOk result (λ file. is_meta_file file ≡ true) }
 {
     let file = call.byte(place);
     if is_meta_file(file) {
         Ok(file)
     } else {
-        Err(RowFault::Malformed)
+        Err(RowError::Malformed)
     }
 }
 
-fn get(alloc: Global, space: &mut MapSpace, call: &Call) -> Result<String, RowFault> {
+fn get(alloc: Global, space: &mut MapSpace, call: &Call) -> Result<String, RowError> {
     let key = key_of(call.byte(0), call.at(1))?;
     match space.get(key) {
         Ok(rec) => spell_record(alloc, &rec),
@@ -84,11 +84,11 @@ fn get(alloc: Global, space: &mut MapSpace, call: &Call) -> Result<String, RowFa
 }
 
 /// The number in the four bytes of a record from a place on.
-fn number(alloc: Global, space: &mut MapSpace, call: &Call) -> Result<String, RowFault> {
+fn number(alloc: Global, space: &mut MapSpace, call: &Call) -> Result<String, RowError> {
     let key = key_of(call.byte(0), call.at(1))?;
     let place = call.byte(2);
     if place > 60 {
-        return Err(RowFault::Malformed);
+        return Err(RowError::Malformed);
     }
     match space.get(key) {
         Ok(rec) => spell(alloc, &rec.number(place)),
@@ -96,41 +96,41 @@ fn number(alloc: Global, space: &mut MapSpace, call: &Call) -> Result<String, Ro
     }
 }
 
-fn put(alloc: Global, space: &mut MapSpace, call: &Call) -> Result<String, RowFault> {
+fn put(alloc: Global, space: &mut MapSpace, call: &Call) -> Result<String, RowError> {
     let key = key_of(call.byte(0), call.at(1))?;
     spell(alloc, &space.put(key, record_in(call, 2)))
 }
 
-fn put_number(alloc: Global, space: &mut MapSpace, call: &Call) -> Result<String, RowFault> {
+fn put_number(alloc: Global, space: &mut MapSpace, call: &Call) -> Result<String, RowError> {
     let key = key_of(call.byte(0), call.at(1))?;
     let place = call.byte(2);
     if place > 60 {
-        return Err(RowFault::Malformed);
+        return Err(RowError::Malformed);
     }
     spell(alloc, &set_number(space, key, place, call.at(3)))
 }
 
-fn put_byte(alloc: Global, space: &mut MapSpace, call: &Call) -> Result<String, RowFault> {
+fn put_byte(alloc: Global, space: &mut MapSpace, call: &Call) -> Result<String, RowError> {
     let key = key_of(call.byte(0), call.at(1))?;
     let place = call.byte(2);
     if place > 63 {
-        return Err(RowFault::Malformed);
+        return Err(RowError::Malformed);
     }
     spell(alloc, &set_byte(space, key, place, call.byte(3)))
 }
 
-fn put_meta(alloc: Global, space: &mut MapSpace, call: &Call) -> Result<String, RowFault> {
+fn put_meta(alloc: Global, space: &mut MapSpace, call: &Call) -> Result<String, RowError> {
     let file = meta_file_in(call, 0)?;
     spell(alloc, &change_meta(space, file, meta_in(call, 1)))
 }
 
-fn meta(alloc: Global, space: &mut MapSpace, call: &Call) -> Result<String, RowFault> {
+fn meta(alloc: Global, space: &mut MapSpace, call: &Call) -> Result<String, RowError> {
     let file = meta_file_in(call, 0)?;
     spell(alloc, &space.meta(file))
 }
 
 /// How many records of a file are in use.
-fn live(alloc: Global, space: &mut MapSpace, call: &Call) -> Result<String, RowFault> {
+fn live(alloc: Global, space: &mut MapSpace, call: &Call) -> Result<String, RowError> {
     let file = meta_file_in(call, 0)?;
     spell(alloc, &space.meta(file).live)
 }

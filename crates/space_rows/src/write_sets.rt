@@ -1,7 +1,7 @@
 ghost use Rattle.std.specs.Prelude.{◌<◌};
 
 use crate::call::{Call, key_of};
-use crate::fault::RowFault;
+use crate::error::RowError;
 use crate::spaces::record_in;
 use crate::spelling::{done, spell};
 use rec_bytes::{Key, Rec, WriteSet};
@@ -15,7 +15,7 @@ pub(crate) struct Sets {
 }
 
 /// The calls of the first set, and those that bring the other's records into it.
-pub(crate) fn answer(alloc: Global, sets: &mut Sets, call: &Call) -> Result<String, RowFault> {
+pub(crate) fn answer(alloc: Global, sets: &mut Sets, call: &Call) -> Result<String, RowError> {
     let Sets { set, other } = sets;
     match (call.verb, call.count()) {
         (b"put", _) => put(alloc, set, call),
@@ -27,23 +27,23 @@ pub(crate) fn answer(alloc: Global, sets: &mut Sets, call: &Call) -> Result<Stri
         (b"get", 1) => get(alloc, set, call),
         (b"find", 2) => find(alloc, set, call),
         (b"clear", 0) => clear(alloc, set),
-        _ => Err(RowFault::Malformed),
+        _ => Err(RowError::Malformed),
     }
 }
 
-fn put(alloc: Global, set: &mut WriteSet, call: &Call) -> Result<String, RowFault> {
+fn put(alloc: Global, set: &mut WriteSet, call: &Call) -> Result<String, RowError> {
     let key = key_of(call.byte(0), call.at(1))?;
     spell(alloc, &set.put(key, record_in(call, 2)))
 }
 
 /// Sets the first byte of the record, which is one of zeros where there is none.
-fn edit(alloc: Global, set: &mut WriteSet, call: &Call) -> Result<String, RowFault> {
+fn edit(alloc: Global, set: &mut WriteSet, call: &Call) -> Result<String, RowError> {
     let key = key_of(call.byte(0), call.at(1))?;
     set.edit(key, Rec::ZEROS)?.set_byte(0, call.byte(2));
     done(alloc)
 }
 
-fn put_reserved(alloc: Global, set: &mut WriteSet, call: &Call) -> Result<String, RowFault> {
+fn put_reserved(alloc: Global, set: &mut WriteSet, call: &Call) -> Result<String, RowError> {
     let key = key_of(call.byte(0), call.at(1))?;
     set.reserve(1)?;
     set.put_reserved(key, record_in(call, 2));
@@ -51,36 +51,36 @@ fn put_reserved(alloc: Global, set: &mut WriteSet, call: &Call) -> Result<String
 }
 
 /// Says how many keys are new.
-fn merge(alloc: Global, set: &mut WriteSet, other: &WriteSet) -> Result<String, RowFault> {
+fn merge(alloc: Global, set: &mut WriteSet, other: &WriteSet) -> Result<String, RowError> {
     let more = set.growth_by(other);
     set.reserve(more)?;
     set.merge(other);
     spell(alloc, &more)
 }
 
-fn clear(alloc: Global, set: &mut WriteSet) -> Result<String, RowFault> {
+fn clear(alloc: Global, set: &mut WriteSet) -> Result<String, RowError> {
     set.clear();
     done(alloc)
 }
 
-fn at(alloc: Global, set: &WriteSet, call: &Call) -> Result<String, RowFault> {
+fn at(alloc: Global, set: &WriteSet, call: &Call) -> Result<String, RowError> {
     let place = call.at(0) as usize;
     if place < set.len() {
         let (key, rec) = set.at(place);
         spell_pair(alloc, key, &rec)
     } else {
-        Err(RowFault::Malformed)
+        Err(RowError::Malformed)
     }
 }
 
-fn get(alloc: Global, set: &WriteSet, call: &Call) -> Result<String, RowFault> {
+fn get(alloc: Global, set: &WriteSet, call: &Call) -> Result<String, RowError> {
     match set.get(call.at(0) as usize) {
         Some((key, rec)) => spell_pair(alloc, key, &rec),
         None => spell(alloc, &None::<u8>),
     }
 }
 
-fn find(alloc: Global, set: &WriteSet, call: &Call) -> Result<String, RowFault> {
+fn find(alloc: Global, set: &WriteSet, call: &Call) -> Result<String, RowError> {
     let key = key_of(call.byte(0), call.at(1))?;
     match set.find(key) {
         Some(rec) => spell_pair(alloc, key, &rec),
@@ -89,7 +89,7 @@ fn find(alloc: Global, set: &WriteSet, call: &Call) -> Result<String, RowFault> 
 }
 
 /// Spells the key, and whether the record is the one that begins so and goes on with zeros.
-fn spell_pair(alloc: Global, key: Key, rec: &Rec) -> Result<String, RowFault> {
+fn spell_pair(alloc: Global, key: Key, rec: &Rec) -> Result<String, RowError> {
     let rest = rec.is_zero_from(1);
     spell(alloc, &(key.file, key.id, rec.byte(0), rest))
 }
