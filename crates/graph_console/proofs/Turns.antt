@@ -14,7 +14,7 @@ use Rattle.graph_session.specs.SharedAnswer.{SharedComesTo}
 use Rattle.graph_session.specs.SharedConsole.{IsSharedAt}
 use Rattle.graph_session.specs.SnapshotEffects.{SharedView}
 use Rattle.graph_session.specs.Snapshots.{SharedState}
-use Rattle.graph_session.specs.State.{IsQuit, mark_in}
+use Rattle.graph_session.specs.State.{IsQuit, prefix_in}
 use Rattle.graph_session.specs.declared.health.Health.{Health}
 use Rattle.graph_session.specs.declared.health.Health.TheVariants.{Live, Failed}
 use Rattle.graph_session.specs.declared.turn.Turn.{Turn}
@@ -35,7 +35,7 @@ pub record Answers {V : Type 0} (course : Course V) (comes_to : V → Type 0) (l
   pub counted : disk_failed ≡ true → Rose old_faults new_faults
   pub arrives : comes_to after
   pub health_is : course.health after ≡ health
-  pub text : Delivers turn old_taken new_taken (marked_text (mark_in line) reply)
+  pub text : Delivers turn old_taken new_taken (marked_text (prefix_in line) reply)
   pub quit : (turn ≡ Quit) ↔ IsQuit line
 
 module _ {D K : Type 0} {disk : DiskGhosts D} {sink : SinkGhosts K} (told : sink.tells) {line : InputLine} {old new : Terminal D K} {turn : Turn}

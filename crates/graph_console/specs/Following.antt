@@ -17,7 +17,7 @@ use Rattle.graph_session.specs.Exchange.{Exchange}
 use Rattle.graph_session.specs.SharedConsole.{IsSharedAt}
 use Rattle.graph_session.specs.SnapshotEffects.{SharedView}
 use Rattle.graph_session.specs.Snapshots.{SharedState}
-use Rattle.graph_session.specs.State.{Live, mark_in}
+use Rattle.graph_session.specs.State.{Live, prefix_in}
 use Rattle.graph_console.specs.Sending.{HasSent, Steps}
 use Rattle.graph_console.specs.Follow.{all_delivered}
 use Rattle.graph_console.specs.Run.{Run}
@@ -33,7 +33,7 @@ use Rattle.graph_console.specs.declared.follow.delivered.Delivered.{Delivered}
 pub record AnswersTapped {D : Type 0} (disk : DiskGhosts D) (line text : List ℕ)
     (old new : SharedView D) (tap : Pairs) : Type 0 where
   pub reply : Reply
-  pub text_is : text ≡ marked_text (mark_in (Whole line)) reply
+  pub text_is : text ≡ marked_text (prefix_in (Whole line)) reply
   pub well : tells_failure text ≡ false
   pub steps : (state : SharedState) → IsSharedAt disk old state
       → Steps disk (Whole line) old state reply new tap

@@ -9,7 +9,7 @@ use Rattle.graph_session.specs.Exchange.{Exchange, told_fault}
 use Rattle.graph_session.specs.SharedExchange.{TakesSharedStep}
 use Rattle.graph_session.specs.Snapshots.{Readers, SharedState}
 use Rattle.graph_session.specs.Stands.{IsAdmitted}
-use Rattle.graph_session.specs.State.{State, IsQuit, health_at, mark_in}
+use Rattle.graph_session.specs.State.{State, IsQuit, health_at, prefix_in}
 use Rattle.graph_session.specs.declared.health.Health.{Health}
 
 -- no session that reads has a snapshot, nor one that has ended
@@ -69,7 +69,7 @@ run_lines run = map (λ exchange. exchange.line) run
 
 -- the bytes of the reply, each of whose lines begins with the mark of the line's session
 abbrev pub exchange_text : Exchange → List ℕ
-exchange_text exchange = marked_text (mark_in exchange.line) exchange.reply
+exchange_text exchange = marked_text (prefix_in exchange.line) exchange.reply
 
 abbrev pub run_text : List Exchange → List ℕ
 run_text run = flat_map (λ exchange. exchange_text exchange) run

@@ -24,7 +24,7 @@ use Rattle.graph_session.specs.SharedConsoleStep.{SharedConsoleStep}
 use Rattle.graph_session.specs.SharedExchange.{AsksForSnapshot, SharedStep, step_of}
 use Rattle.graph_session.specs.SnapshotEffects.{SharedView}
 use Rattle.graph_session.specs.Snapshots.{SharedState}
-use Rattle.graph_session.specs.State.{IsQuit, NeverLacksMemory, State, mark_in, session_in}
+use Rattle.graph_session.specs.State.{IsQuit, NeverLacksMemory, State, prefix_in, session_in}
 use Rattle.graph_session.specs.Verdicts.{JudgesLine}
 use Rattle.graph_session.specs.declared.turn.Turn.{Turn}
 use Rattle.graph_session.specs.declared.turn.Turn.TheVariants.{Go, Quit, SinkFault}
@@ -180,7 +180,8 @@ AnswersWith disk sink line old new turn reply = (answers : AnswersLine disk sink
 
 module _ {D K : Type 0} {g : DiskGhosts D} {sink : SinkGhosts K} {line : InputLine} {old new : Terminal D K} {turn : Turn} where
   -- the reply of a settled line was given to the sink
-  pub given-with : (reply : Reply) → Gives sink (marked_text (mark_in line) reply) old.output new.output turn → ¬ IsQuit line → Onward g old.session new.session
+  pub given-with : (reply : Reply) → Gives sink (marked_text (prefix_in line) reply) old.output new.output turn → ¬ IsQuit line
+      → Onward g old.session new.session
       → (HasNoDraft old.session → MayStepAs g (session_in line) line (shared_in old) reply (shared_in new)) → JudgesLine g line (shared_in old) reply
       → ((known : Bool) (state : SharedState) → IsSharedAt (as_known known g) (shared_in old) state → SettlesLine (as_known known g) line (shared_in old)
       (shared_in new) state reply) → AnswersWith g sink line old new turn reply
@@ -199,7 +200,7 @@ module _ {D K : Type 0} {g : DiskGhosts D} {sink : SinkGhosts K} {line : InputLi
     refl,
   )
 
-  pub answers-given : (reply : Reply) → Gives sink (marked_text (mark_in line) reply) old.output new.output turn → ¬ IsQuit line
+  pub answers-given : (reply : Reply) → Gives sink (marked_text (prefix_in line) reply) old.output new.output turn → ¬ IsQuit line
       → Onward g old.session new.session
       → (HasNoDraft old.session → MayStepAs g (session_in line) line (shared_in old) reply (shared_in new)) → JudgesLine g line (shared_in old) reply
       → ((known : Bool) (state : SharedState) → IsSharedAt (as_known known g) (shared_in old) state → SettlesLine (as_known known g) line (shared_in old)
@@ -231,7 +232,7 @@ module _ {D K : Type 0} {g : DiskGhosts D} (only : OnlyNow g) {sink : SinkGhosts
 
   -- it gets one, and changes nothing
   pub unchanged-with : {session : SessionView D} {held : Snapshots} {before after : K} {turn : Turn} (reply : Reply) → told_fault reply ≡ 0
-      → Gives sink (marked_text (mark_in line) reply) before after turn → ¬ IsQuit line
+      → Gives sink (marked_text (prefix_in line) reply) before after turn → ¬ IsQuit line
       → MayStepAs g (session_in line) line (record { session = session; held = held }) reply (record { session = session; held = held })
       → JudgesLine g line (record { session = session; held = held }) reply
       → ((known : Bool) (state : SharedState) → IsSharedAt (as_known known g) (record { session = session; held = held }) state → SharedStep state
@@ -243,7 +244,7 @@ module _ {D K : Type 0} {g : DiskGhosts D} (only : OnlyNow g) {sink : SinkGhosts
       (λ known state at. settles-unchanged {g = as_known known g} only at quiet (step known state at))
 
   pub answers-unchanged : {session : SessionView D} {held : Snapshots} {before after : K} {turn : Turn} (reply : Reply) → told_fault reply ≡ 0
-      → Gives sink (marked_text (mark_in line) reply) before after turn → ¬ IsQuit line
+      → Gives sink (marked_text (prefix_in line) reply) before after turn → ¬ IsQuit line
       → MayStepAs g (session_in line) line (record { session = session; held = held }) reply (record { session = session; held = held })
       → JudgesLine g line (record { session = session; held = held }) reply
       → ((known : Bool) (state : SharedState) → IsSharedAt (as_known known g) (record { session = session; held = held }) state → SharedStep state

@@ -11,6 +11,7 @@ use Rattle.plain_graph.specs.declared.command.Command.{Command}
 use Rattle.plain_graph.specs.declared.command.Command.TheVariants as commands
 use Rattle.rec_bytes.specs.Pairs.{Pairs}
 use Rattle.txn_core.specs.Store.{state_of}
+use Rattle.rec_bytes.specs.declared.fault.Fault.TheVariants as faults
 use Rattle.graph_session.specs.Answering.{reply_of}
 use Rattle.graph_session.specs.ChangeDamage.{IsBlamed, IsSeen}
 use Rattle.graph_session.specs.Console.{HasNoDraft, SessionView}
@@ -67,18 +68,18 @@ module _ {D : Type 0} (g : Ghosts D) (old : SessionView D) (reply : Reply) (new 
 
 module _ {D : Type 0} {g : Ghosts D} {old new : SessionView D} (command : Command) (base : Session D g) (now : D) where
   -- no change was drafted
-  pub may-stopped : (why : Answer) → IsStopped command base now why → (¬ (why ≡ answers.DiskFailed) → Stays g old new)
-      → (why ≡ answers.DiskFailed → Rose (g.faults base.store.base.disk.now) (g.faults now) → Rose (g.faults old.disk) (g.faults new.disk) × HasFailedChange g
-      old new)
+  pub may-stopped : (why : Answer) → IsStopped command base now why → (¬ (why ≡ answers.Fault faults.Disk) → Stays g old new)
+      → (why ≡ answers.Fault faults.Disk → Rose (g.faults base.store.base.disk.now) (g.faults now)
+      → Rose (g.faults old.disk) (g.faults new.disk) × HasFailedChange g old new)
       → IsSeen old.console (state_of base.store) → base.names.names ≡ old.console.names → MayChange g old (reply_of why) new command
   may-stopped answers.Done stopped stays fault seen names = absurd stopped
   may-stopped (answers.NodeMade id) stopped stays fault seen names = absurd stopped
   may-stopped (answers.EdgeMade id) stopped stays fault seen names = absurd stopped
   may-stopped (answers.Results results) stopped stays fault seen names = absurd stopped
   may-stopped (answers.Refused why) stopped stays fault seen names = inr (inl ((why, refl), stays (λ e. cc)))
-  may-stopped answers.NoMemory stopped stays fault seen names = inr (inr (inl (refl, stays (λ e. cc))))
-  may-stopped answers.DiskFailed stopped stays fault seen names = let failed = fault refl stopped in inr (inr (inr (inr ((refl, failed.0), failed.1))))
-  may-stopped (answers.Damaged damage) stopped stays fault seen names = inr (inr (inr (inl (
+  may-stopped (answers.Fault faults.Memory) stopped stays fault seen names = inr (inr (inl (refl, stays (λ e. cc))))
+  may-stopped (answers.Fault faults.Disk) stopped stays fault seen names = let failed = fault refl stopped in inr (inr (inr (inr ((refl, failed.0), failed.1))))
+  may-stopped (answers.Fault (faults.Damaged damage)) stopped stays fault seen names = inr (inr (inr (inl (
     (
       damage,
       refl,

@@ -24,7 +24,7 @@ use Rattle.graph_session.specs.Refusals.{SpellsOnly, refusal_of}
 use Rattle.graph_session.specs.Settling.{IsLoud, IsParsed, SettlesCommand, told_by, told_of}
 use Rattle.graph_session.specs.SharedExchange.{AsksForSnapshot, IsOfSnapshots}
 use Rattle.graph_session.specs.SnapshotEffects.{KeepsOlds}
-use Rattle.graph_session.specs.State.{IsQuit, IsSilent, mark_in}
+use Rattle.graph_session.specs.State.{IsQuit, IsSilent, prefix_in}
 use Rattle.graph_session.specs.declared.health.Health.TheVariants as healths
 use Rattle.graph_session.specs.declared.turn.Turn.{Turn}
 use Rattle.graph_session.specs.declared.turn.Turn.TheVariants as turns
@@ -72,24 +72,25 @@ sight-unasked : (command : Command) → IsOfSnapshots command → ¬ IsQuestion 
 sight-unasked command (inl is) asks = subst IsQuestion is asks
 sight-unasked command (inr is) asks = subst IsQuestion is asks
 
--- the reply has the line's mark
-pub given-marked : {K : Type 0} {sink : SinkGhosts K} {line : List ℕ} {session : ℕ} {command : Command} {mark : List ℕ} → IsParsed line session command mark
+-- the reply has the line's prefix
+pub given-prefixed : {K : Type 0} {sink : SinkGhosts K} {line : List ℕ} {session : ℕ} {command : Command} {prefix : List ℕ}
+    → IsParsed line session command prefix
     → {before after : K} {turn : Turn} (reply : Reply)
-    → Gives sink (marked_text mark reply) before after turn → Gives sink (marked_text (mark_in (Whole line)) reply) before after turn
-given-marked {sink = sink} parsed {before = before} {after = after} {turn = turn} reply gives =
-    subst (λ (m : List ℕ). Gives sink (marked_text m reply) before after turn) (sym parsed.mark_is) gives
+    → Gives sink (marked_text prefix reply) before after turn → Gives sink (marked_text (prefix_in (Whole line)) reply) before after turn
+given-prefixed {sink = sink} parsed {before = before} {after = after} {turn = turn} reply gives =
+    subst (λ (m : List ℕ). Gives sink (marked_text m reply) before after turn) (sym parsed.prefix_is) gives
 
-module _ {D K : Type 0} {g : DiskGhosts D} {sink : SinkGhosts K} {line : List ℕ} {session : ℕ} {command : Command} {mark : List ℕ}
-    (parsed : IsParsed line session command mark) where
+module _ {D K : Type 0} {g : DiskGhosts D} {sink : SinkGhosts K} {line : List ℕ} {session : ℕ} {command : Command} {prefix : List ℕ}
+    (parsed : IsParsed line session command prefix) where
   -- a command that was settled, and whose reply was given
   pub settled-with : {old new : Terminal D K} {turn : Turn} (reply : Reply) → session ≡ 0 → IsLoud command → ¬ IsOfSnapshots command
       → IsServed old.session.console command → SettlesCommand g command old.session new.session reply
       → KeepsOlds g command (shared_in old) reply (shared_in new) → JudgesCommand g session command (shared_in old) reply
-      → Gives sink (marked_text mark reply) old.output new.output turn → AnswersWith g sink (Whole line) old new turn reply
+      → Gives sink (marked_text prefix reply) old.output new.output turn → AnswersWith g sink (Whole line) old new turn reply
   settled-with {old = old} {new = new} reply writes loud apart served settles keeps judges gives =
       let first = parsed.session_is ∙ writes in
       let none = apart-only parsed.only apart in
-      given-with {line = Whole line} reply (given-marked parsed reply gives) (quit-only parsed.only (λ e. loud-not_mute command loud (inr e))) settles.onward
+      given-with {line = Whole line} reply (given-prefixed parsed reply gives) (quit-only parsed.only (λ e. loud-not_mute command loud (inr e))) settles.onward
       (λ free. may-write (shared_in old) (shared_in new) (session_of line) first none (may-served parsed.only served (settles.may free))
       (keeps-end (shared_in old) (shared_in new) parsed.only keeps))
       (judges-parsed g (shared_in old) parsed reply judges)
@@ -98,11 +99,11 @@ module _ {D K : Type 0} {g : DiskGhosts D} {sink : SinkGhosts K} {line : List �
       settles-written {line = Whole line} first none done.uses (settles-shared known parsed.only at served done (settles.may at.writer.no_draft) keeps))
 
 module _ {D K : Type 0} (g : DiskGhosts D) (only_now : OnlyNow g) (sink : SinkGhosts K) {session : SessionView D} {held : Snapshots} {before after : K}
-    {turn : Turn} {line : List ℕ} {named : ℕ} {command : Command} {mark : List ℕ}
-    (parsed : IsParsed line named command mark) (writes : named ≡ 0) (loud : IsLoud command) where
+    {turn : Turn} {line : List ℕ} {named : ℕ} {command : Command} {prefix : List ℕ}
+    (parsed : IsParsed line named command prefix) (writes : named ≡ 0) (loud : IsLoud command) where
   -- the disk has failed the session
   pub failed-with : session.console.health ≡ healths.Failed → ¬ IsOfSnapshots command → command ≢ commands.Reopen
-      → Gives sink (marked_text mark (Refused refusals.Failed)) before after turn
+      → Gives sink (marked_text prefix (Refused refusals.Failed)) before after turn
       → AnswersWith g sink (Whole line) (record { session = session; held = held; output = before }) (record { session = session; held = held; output = after })
       turn (Refused refusals.Failed)
   failed-with failed apart again gives =
@@ -110,7 +111,7 @@ module _ {D K : Type 0} (g : DiskGhosts D) (only_now : OnlyNow g) (sink : SinkGh
       let mute = loud-not_mute command loud in
       let first = parsed.session_is ∙ writes in
       let none = apart-only only apart in
-      unchanged-with {g = g} only_now {line = Whole line} (Refused refusals.Failed) refl (given-marked parsed (Refused refusals.Failed) gives)
+      unchanged-with {g = g} only_now {line = Whole line} (Refused refusals.Failed) refl (given-prefixed parsed (Refused refusals.Failed) gives)
       (quit-only only (λ e. mute (inr e)))
       (may-turn_away g (record { session = session; held = held }) (session_of line) first (Whole line) (Refused refusals.Failed) none
       (inr (inr (refl, failed, (λ silent. mute (silent-mute only silent)), λ spells. again (spells-same only commands.Reopen spells)))))
@@ -119,13 +120,13 @@ module _ {D K : Type 0} (g : DiskGhosts D) (only_now : OnlyNow g) (sink : SinkGh
       (is_failed at.writer failed) mute again))
 
   -- it has no snapshots
-  pub answers-writer : IsOfSnapshots command → Gives sink (marked_text mark (Refused refusals.Writer)) before after turn
+  pub answers-writer : IsOfSnapshots command → Gives sink (marked_text prefix (Refused refusals.Writer)) before after turn
       → AnswersLine g sink (Whole line) (record { session = session; held = held; output = before }) (record { session = session; held = held; output = after })
       turn
   answers-writer about gives =
       let first = parsed.session_is ∙ writes in
       let asks = asks-only parsed.only about in
-      answers-unchanged {g = g} only_now {line = Whole line} (Refused refusals.Writer) refl (given-marked parsed (Refused refusals.Writer) gives)
+      answers-unchanged {g = g} only_now {line = Whole line} (Refused refusals.Writer) refl (given-prefixed parsed (Refused refusals.Writer) gives)
       (quit-only parsed.only (λ e. loud-not_mute command loud (inr e)))
       (may-writer g (record { session = session; held = held }) (session_of line) first (Whole line) asks)
       (judges-none g (record { session = session; held = held }) (Whole line) (Refused refusals.Writer) (unasked parsed.only (sight-unasked command about)))
@@ -181,12 +182,12 @@ module _ {D K : Type 0} (g : DiskGhosts D) (only_now : OnlyNow g) (sink : SinkGh
         (memory : fault ≡ faults.Memory → (command : Command) → NeedsNoMemory command → ¬ Spells line command) where
       -- the line spells no command
       pub fault-with : (fault ≢ faults.Memory → IsLeftmostFault line fault)
-          → Gives sink (marked_text (mark_in (Whole line)) (reply_of (told_of fault))) before after turn
+          → Gives sink (marked_text (prefix_in (Whole line)) (reply_of (told_of fault))) before after turn
           → AnswersWith g sink (Whole line) (record { session = session; held = held; output = before })
           (record { session = session; held = held; output = after }) turn (reply_of (told_of fault))
       fault-with leftmost gives = by (refusal_of fault) refl gives
         where
-          by : (told : Option Refusal) → refusal_of fault ≡ told → Gives sink (marked_text (mark_in (Whole line)) (reply_of (told_by told))) before after turn
+          by : (told : Option Refusal) → refusal_of fault ≡ told → Gives sink (marked_text (prefix_in (Whole line)) (reply_of (told_by told))) before after turn
               → AnswersWith g sink (Whole line) (record { session = session; held = held; output = before })
               (record { session = session; held = held; output = after }) turn (reply_of (told_by told))
           by None is given =

@@ -9,7 +9,8 @@ use Rattle.rel_store.specs.declared.edge_row.EdgeRow.{EdgeRow}
 use Rattle.graph_session.specs.Answer.{Gives}
 use Rattle.graph_session.specs.EdgeResults.{IsEdge, item_of, items_of}
 use Rattle.graph_session.specs.Exchange.{AreFirst}
-use Rattle.graph_session.specs.LineBuffer.{AddsLine, MarkedLines, no_lines}
+use Rattle.graph_session.specs.ReplyLines.{AddsLine, BeginsLines}
+use Rattle.graph_session.specs.declared.reply_lines.ReplyLines.{ReplyLines}
 use Rattle.graph_session.specs.declared.turn.Turn.{Turn}
 use Rattle.graph_session.specs.declared.turn.Turn.TheVariants.{Go}
 use Rattle.graph_session.proofs.ListedLines.{HasLines, lines-add, lines-last, lines-none, lines-stop_in}
@@ -20,9 +21,9 @@ abbrev pub edge_lines : List ℕ → ℕ → List EdgeRow → List (List ℕ)
 edge_lines label n rows = map item_line (items_of label (take n rows))
 
 -- The lines of the first rows were gathered. The edge that is written next has the name of the type.
-pub record IsGiving {K : Type 0} (sink : Ghosts K) (mark : List ℕ) (before after : K) (held : MarkedLines) (label : List ℕ) (edge : Item) (n : ℕ)
-    (rows : List EdgeRow) : Type 0 where
-  pub has : HasLines sink mark before after held (edge_lines label n rows)
+pub record IsGiving {K : Type 0} (sink : Ghosts K) (old now : ReplyLines K) (label : List ℕ) (edge : Item) (n : ℕ) (rows : List EdgeRow)
+    : Type 0 where
+  pub has : HasLines sink old now (edge_lines label n rows)
   pub named : IsEdge label edge
 
 abbrev row_at : List EdgeRow → ℕ → EdgeRow
@@ -47,38 +48,42 @@ first-rows label rows n =
     (items_of label (drop n rows), sym (map-append (item_of label) (take n rows) (drop n rows)) ∙ ap (items_of label) (take-append-drop n rows))
 
 -- no line yet
-pub giving-none : {K : Type 0} {sink : Ghosts K} (mark : List ℕ) (k : K) (label : List ℕ) (rows : List EdgeRow) (id number from to : ℕ)
-    → IsGiving sink mark k k (no_lines mark) label (item_of label (record { id = id; label = number; from = from; to = to })) 0 rows
-giving-none mark k label rows id number from to = record { has = lines-none mark k; named = (record { id = id; label = number; from = from; to = to }, refl) }
+pub giving-none : {K : Type 0} {sink : Ghosts K} {old now : ReplyLines K} → BeginsLines old now → (label : List ℕ) (rows : List EdgeRow)
+    (id number from to : ℕ) → IsGiving sink old now label (item_of label (record { id = id; label = number; from = from; to = to })) 0 rows
+giving-none begins label rows id number from to = record {
+  has = lines-none begins;
+  named = (record { id = id; label = number; from = from; to = to }, refl);
+}
 
-module _ {K : Type 0} {sink : Ghosts K} {mark : List ℕ} {before after : K} {held : MarkedLines} {label : List ℕ} {edge : Item} {n : ℕ} {rows : List EdgeRow}
-    (giving : IsGiving sink mark before after held label edge n rows) where
-  module _ (lt : n < length rows) (item : Item) (is : item ≡ item_of label (row_at rows n)) (new : MarkedLines) (then : K) where
-    adds-row : (turn : Turn) → AddsLine sink (result_text item) held new after then turn
-        → AddsLine sink (text_line (item_line (item_of label (row_at rows n)))) held new after then turn
-    adds-row turn adds = subst (λ (x : Item). AddsLine sink (result_text x) held new after then turn) is adds
+module _ {K : Type 0} {sink : Ghosts K} {old now : ReplyLines K} {label : List ℕ} {edge : Item} {n : ℕ} {rows : List EdgeRow}
+    (giving : IsGiving sink old now label edge n rows) where
+  module _ (lt : n < length rows) (item : Item) (is : item ≡ item_of label (row_at rows n)) (new : ReplyLines K) where
+    adds-row : (turn : Turn) → AddsLine sink (result_text item) now new turn
+        → AddsLine sink (text_line (item_line (item_of label (row_at rows n)))) now new turn
+    adds-row turn adds = subst (λ (x : Item). AddsLine sink (result_text x) now new turn) is adds
 
     -- the line of one more
-    pub giving-more : AddsLine sink (result_text item) held new after then Go → IsGiving sink mark before then new label item (n + 1) rows
+    pub giving-more : AddsLine sink (result_text item) now new Go → IsGiving sink old new label item (n + 1) rows
     giving-more adds = record {
-      has = subst (λ (lines : List (List ℕ)). HasLines sink mark before then new lines) (sym (lines-more label rows n lt))
-          (lines-add giving.has (item_line (item_of label (row_at rows n))) new then (adds-row Go adds));
+      has = subst (λ (lines : List (List ℕ)). HasLines sink old new lines) (sym (lines-more label rows n lt))
+          (lines-add giving.has (item_line (item_of label (row_at rows n))) new (adds-row Go adds));
       named = (row_at rows n, is);
     }
 
     -- the sink failed
-    pub giving-stop : (turn : Turn) → AddsLine sink (result_text item) held new after then turn → turn ≢ Go
-        → Gives sink (marked_text mark (Told (map item_line (items_of label rows)) end_text)) before then turn
+    pub giving-stop : (turn : Turn) → AddsLine sink (result_text item) now new turn → turn ≢ Go
+        → Gives sink (marked_text old.prefix.now (Told (map item_line (items_of label rows)) end_text)) old.output.now new.output.now turn
     giving-stop turn adds stops =
         lines-stop_in giving.has (map item_line (items_of label rows)) end_text (item_line (item_of label (row_at rows n)))
         (subst (λ (lines : List (List ℕ)). AreFirst lines (map item_line (items_of label rows))) (lines-more label rows n lt) (first-rows label rows (n + 1)))
-        new then turn (adds-row turn adds) stops
+        new turn (adds-row turn adds) stops
 
   -- all have lines
-  pub giving-end : n ≤ length rows → length rows ≤ n → (then : K) (turn : Turn) → Gives sink (held.bytes ++ (held.mark ++ text_line end_text)) after then turn
-      → Gives sink (marked_text mark (Told (map item_line (items_of label rows)) end_text)) before then turn
+  pub giving-end : n ≤ length rows → length rows ≤ n → (then : K) (turn : Turn)
+      → Gives sink (now.buffer.now.bytes ++ (now.prefix.now ++ text_line end_text)) now.output.now then turn
+      → Gives sink (marked_text old.prefix.now (Told (map item_line (items_of label rows)) end_text)) old.output.now then turn
   giving-end low high then turn gives =
       let same : n ≡ length rows = omega (arith, low, high) in
-      subst (λ (lines : List (List ℕ)). Gives sink (marked_text mark (Told lines end_text)) before then turn)
+      subst (λ (lines : List (List ℕ)). Gives sink (marked_text old.prefix.now (Told lines end_text)) old.output.now then turn)
       (ap (λ (m : ℕ). edge_lines label m rows) same ∙ ap (λ (found : List EdgeRow). map item_line (items_of label found)) (take-length rows))
       (lines-last giving.has (text_line end_text) then turn gives)

@@ -20,6 +20,7 @@ use Rattle.store_rules.specs.Indexes.{IsIndexed}
 use Rattle.txn_core.specs.Store.{drafted, state_of, working}
 use Rattle.txn_core.proofs.StoreRecords.{committed-beneath, committed-read, drafted-none, working-beneath, working-read}
 use Rattle.change_parts.specs.Store.{graph_in}
+use Rattle.rec_bytes.specs.declared.fault.Fault.TheVariants as faults
 use Rattle.graph_session.specs.Answer.{Settles}
 use Rattle.graph_session.specs.Answering.{reply_of}
 use Rattle.graph_session.specs.ChangeLeft.{LeavesRecords}
@@ -83,8 +84,8 @@ module _ {D : Type 0} {g : Ghosts D} where
       {line : List ℕ} {command : Command} (spelled : SpellsOnly line command)
       (change : IsChange command) (base : Session D g) (now : D) (has : (as_known known g).tells_reads → HasStore base)
       (sees : (as_known known g).tells_reads → Sees (state_of base.store) state) where
-    pub settles-stopped : (why : Answer) → IsStopped command base now why → (¬ (why ≡ answers.DiskFailed) → Stays g old new)
-        → (why ≡ answers.DiskFailed → Rose (g.faults base.store.base.disk.now) (g.faults now) → Settles (as_known known g) (Whole line) old new state
+    pub settles-stopped : (why : Answer) → IsStopped command base now why → (¬ (why ≡ answers.Fault faults.Disk) → Stays g old new)
+        → (why ≡ answers.Fault faults.Disk → Rose (g.faults base.store.base.disk.now) (g.faults now) → Settles (as_known known g) (Whole line) old new state
         (Faulted [] DiskFailed)) → Settles (as_known known g) (Whole line) old new state (reply_of why)
     settles-stopped answers.Done stopped stays fault = absurd stopped
     settles-stopped (answers.NodeMade id) stopped stays fault = absurd stopped
@@ -94,9 +95,9 @@ module _ {D : Type 0} {g : Ghosts D} where
         settles-refused at (stays-known known (stays (λ e. cc))) why (λ told. refused state spelled (change-reached at live spelled change) why
         (sees-as (sees told) (λ shape graph. FirstReason line_reasons shape.limit graph command why) (stopped (told_of known g told) (has told))))
         (unmade-uses at live spelled change (stays-known known (stays (λ e. cc))))
-    settles-stopped answers.NoMemory stopped stays fault = unmade-memory at live spelled change (stays-known known (stays (λ e. cc)))
-    settles-stopped answers.DiskFailed stopped stays fault = fault refl stopped
-    settles-stopped (answers.Damaged damage) stopped stays fault =
+    settles-stopped (answers.Fault faults.Memory) stopped stays fault = unmade-memory at live spelled change (stays-known known (stays (λ e. cc)))
+    settles-stopped (answers.Fault faults.Disk) stopped stays fault = fault refl stopped
+    settles-stopped (answers.Fault (faults.Damaged damage)) stopped stays fault =
         settles-damaged damage.file damage.id state (comes-stays at (stays-known known (stays (λ e. cc)))) (λ told. stopped.0 (told_of known g told) (has told))
         (unmade-uses at live spelled change (stays-known known (stays (λ e. cc))))
 
@@ -249,7 +250,8 @@ module _ {D : Type 0} {g : Ghosts D} where
             (unmade-memory at live spelled change (stays-known known (stays-discarded count counts drops)));
         may = λ none.
             subst (λ (a : Answer). MayAnswer g command (view old) (reply_of a) (view new)) (sym told_so)
-            (may-change g (view old) (reply_of answers.NoMemory) (view new) command change (inr (inr (inl (refl, stays-discarded count counts drops)))));
+            (may-change g (view old) (reply_of (answers.Fault faults.Memory)) (view new) command change
+            (inr (inr (inl (refl, stays-discarded count counts drops)))));
         onward = record { disk_later = later-on new.store.base.disk.now drops.beneath.disk };
       }
       settles-finish (Err why) answer drafts (told_so, drops) = record {

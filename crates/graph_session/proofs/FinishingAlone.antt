@@ -23,6 +23,7 @@ use Rattle.store_rules.specs.Indexes.{IsIndexed}
 use Rattle.txn_core.specs.Base.{SameBeneath}
 use Rattle.txn_core.specs.Store.{committed, drafted, state_of}
 use Rattle.txn_core.proofs.StoreRecords.{committed-beneath, committed-read, drafted-none, working-none}
+use Rattle.rec_bytes.specs.declared.fault.Fault.TheVariants as faults
 use Rattle.graph_session.specs.Answer.{Settles}
 use Rattle.graph_session.specs.Answering.{reply_of}
 use Rattle.graph_session.specs.ChangeDamage.{IsSeen}
@@ -111,7 +112,7 @@ module _ {D : Type 0} {g : Ghosts D} {begun mid : Session D g} (old new : Sessio
     names-dropped : new.names.names ≡ old.names.names
     names-dropped = drops.names ∙ ap (take count) names-mid ∙ take-brought old.names.names only.brought.0 count counts
 
-    stays-dropped : ¬ (answer ≡ answers.DiskFailed) → Stays g (view old) (view new)
+    stays-dropped : ¬ (answer ≡ answers.Fault faults.Disk) → Stays g (view old) (view new)
     stays-dropped other = record {
       beneath = record {
         shape = drops.beneath.shape ∙ shape-mid;
@@ -129,7 +130,7 @@ module _ {D : Type 0} {g : Ghosts D} {begun mid : Session D g} (old new : Sessio
           ∙ sym (working-none old.store.base (nil_from_length old.store.base.own.pairs idle));
     }
 
-    fails-dropped : answer ≡ answers.DiskFailed → FailsRead g (view old) (view new)
+    fails-dropped : answer ≡ answers.Fault faults.Disk → FailsRead g (view old) (view new)
     fails-dropped is = record {
       ends = record { shape = drops.beneath.shape ∙ shape-mid; is_open = drops.closes.in_transaction; no_draft = drops.closes.draft };
       health = drops.failed is;
@@ -270,9 +271,10 @@ module _ {D : Type 0} {g : Ghosts D} {begun mid : Session D g} (old new : Sessio
             (inl (tells, inr (closed, drafted mid.store, from-mid, commits-mid commits), λ told. left-committed commits told)))
         by (inr (is, failed)) =
             subst (λ (a : Answer). MayAnswer g command (view old) (reply_of a) (view new)) (sym is)
-            (may-change g (view old) (reply_of answers.DiskFailed) (view new) command change (inr (inr (inr (inr (fails failed))))))
+            (may-change g (view old) (reply_of (answers.Fault faults.Disk)) (view new) command change (inr (inr (inr (inr (fails failed))))))
           where
-            fails : DropsRecords mid new ⊎ DoubtsRecords (drafted mid.store) mid new → TellsDiskFault g (view old) (reply_of answers.DiskFailed) (view new)
+            fails : DropsRecords mid new ⊎ DoubtsRecords (drafted mid.store) mid new
+                → TellsDiskFault g (view old) (reply_of (answers.Fault faults.Disk)) (view new)
                 × HasFailedChange g (view old) (view new)
             fails (inl drops) = ((refl, rose-mid drops.rose), inr (closed, inr (inl (drops-mid drops))))
             fails (inr doubts) = ((refl, rose-mid doubts.rose), inr (closed, inr (inr (drafted mid.store, from-mid, doubts-mid doubts))))
@@ -325,7 +327,7 @@ module _ {D : Type 0} {g : Ghosts D} {begun mid : Session D g} (old new : Sessio
       onward = record { disk_later = later-tried made answer fits tries };
     }
     settles-finish_alone (Ok made) answer drafts (inr (inl (is, more), drops)) =
-        let stays = stays-dropped count counts answer drops (λ failed. let clash : answers.Refused refusals.TransactionFull ≡ answers.DiskFailed = sym is
+        let stays = stays-dropped count counts answer drops (λ failed. let clash : answers.Refused refusals.TransactionFull ≡ answers.Fault faults.Disk = sym is
         ∙ failed in cc) in
         record {
           settles = λ known line state spelled served at.
@@ -338,14 +340,15 @@ module _ {D : Type 0} {g : Ghosts D} {begun mid : Session D g} (old new : Sessio
           onward = record { disk_later = later-dropped count counts answer drops };
         }
     settles-finish_alone (Ok made) answer drafts (inr (inr is, drops)) =
-        let stays = stays-dropped count counts answer drops (λ failed. let clash : answers.NoMemory ≡ answers.DiskFailed = sym is ∙ failed in cc) in
+        let stays = stays-dropped count counts answer drops
+        (λ failed. let clash : answers.Fault faults.Memory ≡ answers.Fault faults.Disk = sym is ∙ failed in cc) in
         record {
           settles = λ known line state spelled served at.
               subst (λ (a : Answer). Settles (as_known known g) (Whole line) (view old) (view new) state (reply_of a)) (sym is)
               (unmade-memory at live spelled change (stays-known known stays));
           may = λ none.
               subst (λ (a : Answer). MayAnswer g command (view old) (reply_of a) (view new)) (sym is)
-              (may-change g (view old) (reply_of answers.NoMemory) (view new) command change (inr (inr (inl (refl, stays)))));
+              (may-change g (view old) (reply_of (answers.Fault faults.Memory)) (view new) command change (inr (inr (inl (refl, stays)))));
           onward = record { disk_later = later-dropped count counts answer drops };
         }
     settles-finish_alone (Err why) answer drafts (is, drops) = record {

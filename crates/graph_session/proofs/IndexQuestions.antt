@@ -35,13 +35,13 @@ use Rattle.graph_session.proofs.Spelling.{asks-unchanging}
 -- ---- any line that may ask of an index
 
 module _ {R K : Type 0} {space : SpaceGhosts R} {sink : SinkGhosts K} {names : List (List ℕ)} {command : Command} (asks : Asks command)
-    (elements : (graph : Graph) → HasElements graph (asked_of command)) {a b : R} (read : IsRead space a b) {mark : List ℕ}
+    (elements : (graph : Graph) → HasElements graph (asked_of command)) {a b : R} (read : IsRead space a b) {prefix : List ℕ}
     {before after : K} {turn : Turn} where
   -- there is none
   no-index : (asked : Option Index) → index_of command ≡ asked → asked ≢ None
       → OfStore space names a (λ graph. lacks_index (index_of command) graph refusals.NoIndex)
-      → Gives sink (marked_text mark (reply_of (answer_for faults.NoIndex))) before after turn
-      → GivesReading space sink names command mark a b before after turn
+      → Gives sink (marked_text prefix (reply_of (answer_for faults.NoIndex))) before after turn
+      → GivesReading space sink names command prefix a b before after turn
   no-index None is some lacks gives = absurd (some refl)
   no-index (Some index) is some lacks gives =
       let idle = asks-unchanging command asks.question in
@@ -61,7 +61,7 @@ module _ {R K : Type 0} {space : SpaceGhosts R} {sink : SinkGhosts K} {names : L
   pub asks-unfound : (fault : LookupFault) → (fault ≡ faults.NoIndex → index_of command ≢ None) → (fault ≡ faults.Disk → Rose (space.faults a) (space.faults b))
       → OfStore space names a (λ graph. fault ≡ faults.NoIndex → lacks_index (index_of command) graph refusals.NoIndex)
       → (space.tells → BlamesBroken (space.state a).records (space.state a).shape fault)
-      → Gives sink (marked_text mark (reply_of (answer_for fault))) before after turn → GivesReading space sink names command mark a b before after turn
+      → Gives sink (marked_text prefix (reply_of (answer_for fault))) before after turn → GivesReading space sink names command prefix a b before after turn
   asks-unfound faults.NoIndex some rose refused blames gives = no-index (index_of command) refl (some refl) (λ told store. refused told store refl) gives
   asks-unfound faults.Memory some rose refused blames gives = asks-memory asks read gives
   asks-unfound faults.Disk some rose refused blames gives = asks-disk asks read (rose refl) gives
@@ -84,13 +84,13 @@ module _ (label key : List ℕ) (value : Value) where
   finds : Asks (commands.Find label key value)
   finds = record { question = tt; unspared = finds-unspared; unchecked = λ e. cc; reading = listed []; formed = ([], refl) }
 
-  module _ {R K : Type 0} {space : SpaceGhosts R} {sink : SinkGhosts K} {names : List (List ℕ)} {a b : R} (read : IsRead space a b) {mark : List ℕ}
+  module _ {R K : Type 0} {space : SpaceGhosts R} {sink : SinkGhosts K} {names : List (List ℕ)} {a b : R} (read : IsRead space a b) {prefix : List ℕ}
       {before after : K} {turn : Turn} where
     -- the nodes were told
     pub gives-found : (nodes : List ℕ) → OfStore space names a (λ graph. HasIndex graph label key)
         → OfStore space names a (λ graph. map items.Vertex nodes ≡ meaning graph (scan label key value))
-        → Gives sink (marked_text mark (Told (map vertex_line nodes) end_text)) before after turn
-        → GivesReading space sink names (commands.Find label key value) mark a b before after turn
+        → Gives sink (marked_text prefix (Told (map vertex_line nodes) end_text)) before after turn
+        → GivesReading space sink names (commands.Find label key value) prefix a b before after turn
     gives-found nodes there is gives =
         asks-told finds read (listed (map vertex_line nodes)) (nodes, refl) refl (λ told store. tt) there
         (λ told store. ap listed (sym (vertex_lines nodes) ∙ ap (map item_line) (is told store))) gives
@@ -99,8 +99,8 @@ module _ (label key : List ℕ) (value : Value) where
     pub gives-unfound : (fault : LookupFault) → (fault ≡ faults.Disk → Rose (space.faults a) (space.faults b))
         → OfStore space names a (λ graph. IsIndexRefusal graph label key fault)
         → (space.tells → BlamesBroken (space.state a).records (space.state a).shape fault)
-        → Gives sink (marked_text mark (reply_of (answer_for fault))) before after turn
-        → GivesReading space sink names (commands.Find label key value) mark a b before after turn
+        → Gives sink (marked_text prefix (reply_of (answer_for fault))) before after turn
+        → GivesReading space sink names (commands.Find label key value) prefix a b before after turn
     gives-unfound fault rose refused blames gives =
         asks-unfound finds (λ graph. tt) read fault (λ is e. cc) rose
         (λ told store is. (subst (IsIndexRefusal (graph_of (space.state a).records) label key) is (refused told store), refl))

@@ -6,7 +6,7 @@ use Rattle.plain_graph.specs.Lines.{IsQuestion, kind_of}
 use Rattle.plain_graph.specs.declared.command.Command.{Command}
 use Rattle.plain_graph.specs.declared.command.Command.TheVariants as commands
 use Rattle.graph_session.specs.Console.{ConsoleView}
-use Rattle.graph_session.specs.Jobs.{act_command, change_command, question_command, sight_command}
+use Rattle.graph_session.specs.Jobs.{act_command, change_command, question_command, snapshot_command}
 use Rattle.graph_session.specs.MayStep.{IsServed}
 use Rattle.graph_session.specs.Settling.{IsLoud, ServesAct}
 use Rattle.graph_session.specs.SharedExchange.{IsOfSnapshots}
@@ -14,8 +14,8 @@ use Rattle.graph_session.specs.declared.change.Change.{Change}
 use Rattle.graph_session.specs.declared.change.Change.TheVariants as changes
 use Rattle.graph_session.specs.declared.job.Act.{Act}
 use Rattle.graph_session.specs.declared.job.Act.TheVariants as acts
-use Rattle.graph_session.specs.declared.job.Sight.{Sight}
-use Rattle.graph_session.specs.declared.job.Sight.TheVariants as sights
+use Rattle.graph_session.specs.declared.job.SnapshotAct.{SnapshotAct}
+use Rattle.graph_session.specs.declared.job.SnapshotAct.TheVariants as snapshots
 use Rattle.graph_session.specs.declared.question.Question.{Question as AQuestion}
 use Rattle.graph_session.specs.declared.question.Question.TheVariants as questions
 
@@ -36,8 +36,8 @@ is_question questions.Stats = tt
 is_question (questions.Find label key value) = tt
 is_question (questions.Expand id direction label) = tt
 is_question (questions.Degree id direction label) = tt
-is_question (questions.Path from to direction label) = tt
-is_question (questions.Levels from to direction label) = tt
+is_question (questions.Path route) = tt
+is_question (questions.Levels route) = tt
 is_question (questions.View target) = tt
 is_question questions.ViewNames = tt
 is_question questions.ViewIndexes = tt
@@ -45,23 +45,23 @@ is_question (questions.Query query) = tt
 
 -- ---- about a snapshot
 
-pub sight-about : (sight : Sight) → IsOfSnapshots (sight_command sight)
-sight-about sights.Snapshot = inl refl
-sight-about sights.Release = inr refl
+pub snapshot-about : (act : SnapshotAct) → IsOfSnapshots (snapshot_command act)
+snapshot-about snapshots.Take = inl refl
+snapshot-about snapshots.Release = inr refl
 
-pub sight-loud : (sight : Sight) → IsLoud (sight_command sight)
-sight-loud sights.Snapshot silent = silent
-sight-loud sights.Release silent = silent
+pub snapshot-loud : (act : SnapshotAct) → IsLoud (snapshot_command act)
+snapshot-loud snapshots.Take silent = silent
+snapshot-loud snapshots.Release silent = silent
 
 about-read : (command : Command) → IsOfSnapshots command → AreOfReaders (kind_of command)
 about-read command (inl is) = subst (λ (c : Command). AreOfReaders (kind_of c)) (sym is) tt
 about-read command (inr is) = subst (λ (c : Command). AreOfReaders (kind_of c)) (sym is) tt
 
-pub sight-read : (sight : Sight) → AreOfReaders (kind_of (sight_command sight))
-sight-read sight = about-read (sight_command sight) (sight-about sight)
+pub snapshot-read : (act : SnapshotAct) → AreOfReaders (kind_of (snapshot_command act))
+snapshot-read act = about-read (snapshot_command act) (snapshot-about act)
 
-pub sight-reopens : (sight : Sight) → sight_command sight ≢ commands.Reopen
-sight-reopens sight again = about-read commands.Reopen (subst IsOfSnapshots again (sight-about sight))
+pub snapshot-reopens : (act : SnapshotAct) → snapshot_command act ≢ commands.Reopen
+snapshot-reopens act again = about-read commands.Reopen (subst IsOfSnapshots again (snapshot-about act))
 
 -- ---- of the session that writes
 

@@ -33,7 +33,7 @@ module _ {D : Type 0} (g : Ghosts D) (old : SharedView D) where
   judges-memory line told live command spelled asks records sees = record { verdict = λ is. (refl, tt); blames = tt }
 
   -- a line of one command
-  pub judges-parsed : {line : List ℕ} {session : ℕ} {command : Command} {mark : List ℕ} → IsParsed line session command mark → (reply : Reply)
+  pub judges-parsed : {line : List ℕ} {session : ℕ} {command : Command} {prefix : List ℕ} → IsParsed line session command prefix → (reply : Reply)
       → JudgesCommand g session command old reply → JudgesLine g (Whole line) old reply
   judges-parsed parsed reply judges told live command spelled asks records sees =
       let is = parsed.only.only command spelled in

@@ -7,8 +7,11 @@ use Rattle.plain_graph.specs.Lines.{broken_text, counts_text, one_line, sound_te
 use Rattle.plain_graph.specs.Reply.{DiskFailed, Faulted, NoMemory, Told, marked_text}
 use Rattle.plain_graph.specs.declared.command.Command.TheVariants as commands
 use Rattle.plain_graph.specs.declared.counts.Counts.{Counts}
+use Rattle.rec_bytes.specs.Fault.{of_space}
 use Rattle.rec_bytes.specs.declared.damage.Damage.{Damage}
 use Rattle.rec_bytes.specs.declared.space.Reads.{Ghosts as SpaceGhosts}
+use Rattle.rec_bytes.specs.declared.space.SpaceFault.{SpaceFault}
+use Rattle.rec_bytes.specs.declared.space.SpaceFault.TheVariants as faults
 use Rattle.store_check.specs.Verdicts.{IsLeastBroken}
 use Rattle.store_check.specs.declared.verdict.Verdict.TheVariants as verdicts
 use Rattle.store_rules.specs.Graph.{graph_of}
@@ -16,8 +19,10 @@ use Rattle.store_rules.specs.Indexes.{IsIndexed}
 use Rattle.store_rules.specs.Rules.{IsWellFormed}
 use Rattle.traversal_run.specs.Reading.{IsRead}
 use Rattle.graph_session.specs.Answer.{Gives}
+use Rattle.graph_session.specs.Answering.{reply_of}
 use Rattle.graph_session.specs.Questions.{GivesReading}
 use Rattle.graph_session.specs.State.{IsSpared}
+use Rattle.graph_session.specs.declared.answer.Answer.TheVariants as answers
 use Rattle.graph_session.specs.declared.turn.Turn.{Turn}
 use Rattle.graph_session.proofs.Conditions.{idle_reasons}
 
@@ -26,11 +31,11 @@ check-spared (inl spared) = spared
 check-spared (inr (inl e)) = cc
 check-spared (inr (inr e)) = cc
 
-module _ {R K : Type 0} {space : SpaceGhosts R} {sink : SinkGhosts K} (names : List (List ℕ)) {a b : R} (read : IsRead space a b) {mark : List ℕ}
+module _ {R K : Type 0} {space : SpaceGhosts R} {sink : SinkGhosts K} (names : List (List ℕ)) {a b : R} (read : IsRead space a b) {prefix : List ℕ}
     {before after : K} {turn : Turn} where
   -- the records keep the rules
   pub gives-sound : (space.tells → IsIndexed (space.state a).records (space.state a).shape)
-      → Gives sink (marked_text mark (Told [] sound_text)) before after turn → GivesReading space sink names commands.Check mark a b before after turn
+      → Gives sink (marked_text prefix (Told [] sound_text)) before after turn → GivesReading space sink names commands.Check prefix a b before after turn
   gives-sound keeps gives = record {
     reply = Told [] sound_text;
     form = (one_line sound_text, inl refl, refl, refl);
@@ -45,8 +50,8 @@ module _ {R K : Type 0} {space : SpaceGhosts R} {sink : SinkGhosts K} (names : L
   -- a rule is broken, so it is no store that stands for a graph
   pub gives-broken : (damage : Damage) → (space.tells → IsLeastBroken (space.state a).records (space.state a).shape 1 damage)
       → (space.tells → IsIndexed (space.state a).records (space.state a).shape → verdicts.Broken damage ≡ verdicts.Sound)
-      → Gives sink (marked_text mark (Told [] (broken_text damage.file damage.id damage.rule))) before after turn
-      → GivesReading space sink names commands.Check mark a b before after turn
+      → Gives sink (marked_text prefix (Told [] (broken_text damage.file damage.id damage.rule))) before after turn
+      → GivesReading space sink names commands.Check prefix a b before after turn
   gives-broken damage least breaks gives = record {
     reply = Told [] (broken_text damage.file damage.id damage.rule);
     form = (one_line (broken_text damage.file damage.id damage.rule), inr (damage.file, damage.id, damage.rule, refl), refl, refl);
@@ -58,9 +63,8 @@ module _ {R K : Type 0} {space : SpaceGhosts R} {sink : SinkGhosts K} (names : L
     idle = λ spared. absurd (check-spared spared);
   }
 
-  -- no verdict was found
-  pub gives-memory : Gives sink (marked_text mark (Faulted [] NoMemory)) before after turn
-      → GivesReading space sink names commands.Check mark a b before after turn
+  gives-memory : Gives sink (marked_text prefix (Faulted [] NoMemory)) before after turn
+      → GivesReading space sink names commands.Check prefix a b before after turn
   gives-memory gives = record {
     reply = Faulted [] NoMemory;
     form = (check-spared, one_line sound_text, inl refl, tt, ([], refl));
@@ -72,8 +76,8 @@ module _ {R K : Type 0} {space : SpaceGhosts R} {sink : SinkGhosts K} (names : L
     idle = λ spared. absurd (check-spared spared);
   }
 
-  pub gives-disk : Rose (space.faults a) (space.faults b) → Gives sink (marked_text mark (Faulted [] DiskFailed)) before after turn
-      → GivesReading space sink names commands.Check mark a b before after turn
+  gives-disk : Rose (space.faults a) (space.faults b) → Gives sink (marked_text prefix (Faulted [] DiskFailed)) before after turn
+      → GivesReading space sink names commands.Check prefix a b before after turn
   gives-disk rose gives = record {
     reply = Faulted [] DiskFailed;
     form = (check-spared, one_line sound_text, inl refl, tt, ([], refl));
@@ -85,11 +89,19 @@ module _ {R K : Type 0} {space : SpaceGhosts R} {sink : SinkGhosts K} (names : L
     idle = λ spared. absurd (check-spared spared);
   }
 
+  -- no verdict was found
+  pub gives-fault : (fault : SpaceFault) → (fault ≡ faults.Disk → Rose (space.faults a) (space.faults b))
+      → Gives sink (marked_text prefix (reply_of (answers.Fault (of_space fault)))) before after turn
+      → GivesReading space sink names commands.Check prefix a b before after turn
+  gives-fault faults.Memory rose gives = gives-memory gives
+  gives-fault faults.Disk rose gives = gives-disk (rose refl) gives
+
 -- what is counted, of which no record is read
 pub gives-counts : {R K : Type 0} {space : SpaceGhosts R} {sink : SinkGhosts K} (names : List (List ℕ)) {a : R} → IsRead space a a
-    → {mark : List ℕ} {before after : K} {turn : Turn} → (counts : Counts)
+    → {prefix : List ℕ} {before after : K} {turn : Turn} → (counts : Counts)
     → (IsWellFormed (space.state a).records (space.state a).shape → counts ≡ counts_of (graph_of (space.state a).records))
-    → Gives sink (marked_text mark (Told [] (counts_text counts))) before after turn → GivesReading space sink names commands.Stats mark a a before after turn
+    → Gives sink (marked_text prefix (Told [] (counts_text counts))) before after turn
+    → GivesReading space sink names commands.Stats prefix a a before after turn
 gives-counts names read counts are gives = record {
   reply = Told [] (counts_text counts);
   form = (one_line (counts_text counts), (counts, refl), refl, refl);

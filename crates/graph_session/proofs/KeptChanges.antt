@@ -21,6 +21,7 @@ use Rattle.snap_store.specs.Snaps.{Snapshots}
 use Rattle.txn_core.specs.Base.{SameBeneath}
 use Rattle.txn_core.specs.Store.{committed, drafted, state_of, working}
 use Rattle.txn_core.proofs.StoreRecords.{working-none}
+use Rattle.rec_bytes.specs.declared.fault.Fault.TheVariants as faults
 use Rattle.graph_session.specs.Answering.{reply_of}
 use Rattle.graph_session.specs.Drafting.{BeginsChange, Drafts, EndsChange, EndsCommit, Finishes, FinishesAlone}
 use Rattle.graph_session.specs.Drafting.{HasOnlyChanged, HasStore, IsStopped, IsUnkeptAlone, OnlyDrafts, TriesCommit}
@@ -91,9 +92,9 @@ stopped-unconfirmed command base now (answers.NodeMade id) stopped = absurd stop
 stopped-unconfirmed command base now (answers.EdgeMade id) stopped = absurd stopped
 stopped-unconfirmed command base now (answers.Results results) stopped = absurd stopped
 stopped-unconfirmed command base now (answers.Refused why) stopped = λ confirms. confirms
-stopped-unconfirmed command base now answers.NoMemory stopped = λ confirms. confirms
-stopped-unconfirmed command base now answers.DiskFailed stopped = λ confirms. confirms
-stopped-unconfirmed command base now (answers.Damaged damage) stopped = λ confirms. confirms
+stopped-unconfirmed command base now (answers.Fault faults.Memory) stopped = λ confirms. confirms
+stopped-unconfirmed command base now (answers.Fault faults.Disk) stopped = λ confirms. confirms
+stopped-unconfirmed command base now (answers.Fault (faults.Damaged damage)) stopped = λ confirms. confirms
 
 pub unkept-unconfirmed : (weight : ℕ) (answer : Answer) → IsUnkeptAlone weight answer → ¬ Confirms (reply_of answer)
 unkept-unconfirmed weight answer (inl (is, heavy)) = subst (λ (a : Answer). ¬ Confirms (reply_of a)) (sym is) (λ confirms. confirms)

@@ -138,8 +138,8 @@ module _ {D : Type 0} {g : DiskGhosts D} {old new : SessionView D} {state : Stat
     {line : List ℕ} {command : Command} (only : SpellsOnly line command) (asks : IsQuestion command)
     (stays : Stays g old new) where
   -- the reply that was given to a line that reads
-  pub settles-asked : {R K : Type 0} {space : SpaceGhosts R} {sink : SinkGhosts K} {mark : List ℕ} {a b : R} {before after : K} {turn : Turn}
-      (given : GivesReading space sink old.console.names command mark a b before after turn) → (g.tells_reads → space.tells)
+  pub settles-asked : {R K : Type 0} {space : SpaceGhosts R} {sink : SinkGhosts K} {prefix : List ℕ} {a b : R} {before after : K} {turn : Turn}
+      (given : GivesReading space sink old.console.names command prefix a b before after turn) → (g.tells_reads → space.tells)
       → (space.state a).records ≡ old.console.working → (space.state a).shape ≡ old.console.shape
       → (Rose (space.faults a) (space.faults b) → Rose (g.faults old.disk) (g.faults new.disk)) → (b ≡ a → new ≡ old)
       → Settles g (Whole line) old new state given.reply

@@ -20,7 +20,7 @@ use Rattle.store_rules.proofs.Breaches.{none_at_all}
 use Rattle.traversal_run.specs.Reading.{IsNamedStore, IsRead}
 use Rattle.graph_session.specs.Answer.{Gives}
 use Rattle.graph_session.specs.Answering.{reply_of}
-use Rattle.graph_session.specs.Drafting.{answer_for_read}
+use Rattle.graph_session.specs.declared.answer.Answer.TheVariants as answers
 use Rattle.graph_session.specs.MayStep.{IsRefusable, LacksAsked}
 use Rattle.graph_session.specs.Questions.{GivesReading}
 use Rattle.graph_session.specs.State.{IsSpared}
@@ -41,12 +41,12 @@ abbrev pub OfStore : {R : Type 0} → SpaceGhosts R → List (List ℕ) → R �
 OfStore space names at P = space.tells → IsNamedStore (space.state at).records (space.state at).shape names → P (graph_of (space.state at).records)
 
 module _ {R K : Type 0} {space : SpaceGhosts R} {sink : SinkGhosts K} {names : List (List ℕ)} {command : Command} (asks : Asks command) {a b : R}
-    (read : IsRead space a b) {mark : List ℕ} {before after : K} {turn : Turn} where
+    (read : IsRead space a b) {prefix : List ℕ} {before after : K} {turn : Turn} where
   -- the reading was told
   pub asks-told : (reading : Reading) → IsFormed command reading → reading.is_past ≡ false
       → OfStore space names a (λ graph. HasElements graph (asked_of command)) → OfStore space names a (λ graph. HasAsked graph command)
       → OfStore space names a (λ graph. Shows graph command reading)
-      → Gives sink (marked_text mark (Told reading.lines reading.last)) before after turn → GivesReading space sink names command mark a b before after turn
+      → Gives sink (marked_text prefix (Told reading.lines reading.last)) before after turn → GivesReading space sink names command prefix a b before after turn
   asks-told reading formed none has there shows gives = record {
     reply = Told reading.lines reading.last;
     form = (reading, formed, refl, refl);
@@ -64,7 +64,7 @@ module _ {R K : Type 0} {space : SpaceGhosts R} {sink : SinkGhosts K} {names : L
   -- it was refused
   pub asks-refused : (why : Refusal) → IsRefusable command → LacksAsked command why
       → OfStore space names a (λ graph. (limit : ℕ) → FirstReason change_reasons limit graph command why)
-      → Gives sink (marked_text mark (Refused why)) before after turn → GivesReading space sink names command mark a b before after turn
+      → Gives sink (marked_text prefix (Refused why)) before after turn → GivesReading space sink names command prefix a b before after turn
   asks-refused why refusable lacks first gives = record {
     reply = Refused why;
     form = (refusable, lacks);
@@ -77,7 +77,7 @@ module _ {R K : Type 0} {space : SpaceGhosts R} {sink : SinkGhosts K} {names : L
   }
 
   -- there was no memory
-  pub asks-memory : Gives sink (marked_text mark (Faulted [] NoMemory)) before after turn → GivesReading space sink names command mark a b before after turn
+  pub asks-memory : Gives sink (marked_text prefix (Faulted [] NoMemory)) before after turn → GivesReading space sink names command prefix a b before after turn
   asks-memory gives = record {
     reply = Faulted [] NoMemory;
     form = (asks.unspared, asks.reading, asks.formed, tt, (asks.reading.lines, refl));
@@ -90,8 +90,8 @@ module _ {R K : Type 0} {space : SpaceGhosts R} {sink : SinkGhosts K} {names : L
   }
 
   -- the disk failed
-  pub asks-disk : Rose (space.faults a) (space.faults b) → Gives sink (marked_text mark (Faulted [] DiskFailed)) before after turn
-      → GivesReading space sink names command mark a b before after turn
+  pub asks-disk : Rose (space.faults a) (space.faults b) → Gives sink (marked_text prefix (Faulted [] DiskFailed)) before after turn
+      → GivesReading space sink names command prefix a b before after turn
   asks-disk rose gives = record {
     reply = Faulted [] DiskFailed;
     form = (asks.unspared, asks.reading, asks.formed, tt, (asks.reading.lines, refl));
@@ -105,8 +105,8 @@ module _ {R K : Type 0} {space : SpaceGhosts R} {sink : SinkGhosts K} {names : L
 
   -- a record breaks a rule, so it is no store
   pub asks-damaged : (damage : Damage) → (space.tells → BreaksAny (space.state a).records (space.state a).shape damage)
-      → Gives sink (marked_text mark (Faulted [] (DamagedRecord damage.file damage.id))) before after turn
-      → GivesReading space sink names command mark a b before after turn
+      → Gives sink (marked_text prefix (Faulted [] (DamagedRecord damage.file damage.id))) before after turn
+      → GivesReading space sink names command prefix a b before after turn
   asks-damaged damage broken gives = record {
     reply = Faulted [] (DamagedRecord damage.file damage.id);
     form = (asks.unspared, asks.reading, asks.formed, asks.unchecked, (asks.reading.lines, refl));
@@ -122,7 +122,8 @@ module _ {R K : Type 0} {space : SpaceGhosts R} {sink : SinkGhosts K} {names : L
   -- records were not read to their end
   pub asks-unread : (fault : Fault) → (fault ≡ faults.Disk → Rose (space.faults a) (space.faults b))
       → (space.tells → BlamesBroken (space.state a).records (space.state a).shape fault)
-      → Gives sink (marked_text mark (reply_of (answer_for_read fault))) before after turn → GivesReading space sink names command mark a b before after turn
+      → Gives sink (marked_text prefix (reply_of (answers.Fault fault))) before after turn
+      → GivesReading space sink names command prefix a b before after turn
   asks-unread faults.Memory rose blames gives = asks-memory gives
   asks-unread faults.Disk rose blames gives = asks-disk (rose refl) gives
   asks-unread (faults.Damaged damage) rose blames gives = asks-damaged damage blames gives

@@ -83,11 +83,11 @@ question-served view {reader = reader} seven asks records seen live why (inr (re
 question-served view {reader = reader} seven asks records seen live why (inr (reads, inr (alive, inr (inr (other, keeps, ended, told))))) =
     let clash : states.Open ≡ states.Ended = sym (opened-state view.held reader (seen-through view reader seven records seen).0) ∙ ended in cc
 
-module _ {D K : Type 0} {g : DiskGhosts D} {sink : SinkGhosts K} {reader : ℕ} (seven : IsReader reader) {line : List ℕ} {command : Command} {mark : List ℕ}
-    (parsed : IsParsed line reader command mark) (loud : IsLoud command)
+module _ {D K : Type 0} {g : DiskGhosts D} {sink : SinkGhosts K} {reader : ℕ} (seven : IsReader reader) {line : List ℕ} {command : Command} {prefix : List ℕ}
+    (parsed : IsParsed line reader command prefix) (loud : IsLoud command)
     {old new : Terminal D K} {turn : Turn} where
   -- its reply was given to the sink
-  answers-reader : (reply : Reply) → Gives sink (marked_text mark reply) old.output new.output turn → OnlyReads g old.session.disk new.session.disk
+  answers-reader : (reply : Reply) → Gives sink (marked_text prefix reply) old.output new.output turn → OnlyReads g old.session.disk new.session.disk
       → Onward g old.session new.session
       → (HasNoDraft old.session → MayStepReader g reader (shared_in old) reply (shared_in new) (Whole line))
       → JudgesCommand g reader command (shared_in old) reply
@@ -96,7 +96,7 @@ module _ {D K : Type 0} {g : DiskGhosts D} {sink : SinkGhosts K} {reader : ℕ} 
       → AnswersLine g sink (Whole line) old new turn
   answers-reader reply gives reads onward may judges settles = record {
     reply = reply;
-    text = λ told. subst (λ (m : List ℕ). Delivers turn (sink.taken old.output) (sink.taken new.output) (marked_text m reply)) (sym parsed.mark_is)
+    text = λ told. subst (λ (m : List ℕ). Delivers turn (sink.taken old.output) (sink.taken new.output) (marked_text m reply)) (sym parsed.prefix_is)
         (gives.delivers told);
     quit = (λ e. absurd (gives.goes e), λ h. absurd (quit-only parsed.only (λ is. subst IsLoud is loud tt) h));
     may = λ none. may-reader reader seven parsed.session_is (may none);
@@ -113,11 +113,11 @@ module _ {D K : Type 0} where
   terminal view output = record { session = view.session; held = view.held; output = output }
 
   module _ (g : DiskGhosts D) (only_now : OnlyNow g) (sink : SinkGhosts K) {reader : ℕ} (seven : IsReader reader) {line : List ℕ} {command : Command}
-      {mark : List ℕ} (parsed : IsParsed line reader command mark) (loud : IsLoud command)
+      {prefix : List ℕ} (parsed : IsParsed line reader command prefix) (loud : IsLoud command)
       {before after : K} {turn : Turn} where
     -- a line that is refused before a snapshot is looked at
     pub answers-refuses : (view : SharedView D) (why : Refusal) → RefusesReader reader view command why
-        → Gives sink (marked_text mark (Refused why)) before after turn → AnswersLine g sink (Whole line) (terminal view before) (terminal view after) turn
+        → Gives sink (marked_text prefix (Refused why)) before after turn → AnswersLine g sink (Whole line) (terminal view before) (terminal view after) turn
     answers-refuses view why refuses gives =
         answers-reader seven parsed loud {old = terminal view before} {new = terminal view after} (Refused why) gives
         (only_reads_none g view.session.disk only_now) (onward-none only_now)
@@ -126,7 +126,8 @@ module _ {D K : Type 0} where
         (λ known state at. settles-refuses (as_known known g) only_now reader parsed.only at loud why refuses)
 
     -- a line that makes no call of the disk
-    module _ (old new : SharedView D) (served : ServesReader reader old command) (reply : Reply) (gives : Gives sink (marked_text mark reply) before after turn)
+    module _ (old new : SharedView D) (served : ServesReader reader old command) (reply : Reply)
+        (gives : Gives sink (marked_text prefix reply) before after turn)
       where
         uncalled : new.session ≡ old.session → ¬ IsQuestion command → MayStepReader g reader old reply new (Whole line)
             → ((known : Bool) (state : SharedState) → IsSharedAt (as_known known g) old state → SettlesShared (ReaderStep reader) (as_known known g)
@@ -162,7 +163,7 @@ module _ {D K : Type 0} where
         → new.held ≡ old.held → OnlyReads g old.session.disk new.session.disk
         → (HasNoDraft old.session → Stays g old.session new.session) → (IsSpared command → new ≡ old)
         → GivesSight g.tells_reads sink (sees old.held.open_ones reader old.session.console.committed) old.session.console.shape old.session.console.names
-        command mark (counts (g.faults old.session.disk) (g.faults new.session.disk)) before after turn
+        command prefix (counts (g.faults old.session.disk) (g.faults new.session.disk)) before after turn
         → AnswersLine g sink (Whole line) (terminal old before) (terminal new after) turn
     answers-sight old new served asks opened same reads stays idle given =
         answers-reader seven parsed loud {old = terminal old before} {new = terminal new after} given.reply given.gives reads

@@ -29,6 +29,7 @@ use Rattle.txn_core.specs.Store.{content, drafted}
 use Rattle.txn_core.specs.declared.again_fault.AgainFault.TheVariants as again_faults
 use Rattle.txn_core.specs.declared.store.Store.{Store}
 use Rattle.txn_core.proofs.StoreRecords.{committed-read, drafted-none, working-none}
+use Rattle.rec_bytes.specs.declared.fault.Fault.TheVariants as faults
 use Rattle.graph_session.specs.Answering.{reply_of}
 use Rattle.graph_session.specs.Console.{BeginWith, IsAt}
 use Rattle.graph_session.specs.Effects.{Ends, IsFound, IsLost, LeavesSame, ReadsClean}
@@ -178,8 +179,8 @@ module _ {D : Type 0} {g : Ghosts D} where
       named_again healthier weigher named (answers.EdgeMade id) takes = absurd takes
       named_again healthier weigher named (answers.Results results) takes = absurd takes
       named_again healthier weigher named (answers.Refused why) takes = absurd takes
-      named_again healthier weigher named answers.NoMemory takes = absurd takes
-      named_again healthier weigher named answers.DiskFailed takes = record {
+      named_again healthier weigher named (answers.Fault faults.Memory) takes = absurd takes
+      named_again healthier weigher named (answers.Fault faults.Disk) takes = record {
         settles = λ known line state only served at. settles-reopen_fault {g = as_known known g} counts at was_closed only (leaves_all_known known)
             (lost-known known (lost healthier weigher named takes.0)) (Rose-from (g.faults s.base.disk.now) (g.faults t.base.disk.now)
             (g.faults u.base.disk.now) later_on takes.1);
@@ -198,7 +199,7 @@ module _ {D : Type 0} {g : Ghosts D} where
             );
         onward = record { disk_later = far };
       }
-      named_again healthier weigher named (answers.Damaged damage) takes = record {
+      named_again healthier weigher named (answers.Fault (faults.Damaged damage)) takes = record {
         settles = λ known line state only served at.
             settles-reopen_damaged {g = as_known known g} counts at was_closed only damage.file damage.id (leaves_all_known known)
             (lost-known known (lost healthier weigher named takes.0))

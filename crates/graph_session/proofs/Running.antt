@@ -26,11 +26,13 @@ use Rattle.traversal_run.specs.Row.{Stream, stream, with_first}
 use Rattle.traversal_run.specs.Run.{meant, stopped_by, to_come}
 use Rattle.traversal_run.specs.declared.run.Run.{Run}
 use Rattle.graph_session.specs.Answer.{Gives}
+use Rattle.graph_session.specs.Answering.{stop_of}
 use Rattle.graph_session.specs.Exchange.{ShowsPast, ShowsSome, told_in}
-use Rattle.graph_session.specs.LineBuffer.{AddsLine, MarkedLines, no_lines, stop_of}
 use Rattle.graph_session.specs.Questions.{GivesReading, MeansFault}
 use Rattle.graph_session.specs.QueryResults.{AddsNone, AddsShown}
+use Rattle.graph_session.specs.ReplyLines.{AddsLine, BeginsLines}
 use Rattle.graph_session.specs.Verdicts.{TellsBroken}
+use Rattle.graph_session.specs.declared.reply_lines.ReplyLines.{ReplyLines}
 use Rattle.graph_session.specs.declared.turn.Turn.{Turn}
 use Rattle.graph_session.specs.declared.turn.Turn.TheVariants.{Go}
 use Rattle.graph_session.proofs.ListedLines.{HasLines, lines-add, lines-last, lines-none, lines-stop}
@@ -78,8 +80,8 @@ first-first : (found : List Item) (item : Item) (coming : Stream) → with_first
 first-first found item coming = λ i. record { items = sym (append_assoc found (item ∷ []) coming.items) i; past = coming.past }
 
 -- Some results of a query were found, and the run has the others. Each that was found has a line.
-pub record IsRunning {R K : Type 0} (space : SpaceGhosts R) (sink : SinkGhosts K) (names : List (List ℕ)) (query : Query) (mark : List ℕ) (old now : R)
-    (before after : K) (held : MarkedLines) (run : Run) : Type 0 where
+pub record IsRunning {R K : Type 0} (space : SpaceGhosts R) (sink : SinkGhosts K) (names : List (List ℕ)) (query : Query) (old now : R)
+    (was held : ReplyLines K) (run : Run) : Type 0 where
   pub found : List Item
   pub lines : List (List ℕ)
   pub formed : AreResults query.maps lines
@@ -88,15 +90,15 @@ pub record IsRunning {R K : Type 0} (space : SpaceGhosts R) (sink : SinkGhosts K
   pub coming : OfStore space names old (λ graph. meant graph query ≡ with_first found (to_come graph run))
   pub goes : stopped_by run ≡ None
   pub read : IsRead space old now
-  pub has : HasLines sink mark before after held lines
+  pub has : HasLines sink was held lines
 
 -- nothing was found yet
-pub running-first : {R K : Type 0} {space : SpaceGhosts R} {sink : SinkGhosts K} (names : List (List ℕ)) (query : Query) (mark : List ℕ) {old now : R}
-    → IsRead space old now → (k : K) (run : Run)
+pub running-first : {R K : Type 0} {space : SpaceGhosts R} {sink : SinkGhosts K} (names : List (List ℕ)) (query : Query) {old now : R}
+    → IsRead space old now → {was held : ReplyLines K} → BeginsLines was held → (run : Run)
     → OfStore space names old (λ graph. to_come graph run ≡ meant graph query) → OfStore space names old (λ graph. HasAsked graph (commands.Query query))
     → stopped_by run ≡ None
-    → IsRunning space sink names query mark old now k k (no_lines mark) run
-running-first names query mark read k run begins there goes = record {
+    → IsRunning space sink names query old now was held run
+running-first names query read empty run begins there goes = record {
   found = [];
   lines = [];
   formed = results-none query.maps;
@@ -105,12 +107,12 @@ running-first names query mark read k run begins there goes = record {
   coming = λ told store. sym (begins told store);
   goes = goes;
   read = read;
-  has = lines-none mark k;
+  has = lines-none empty;
 }
 
-module _ {R K : Type 0} {space : SpaceGhosts R} {sink : SinkGhosts K} {names : List (List ℕ)} {query : Query} {mark : List ℕ}
-    (further : (a b c : R) → space.onward a b → space.onward b c → space.onward a c) {old now : R} {before after : K}
-    {held : MarkedLines} {run : Run} (running : IsRunning space sink names query mark old now before after held run) where
+module _ {R K : Type 0} {space : SpaceGhosts R} {sink : SinkGhosts K} {names : List (List ℕ)} {query : Query}
+    (further : (a b c : R) → space.onward a b → space.onward b c → space.onward a c) {old now : R} {was held : ReplyLines K}
+    {run : Run} (running : IsRunning space sink names query old now was held run) where
   abbrev graph : Graph
   graph = graph_of (space.state old).records
 
@@ -145,8 +147,8 @@ module _ {R K : Type 0} {space : SpaceGhosts R} {sink : SinkGhosts K} {names : L
 
     -- all results were found
     pub running-end : OfStore space names now (λ graph. to_come graph run ≡ stream []) → (then : K) (turn : Turn)
-        → Gives sink (held.bytes ++ (held.mark ++ text_line end_text)) after then turn
-        → GivesReading space sink names (commands.Query query) mark old next before then turn
+        → Gives sink (held.buffer.now.bytes ++ (held.prefix.now ++ text_line end_text)) held.output.now then turn
+        → GivesReading space sink names (commands.Query query) was.prefix.now old next was.output.now then turn
     running-end ends then turn gives = record {
       reply = Told running.lines end_text;
       form = query-tell query running.lines running.formed;
@@ -165,8 +167,8 @@ module _ {R K : Type 0} {space : SpaceGhosts R} {sink : SinkGhosts K} {names : L
     pub running-fault : (fault : Fault) → OfStore space names old (λ graph. MeansFault graph (commands.Query query) running.lines fault)
         → (told_in fault ≢ 0 → Rose (space.faults now) (space.faults next))
         → (space.tells → TellsBroken (space.state old).records (space.state old).shape (Faulted running.lines fault)) → (then : K) (turn : Turn)
-        → Gives sink (held.bytes ++ (held.mark ++ fault_line fault)) after then turn
-        → GivesReading space sink names (commands.Query query) mark old next before then turn
+        → Gives sink (held.buffer.now.bytes ++ (held.prefix.now ++ fault_line fault)) held.output.now then turn
+        → GivesReading space sink names (commands.Query query) was.prefix.now old next was.output.now then turn
     running-fault fault means rose broken then turn gives = record {
       reply = Faulted running.lines fault;
       form = query-stop query running.lines running.formed fault;
@@ -194,8 +196,8 @@ module _ {R K : Type 0} {space : SpaceGhosts R} {sink : SinkGhosts K} {names : L
   -- records were not read to their end
   pub running-stopped : {next : R} → IsRead space now next → (fault : StopFault) → (fault ≡ faults.Disk → Rose (space.faults now) (space.faults next))
       → (space.tells → BlamesBroken (space.state now).records (space.state now).shape fault)
-      → (then : K) (turn : Turn) → Gives sink (held.bytes ++ (held.mark ++ fault_line (stop_of fault))) after then turn
-      → GivesReading space sink names (commands.Query query) mark old next before then turn
+      → (then : K) (turn : Turn) → Gives sink (held.buffer.now.bytes ++ (held.prefix.now ++ fault_line (stop_of fault))) held.output.now then turn
+      → GivesReading space sink names (commands.Query query) was.prefix.now old next was.output.now then turn
   running-stopped reads faults.Memory rose blames then turn gives = running-fault reads NoMemory shows-some (λ told. absurd (told refl)) (λ told. tt) then turn
       gives
   running-stopped reads faults.Disk rose blames then turn gives = running-fault reads DiskFailed shows-some (λ told. rose refl) (λ told. tt) then turn gives
@@ -220,7 +222,7 @@ module _ {R K : Type 0} {space : SpaceGhosts R} {sink : SinkGhosts K} {names : L
     read-to : {next : R} → IsRead space mid next → IsRead space old next
     read-to {next = next} reads = is_read-on space further old mid next (is_read-on space further old now mid running.read comes-read) reads
 
-    module _ {new : MarkedLines} {then : K} {turn : Turn} (adds : AddsShown space sink names query.maps item mid held new after then turn) where
+    module _ {new : ReplyLines K} {turn : Turn} (adds : AddsShown space sink names query.maps item mid held new turn) where
       -- the lines with its own
       formed-more : AreResults query.maps (running.lines ++ adds.line ∷ [])
       formed-more = results-more query.maps running.lines running.formed item adds.line adds.form
@@ -236,7 +238,7 @@ module _ {R K : Type 0} {space : SpaceGhosts R} {sink : SinkGhosts K} {names : L
 
       -- a result was found, and its line gathered
       pub running-on : {next : R} → IsRead space mid next → turn ≡ Go → stopped_by later ≡ None
-          → IsRunning space sink names query mark old next before then new later
+          → IsRunning space sink names query old next was new later
       running-on reads is goes = record {
         found = running.found ++ item ∷ [];
         lines = running.lines ++ adds.line ∷ [];
@@ -246,11 +248,12 @@ module _ {R K : Type 0} {space : SpaceGhosts R} {sink : SinkGhosts K} {names : L
         coming = found_more;
         goes = goes;
         read = read-to reads;
-        has = lines-add running.has adds.line new then (subst (λ (t : Turn). AddsLine sink (text_line adds.line) held new after then t) is adds.adds);
+        has = lines-add running.has adds.line new (subst (λ (t : Turn). AddsLine sink (text_line adds.line) held new t) is adds.adds);
       }
 
       -- the sink failed
-      pub running-stop : {next : R} → IsRead space mid next → turn ≢ Go → GivesReading space sink names (commands.Query query) mark old next before then turn
+      pub running-stop : {next : R} → IsRead space mid next → turn ≢ Go
+          → GivesReading space sink names (commands.Query query) was.prefix.now old next was.output.now new.output.now turn
       running-stop reads stops =
           let lines = running.lines ++ adds.line ∷ [] in
           let found = running.found ++ item ∷ [] in
@@ -259,8 +262,8 @@ module _ {R K : Type 0} {space : SpaceGhosts R} {sink : SinkGhosts K} {names : L
           record {
             reply = whole_of past lines more;
             form = whole-form graph query lines found formed-more past;
-            gives = subst (λ (text : List ℕ). Gives sink text before then turn) (whole-text mark past lines more)
-                (lines-stop running.has adds.line new then turn adds.adds stops (rest_of mark past more));
+            gives = subst (λ (text : List ℕ). Gives sink text was.output.now new.output.now turn) (whole-text was.prefix.now past lines more)
+                (lines-stop running.has adds.line new turn adds.adds stops (rest_of was.prefix.now past more));
             means = λ told store. whole-means graph query lines found (running.there told store) (shown-more told store)
                 ((to_come graph later).items, sym (ap (λ (s : Stream). s.items) (found_more told store))) past refl;
             judges = λ told. record { verdict = λ is. cc; blames = whole-blames (space.state old).records (space.state old).shape past lines more };
@@ -270,13 +273,13 @@ module _ {R K : Type 0} {space : SpaceGhosts R} {sink : SinkGhosts K} {names : L
           }
 
     -- its line was not known
-    pub running-unshown : {new : MarkedLines} {between then : K} {next : R} (fault : StopFault) → IsRead space mid next
-        → AddsNone space mid next held new after between fault → (turn : Turn)
-        → Gives sink (new.bytes ++ (new.mark ++ fault_line (stop_of fault))) between then turn
-        → GivesReading space sink names (commands.Query query) mark old next before then turn
-    running-unshown {new = new} {between = between} {then = then} {next = next} fault reads none turn gives =
+    pub running-unshown : {new : ReplyLines K} {then : K} {next : R} (fault : StopFault) → IsRead space mid next
+        → AddsNone space mid next held new fault → (turn : Turn)
+        → Gives sink (new.buffer.now.bytes ++ (new.prefix.now ++ fault_line (stop_of fault))) new.output.now then turn
+        → GivesReading space sink names (commands.Query query) was.prefix.now old next was.output.now then turn
+    running-unshown {new = new} {then = then} {next = next} fault reads none turn gives =
         running-stopped (is_read-on space further now mid next comes-read reads) fault
         (λ is. Rose-from (space.faults now) (space.faults mid) (space.faults next) comes-read.later (none.disk is))
         (λ told. blamed-same (space.state now) (space.state mid) fault comes-read.same (none.blames told)) then turn
-        (subst (λ (k : K). Gives sink (held.bytes ++ (held.mark ++ fault_line (stop_of fault))) k then turn) none.output
-        (subst (λ (lines : MarkedLines). Gives sink (lines.bytes ++ (lines.mark ++ fault_line (stop_of fault))) between then turn) none.held gives))
+        (subst (λ (lines : ReplyLines K). Gives sink (lines.buffer.now.bytes ++ (lines.prefix.now ++ fault_line (stop_of fault))) lines.output.now then turn)
+        none.same gives)

@@ -127,3 +127,15 @@ module _ {K : Type 0} {sink : Ghosts K} {first old mid : List ℕ} {before after
     cause = adds.cause;
     later = adds.later;
   }
+
+module _ {K : Type 0} {sink : Ghosts K} {line old new : List ℕ} {before after : K} where
+  -- the sink failed at a line, after which all was to be given
+  pub adds-unended : (turn : Turn) → Adds sink line old new before after turn → turn ≢ Go → Gives sink (old ++ line) before after turn
+  adds-unended Go adds stops = absurd (stops refl)
+  adds-unended Quit adds stops = absurd (adds.runs refl)
+  adds-unended SinkFault adds stops = record { delivers = adds.gathers; goes = λ e. cc; cause = adds.cause; later = adds.later }
+
+-- what was given to a sink that was lent was given to it
+pub gives-back : {K : Type 0} {sink : Ghosts K} {text : List ℕ} {before : K} {turn : Turn} (now new : K) → new ≡ now → Gives sink text before now turn
+    → Gives sink text before new turn
+gives-back {sink = sink} {text = text} {before = before} {turn = turn} now new same gives = subst (λ k. Gives sink text before k turn) (sym same) gives

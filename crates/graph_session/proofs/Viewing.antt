@@ -22,7 +22,6 @@ use Rattle.traversal_run.specs.Reading.{IsRead}
 use Rattle.traversal_run.specs.Viewing.{view_of}
 use Rattle.graph_session.specs.Answer.{Gives}
 use Rattle.graph_session.specs.Answering.{reply_of}
-use Rattle.graph_session.specs.Drafting.{answer_for_read}
 use Rattle.graph_session.specs.MayStep.{TellsMissing}
 use Rattle.graph_session.specs.Questions.{GivesReading}
 use Rattle.graph_session.specs.Views.{IsViewAnswer, IsViewRefusal, MakesElement, no_element}
@@ -104,12 +103,6 @@ viewed-item graph target item element is = by (item_at graph target) is
 pub unviewed : (graph : Graph) (target : Target) → view_of graph target ≡ None → item_at graph target ≡ None
 unviewed graph target is = mapped-none (λ own. (own, element_map graph [] own)) (item_at graph target) is
 
--- records that were not read to their end
-pub read-refusal : (graph : Graph) (target : Target) (fault : Fault) → IsViewRefusal graph target (answer_for_read fault)
-read-refusal graph target faults.Memory = tt
-read-refusal graph target faults.Disk = tt
-read-refusal graph target (faults.Damaged damage) = tt
-
 -- ---- the line that asks for one
 
 view-some : (target : Target) → AsksSome (asked_of (commands.View target))
@@ -126,10 +119,10 @@ asks-view target =
     record { question = tt; some = view-some target; reading = one_line (making_text (items.Vertex 0) none); formed = (items.Vertex 0, none, refl) }
 
 module _ {R K : Type 0} {space : SpaceGhosts R} {sink : SinkGhosts K} {names : List (List ℕ)} (target : Target) {a b : R} (read : IsRead space a b)
-    {mark : List ℕ} {before after : K} {turn : Turn} where
+    {prefix : List ℕ} {before after : K} {turn : Turn} where
   -- the element was told
-  pub gives-viewed : (line : List ℕ) (made : MakesElement space names target a line) → Gives sink (mark ++ line) before after turn
-      → GivesReading space sink names (commands.View target) mark a b before after turn
+  pub gives-viewed : (line : List ℕ) (made : MakesElement space names target a line) → Gives sink (prefix ++ line) before after turn
+      → GivesReading space sink names (commands.View target) prefix a b before after turn
   gives-viewed line made gives =
       gives-told (asks-view target) read (one_line (making_text made.item made.element)) (made.item, made.element, refl) refl
       (λ told store. view-has (graph_of (space.state a).records) target made.item (viewed-item (graph_of (space.state a).records) target made.item made.element
@@ -137,11 +130,11 @@ module _ {R K : Type 0} {space : SpaceGhosts R} {sink : SinkGhosts K} {names : L
       (λ told store.
       let is = viewed-item (graph_of (space.state a).records) target made.item made.element (made.viewed told store) in
       (made.item, is.0, ap (λ (element : ElementMap). one_line (making_text made.item element)) is.1))
-      (subst (λ (text : List ℕ). Gives sink (mark ++ text) before after turn) made.is gives)
+      (subst (λ (text : List ℕ). Gives sink (prefix ++ text) before after turn) made.is gives)
 
   -- it wasn't
   pub gives-unviewed : (answer : Answer) → IsViewAnswer space target a b answer → OfStore space names a (λ graph. IsViewRefusal graph target answer)
-      → Gives sink (marked_text mark (reply_of answer)) before after turn → GivesReading space sink names (commands.View target) mark a b before after turn
+      → Gives sink (marked_text prefix (reply_of answer)) before after turn → GivesReading space sink names (commands.View target) prefix a b before after turn
   gives-unviewed answers.Done is refused gives = absurd is
   gives-unviewed (answers.NodeMade id) is refused gives = absurd is
   gives-unviewed (answers.EdgeMade id) is refused gives = absurd is
@@ -151,6 +144,7 @@ module _ {R K : Type 0} {space : SpaceGhosts R} {sink : SinkGhosts K} {names : L
       (λ told store.
       subst (LacksElement (graph_of (space.state a).records) (asked_of (commands.View target))) (sym is)
       (view-lacks (graph_of (space.state a).records) target (refused told store))) gives
-  gives-unviewed answers.NoMemory is refused gives = asks-memory (elements-asked (asks-view target)) read gives
-  gives-unviewed answers.DiskFailed is refused gives = asks-disk (elements-asked (asks-view target)) read is gives
-  gives-unviewed (answers.Damaged damage) is refused gives = asks-damaged (elements-asked (asks-view target)) read damage (λ told. inl (is told)) gives
+  gives-unviewed (answers.Fault faults.Memory) is refused gives = asks-memory (elements-asked (asks-view target)) read gives
+  gives-unviewed (answers.Fault faults.Disk) is refused gives = asks-disk (elements-asked (asks-view target)) read is gives
+  gives-unviewed (answers.Fault (faults.Damaged damage)) is refused gives =
+      asks-damaged (elements-asked (asks-view target)) read damage (λ told. inl (is told)) gives

@@ -9,7 +9,8 @@ use Rattle.plain_graph.specs.Reply.{Told, end_text, item_line, marked_text, text
 use Rattle.plain_graph.specs.declared.item.Item.TheVariants as items
 use Rattle.graph_session.specs.Answer.{Gives}
 use Rattle.graph_session.specs.Exchange.{AreFirst}
-use Rattle.graph_session.specs.LineBuffer.{AddsLine, MarkedLines}
+use Rattle.graph_session.specs.ReplyLines.{AddsLine}
+use Rattle.graph_session.specs.declared.reply_lines.ReplyLines.{ReplyLines}
 use Rattle.graph_session.specs.declared.turn.Turn.{Turn}
 use Rattle.graph_session.specs.declared.turn.Turn.TheVariants.{Go}
 use Rattle.graph_session.proofs.ListedLines.{HasLines, lines-add, lines-last, lines-stop_in}
@@ -37,29 +38,28 @@ module _ {A : Type 0} (line_of : A → List ℕ) (front : List (List ℕ)) (xs :
         ∙ ap (λ (lines : List (List ℕ)). front ++ lines) (sym (map-append line_of (take n xs) (drop n xs)) ∙ ap (map line_of) (take-append-drop n xs)),
   )
 
-  module _ {K : Type 0} {sink : Ghosts K} {mark : List ℕ} {before after : K} {held : MarkedLines} {n : ℕ}
-      (has : HasLines sink mark before after held (lines_to n)) where
-    module _ (d : A) (lt : n < length xs) (new : MarkedLines) (then : K) where
+  module _ {K : Type 0} {sink : Ghosts K} {old now : ReplyLines K} {n : ℕ} (has : HasLines sink old now (lines_to n)) where
+    module _ (d : A) (lt : n < length xs) (new : ReplyLines K) where
       -- the line of one more
-      pub listing-more : AddsLine sink (text_line (line_of (get_or xs n d))) held new after then Go → HasLines sink mark before then new (lines_to (n + 1))
+      pub listing-more : AddsLine sink (text_line (line_of (get_or xs n d))) now new Go → HasLines sink old new (lines_to (n + 1))
       listing-more adds =
-          subst (λ (lines : List (List ℕ)). HasLines sink mark before then new lines) (sym (lines_to-more n d lt))
-          (lines-add has (line_of (get_or xs n d)) new then adds)
+          subst (λ (lines : List (List ℕ)). HasLines sink old new lines) (sym (lines_to-more n d lt))
+          (lines-add has (line_of (get_or xs n d)) new adds)
 
       -- the sink failed
-      pub listing-stop : (last : List ℕ) (turn : Turn) → AddsLine sink (text_line (line_of (get_or xs n d))) held new after then turn → turn ≢ Go
-          → Gives sink (marked_text mark (Told (front ++ map line_of xs) last)) before then turn
+      pub listing-stop : (last : List ℕ) (turn : Turn) → AddsLine sink (text_line (line_of (get_or xs n d))) now new turn → turn ≢ Go
+          → Gives sink (marked_text old.prefix.now (Told (front ++ map line_of xs) last)) old.output.now new.output.now turn
       listing-stop last turn adds stops =
           lines-stop_in has (front ++ map line_of xs) last (line_of (get_or xs n d))
-          (subst (λ (lines : List (List ℕ)). AreFirst lines (front ++ map line_of xs)) (lines_to-more n d lt) (lines_to-first (n + 1))) new then turn adds stops
+          (subst (λ (lines : List (List ℕ)). AreFirst lines (front ++ map line_of xs)) (lines_to-more n d lt) (lines_to-first (n + 1))) new turn adds stops
 
     -- all have lines
     pub listing-end : n ≤ length xs → length xs ≤ n → (last : List ℕ) (then : K) (turn : Turn)
-        → Gives sink (held.bytes ++ (held.mark ++ text_line last)) after then turn
-        → Gives sink (marked_text mark (Told (front ++ map line_of xs) last)) before then turn
+        → Gives sink (now.buffer.now.bytes ++ (now.prefix.now ++ text_line last)) now.output.now then turn
+        → Gives sink (marked_text old.prefix.now (Told (front ++ map line_of xs) last)) old.output.now then turn
     listing-end low high last then turn gives =
         let same : n ≡ length xs = omega (arith, low, high) in
-        subst (λ (lines : List (List ℕ)). Gives sink (marked_text mark (Told lines last)) before then turn)
+        subst (λ (lines : List (List ℕ)). Gives sink (marked_text old.prefix.now (Told lines last)) old.output.now then turn)
         (ap lines_to same ∙ ap (λ (all : List A). front ++ map line_of all) (take-length xs))
         (lines-last has (text_line last) then turn gives)
 
@@ -78,18 +78,18 @@ walk-listed : (walk : List ℕ) → 0 < length walk → listed (edge_count_lines
 walk-listed [] some = absurd (omega (arith, some))
 walk-listed (first ∷ later) some = ap (λ (edges : ℕ). listed (path_text edges ∷ map node_line (first ∷ later))) (omega arith)
 
-pub gives-walk : {K : Type 0} {sink : Ghosts K} {before after : K} {turn : Turn} (mark walk : List ℕ) → 0 < length walk
-    → Gives sink (marked_text mark (Told (edge_count_lines walk ++ map node_line walk) end_text)) before after turn
-    → Gives sink (marked_text mark (Told (walk_reading walk).lines (walk_reading walk).last)) before after turn
-gives-walk {sink = sink} {before = before} {after = after} {turn = turn} mark walk some gives =
-    subst (λ (reading : Reading). Gives sink (marked_text mark (Told reading.lines reading.last)) before after turn) (walk-listed walk some) gives
+pub gives-walk : {K : Type 0} {sink : Ghosts K} {before after : K} {turn : Turn} (prefix walk : List ℕ) → 0 < length walk
+    → Gives sink (marked_text prefix (Told (edge_count_lines walk ++ map node_line walk) end_text)) before after turn
+    → Gives sink (marked_text prefix (Told (walk_reading walk).lines (walk_reading walk).last)) before after turn
+gives-walk {sink = sink} {before = before} {after = after} {turn = turn} prefix walk some gives =
+    subst (λ (reading : Reading). Gives sink (marked_text prefix (Told reading.lines reading.last)) before after turn) (walk-listed walk some) gives
 
 -- and one without any, so
-pub gives-no_walk : {K : Type 0} {sink : Ghosts K} {before after : K} {turn : Turn} (mark walk : List ℕ) → length walk ≡ 0
-    → Gives sink (mark ++ text_line no_path_text) before after turn
-    → Gives sink (marked_text mark (Told (walk_reading walk).lines (walk_reading walk).last)) before after turn
-gives-no_walk mark [] none gives = gives
-gives-no_walk mark (first ∷ later) none gives = absurd (omega (arith, none))
+pub gives-no_walk : {K : Type 0} {sink : Ghosts K} {before after : K} {turn : Turn} (prefix walk : List ℕ) → length walk ≡ 0
+    → Gives sink (prefix ++ text_line no_path_text) before after turn
+    → Gives sink (marked_text prefix (Told (walk_reading walk).lines (walk_reading walk).last)) before after turn
+gives-no_walk prefix [] none gives = gives
+gives-no_walk prefix (first ∷ later) none gives = absurd (omega (arith, none))
 
 -- no count passes in one
 pub walk-counted : (walk : List ℕ) → (walk_reading walk).is_past ≡ false

@@ -134,15 +134,15 @@ whole_of true first more = Faulted first PastCount
 
 -- what of its text is not the first lines
 abbrev pub rest_of : List ℕ → Bool → List (List ℕ) → List ℕ
-rest_of mark false more = bytes_of mark more ++ marked_line mark end_text
-rest_of mark true more = mark ++ fault_line PastCount
+rest_of prefix false more = bytes_of prefix more ++ marked_line prefix end_text
+rest_of prefix true more = prefix ++ fault_line PastCount
 
-pub whole-text : (mark : List ℕ) (past : Bool) (first more : List (List ℕ))
-    → bytes_of mark first ++ rest_of mark past more ≡ marked_text mark (whole_of past first more)
-whole-text mark false first more =
-    sym (append_assoc (bytes_of mark first) (bytes_of mark more) (marked_line mark end_text))
-    ∙ ap (λ (xs : List ℕ). xs ++ marked_line mark end_text) (sym (flat_map-append (marked_line mark) first more))
-whole-text mark true first more = refl
+pub whole-text : (prefix : List ℕ) (past : Bool) (first more : List (List ℕ))
+    → bytes_of prefix first ++ rest_of prefix past more ≡ marked_text prefix (whole_of past first more)
+whole-text prefix false first more =
+    sym (append_assoc (bytes_of prefix first) (bytes_of prefix more) (marked_line prefix end_text))
+    ∙ ap (λ (xs : List ℕ). xs ++ marked_line prefix end_text) (sym (flat_map-append (marked_line prefix) first more))
+whole-text prefix true first more = refl
 
 pub whole-told : (past : Bool) (first more : List (List ℕ)) → told_fault (whole_of past first more) ≡ 0
 whole-told false first more = refl

@@ -17,7 +17,7 @@ use Rattle.graph_session.specs.SharedAnswer.{SettlesLine}
 use Rattle.graph_session.specs.SharedConsole.{IsSharedAt}
 use Rattle.graph_session.specs.SnapshotEffects.{SharedView}
 use Rattle.graph_session.specs.Snapshots.{SharedState}
-use Rattle.graph_session.specs.State.{State, IsQuit, mark_in, session_in}
+use Rattle.graph_session.specs.State.{State, IsQuit, prefix_in, session_in}
 use Rattle.graph_session.specs.Verdicts.{JudgesLine}
 use Rattle.graph_session.specs.declared.turn.Turn.{Turn}
 use Rattle.graph_session.specs.declared.turn.Turn.TheVariants.{Go, Quit, SinkFault}
@@ -60,16 +60,16 @@ abbrev pub shared_in : {D K : Type 0} → Terminal D K → SharedView D
 shared_in terminal = record { session = terminal.session; held = terminal.held }
 
 -- What one call says of its line, of whichever session: its reply, each line of which begins with
--- the session's mark where the line names it, and which is given to the sink where that tells what
--- it takes; what the line does over any disk, and what the reply to a question says of the records
--- that it sees; and from each state of all sessions that the session is at, how it is settled, also
--- where nothing is known of what the disk reads. Only quit ends the run.
+-- the session's prefix where the line names it, and which is given to the sink where that tells
+-- what it takes; what the line does over any disk, and what the reply to a question says of the
+-- records that it sees; and from each state of all sessions that the session is at, how it is
+-- settled, also where nothing is known of what the disk reads. Only quit ends the run.
 pub record AnswersLine {D K : Type 0} (disk : DiskGhosts D) (sink : SinkGhosts K) (line : InputLine)
     (old new : Terminal D K) (turn : Turn) : Type 0 where
   pub reply : Reply
   pub text : sink.tells
       → Delivers turn (sink.taken old.output) (sink.taken new.output)
-      (marked_text (mark_in line) reply)
+      (marked_text (prefix_in line) reply)
   pub quit : (turn ≡ Quit) ↔ IsQuit line
   pub may :
       HasNoDraft old.session

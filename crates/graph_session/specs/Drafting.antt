@@ -15,7 +15,6 @@ use Rattle.rec_bytes.specs.declared.key.Key.{Key}
 use Rattle.rec_bytes.specs.declared.record.Rec.{Rec}
 use Rattle.rec_bytes.specs.Pairs.{IsOrdered, Pairs, merged}
 use Rattle.rec_bytes.specs.Space.{State as Space, laid_over}
-use Rattle.rec_bytes.specs.declared.fault.Fault.{Fault}
 use Rattle.rec_bytes.specs.declared.fault.Fault.TheVariants as read_faults
 use Rattle.record_file.specs.Redone.{Redoes}
 use Rattle.store_rules.specs.Writes.{WritesAtMost}
@@ -53,9 +52,9 @@ answer_for (faults.IndexTooLarge count) = answers.Refused (refusals.IndexTooLarg
 answer_for (faults.Full file live) = answers.Refused (full_of file)
 answer_for (faults.NamesFull count) = answers.Refused refusals.FullNames
 answer_for (faults.PropsFull count) = answers.Refused refusals.TooManyProperties
-answer_for faults.Memory = answers.NoMemory
-answer_for faults.Disk = answers.DiskFailed
-answer_for (faults.Damaged damage) = answers.Damaged damage
+answer_for faults.Memory = answers.Fault read_faults.Memory
+answer_for faults.Disk = answers.Fault read_faults.Disk
+answer_for (faults.Damaged damage) = answers.Fault (read_faults.Damaged damage)
 
 -- What a call that changes gives as a draft: its answer and its weight, or the answer of its fault.
 abbrev pub drafted_by :
@@ -78,12 +77,6 @@ drafted_edge outcome =
 -- a change whose answer has nothing of its own
 abbrev pub drafted_done : Result ℕ ChangeFault → Result Drafted Answer
 drafted_done outcome = drafted_by (λ (weight : ℕ). answers.Done) (λ (weight : ℕ). weight) outcome
-
--- the answer of one whose reading part was not read to its end
-abbrev pub answer_for_read : Fault → Answer
-answer_for_read read_faults.Memory = answers.NoMemory
-answer_for_read read_faults.Disk = answers.DiskFailed
-answer_for_read (read_faults.Damaged damage) = answers.Damaged damage
 
 -- the answer of a change that is made
 abbrev pub TellsChange : Command → Answer → Type 0
@@ -112,7 +105,7 @@ pub record MakesLine (command : Command) (reply : Reply) (weight : ℕ) (old new
 abbrev pub IsUnkeptAlone : ℕ → Answer → Type 0
 IsUnkeptAlone weight answer =
     ((answer ≡ answers.Refused refusals.TransactionFull) × (most_weight < start_weight + weight))
-    ⊎ (answer ≡ answers.NoMemory)
+    ⊎ (answer ≡ answers.Fault read_faults.Memory)
 
 module _ {D : Type 0} {g : Ghosts D} where
   -- the records with the draft are a store that keeps all rules, whose names are those in memory
@@ -142,10 +135,10 @@ module _ {D : Type 0} {g : Ghosts D} where
   IsStopped command old now (answers.Results results) = ⊥
   IsStopped command old now (answers.Refused why) = g.tells_reads → HasStore old
       → Refuses command (state_of old.store) why
-  IsStopped command old now answers.NoMemory = Unit {0}
-  IsStopped command old now answers.DiskFailed =
+  IsStopped command old now (answers.Fault read_faults.Memory) = Unit {0}
+  IsStopped command old now (answers.Fault read_faults.Disk) =
       Rose (g.faults old.store.base.disk.now) (g.faults now)
-  IsStopped command old now (answers.Damaged damage) =
+  IsStopped command old now (answers.Fault (read_faults.Damaged damage)) =
       (g.tells_reads → HasStore old → ⊥)
       × (g.tells_reads → IsBlamed command (state_of old.store) old.names.names damage)
 
@@ -169,8 +162,8 @@ module _ {D : Type 0} {g : Ghosts D} where
   -- memory, or where the disk failed.
   abbrev pub DropsUnchanged : Drafted → Session D g → Session D g → Result Drafted Answer → Type 0
   DropsUnchanged made old new (Ok also) = (also ≡ made) × KeepsOnlyChanged old new
-  DropsUnchanged made old new (Err why) = (why ≡ answers.NoMemory)
-      ⊎ ((why ≡ answers.DiskFailed)
+  DropsUnchanged made old new (Err why) = (why ≡ answers.Fault read_faults.Memory)
+      ⊎ ((why ≡ answers.Fault read_faults.Disk)
       × Rose (g.faults old.store.base.disk.now) (g.faults new.store.base.disk.now))
 
   -- each record of the draft differs from the one beneath it
@@ -206,7 +199,7 @@ module _ {D : Type 0} {g : Ghosts D} where
   abbrev pub IsUnkept : ℕ → Session D g → Answer → Type 0
   IsUnkept weight old answer =
       ((answer ≡ answers.Refused refusals.TransactionFull) × (most_weight < old.weight + weight))
-      ⊎ (answer ≡ answers.NoMemory)
+      ⊎ (answer ≡ answers.Fault read_faults.Memory)
 
   -- what becomes of a draft in an open transaction
   abbrev pub Finishes : Result Drafted Answer → ℕ → Session D g → Session D g → Answer → Type 0
@@ -255,7 +248,8 @@ module _ {D : Type 0} {g : Ghosts D} where
   abbrev pub EndsCommit : (Key → Rec) → Session D g → Session D g → Answer → Answer → Type 0
   EndsCommit now old new made answer =
       ((answer ≡ made) × CommitsRecords now old new)
-      ⊎ ((answer ≡ answers.DiskFailed) × (DropsRecords old new ⊎ DoubtsRecords now old new))
+      ⊎ ((answer ≡ answers.Fault read_faults.Disk)
+      × (DropsRecords old new ⊎ DoubtsRecords now old new))
 
   -- A commit was tried, of a transaction that has written these records. At each moment of it a
   -- crash leaves what was committed, or the records as they are now. Each snapshot that is still
@@ -279,8 +273,8 @@ module _ {D : Type 0} {g : Ghosts D} where
     pub closes : Closes old new
     pub names : new.names.names ≡ take count old.names.names
     pub snaps : new.snaps ≡ old.snaps
-    pub failed : answer ≡ answers.DiskFailed → new.health ≡ healths.Failed
-    pub healthy : ¬ (answer ≡ answers.DiskFailed) → new.health ≡ old.health
+    pub failed : answer ≡ answers.Fault read_faults.Disk → new.health ≡ healths.Failed
+    pub healthy : ¬ (answer ≡ answers.Fault read_faults.Disk) → new.health ≡ old.health
 
   -- what becomes of a draft that is a transaction by itself, which may not weigh more than one does
   abbrev pub FinishesAlone : Result Drafted Answer → ℕ → Session D g → Session D g → Answer → Type 0

@@ -11,6 +11,7 @@ use Rattle.expand.proofs.ModelEdges.{StandFor}
 use Rattle.expand.specs.Costs.{are_unknown, most_reads}
 use Rattle.expand.specs.declared.expand_fault.ExpandFault.{ExpandFault}
 use Rattle.expand.specs.declared.expand_fault.ExpandFault.TheVariants as faults
+use Rattle.rec_bytes.specs.declared.fault.Fault.TheVariants as read_faults
 use Rattle.graph_session.specs.declared.answer.Answer.{Answer}
 use Rattle.graph_session.specs.declared.answer.Answer.TheVariants as answers
 
@@ -24,9 +25,9 @@ items_of label rows = map (item_of label) rows
 -- the answer where the edges are not known
 abbrev pub answer_for : ExpandFault → Answer
 answer_for (faults.NoNode id) = answers.Refused (refusals.NoNode id)
-answer_for faults.Memory = answers.NoMemory
-answer_for faults.Disk = answers.DiskFailed
-answer_for (faults.Damaged damage) = answers.Damaged damage
+answer_for faults.Memory = answers.Fault read_faults.Memory
+answer_for faults.Disk = answers.Fault read_faults.Disk
+answer_for (faults.Damaged damage) = answers.Fault (read_faults.Damaged damage)
 
 -- the result is an edge whose type has this name
 abbrev pub IsEdge : List ℕ → Item → Type 0

@@ -7,8 +7,8 @@ use Rattle.graph_session.specs.declared.job.Act.{Act}
 use Rattle.graph_session.specs.declared.job.Act.TheVariants as acts
 use Rattle.graph_session.specs.declared.job.Job.{Job}
 use Rattle.graph_session.specs.declared.job.Job.TheVariants as jobs
-use Rattle.graph_session.specs.declared.job.Sight.{Sight}
-use Rattle.graph_session.specs.declared.job.Sight.TheVariants as sights
+use Rattle.graph_session.specs.declared.job.SnapshotAct.{SnapshotAct}
+use Rattle.graph_session.specs.declared.job.SnapshotAct.TheVariants as snapshots
 use Rattle.graph_session.specs.declared.question.Question.{Question}
 use Rattle.graph_session.specs.declared.question.Question.TheVariants as questions
 
@@ -29,19 +29,19 @@ question_command questions.Stats = commands.Stats
 question_command (questions.Find label key value) = commands.Find label.now key.now value.now
 question_command (questions.Expand id direction label) = commands.Expand id direction label.now
 question_command (questions.Degree id direction label) = commands.Degree id direction label.now
-question_command (questions.Path from to direction label) =
-    commands.Path from to direction label.now
-question_command (questions.Levels from to direction label) =
-    commands.Levels from to direction label.now
+question_command (questions.Path route) =
+    commands.Path route.from route.to route.direction route.label.now
+question_command (questions.Levels route) =
+    commands.Levels route.from route.to route.direction route.label.now
 question_command (questions.View target) = commands.View target
 question_command questions.ViewNames = commands.ViewNames
 question_command questions.ViewIndexes = commands.ViewIndexes
 question_command (questions.Query query) = commands.Query query.now
 
 -- for what a session that reads does with its snapshot
-abbrev pub sight_command : Sight → Command
-sight_command sights.Snapshot = commands.Snapshot
-sight_command sights.Release = commands.Release
+abbrev pub snapshot_command : SnapshotAct → Command
+snapshot_command snapshots.Take = commands.Snapshot
+snapshot_command snapshots.Release = commands.Release
 
 -- for what the session that writes does
 abbrev pub act_command : Act → Command
@@ -56,6 +56,6 @@ act_command (acts.Change change) = change_command change
 abbrev pub command_of : Job → Command
 command_of jobs.Blank = commands.Blank
 command_of jobs.Quit = commands.Quit
-command_of (jobs.Sight sight) = sight_command sight
+command_of (jobs.Snapshot act) = snapshot_command act
 command_of (jobs.Act act) = act_command act
 command_of (jobs.Question question) = question_command question

@@ -23,6 +23,7 @@ pub mod Questions
 pub mod ReaderAnswers
 pub mod ReaderStep
 pub mod Refusals
+pub mod ReplyLines
 pub mod Results
 pub mod Session
 pub mod Settling

@@ -1,22 +1,10 @@
--- What a line that is gathered leaves of a sink.
-use Rattle.std.specs.Prelude.{◌≡◌, ◌≢◌, ◌≤◌, ℕ, List, [], ◌++◌}
+-- What a text that is gathered leaves of a sink.
+use Rattle.std.specs.Prelude.{◌≡◌, ◌≢◌, ◌≤◌, ℕ, List, ◌++◌}
 use Rattle.fault_count.specs.Cause.{Rose}
 use Rattle.stream_io.specs.Streams.{TakesFront}
 use Rattle.stream_io.specs.declared.streams.Sink.{Ghosts}
-use Rattle.plain_graph.specs.Reply.{DamagedRecord, DiskFailed, Fault, NoMemory}
-use Rattle.rec_bytes.specs.declared.fault.Fault.{Fault as StopFault}
-use Rattle.rec_bytes.specs.declared.fault.Fault.TheVariants as faults
 use Rattle.graph_session.specs.declared.turn.Turn.{Turn}
 use Rattle.graph_session.specs.declared.turn.Turn.TheVariants.{Go, Quit, SinkFault}
-
--- the bytes of lines that are gathered, and what each line begins with
-pub record MarkedLines : Type 0 where
-  pub mark : List ℕ
-  pub bytes : List ℕ
-
--- no lines yet
-abbrev pub no_lines : List ℕ → MarkedLines
-no_lines mark = record { mark = mark; bytes = [] }
 
 -- What a sink took and what is held beside it: with the text more, or where the sink failed a
 -- prefix of what was held and of the text.
@@ -33,15 +21,3 @@ pub record Adds {K : Type 0} (sink : Ghosts K) (text old new : List ℕ) (before
   pub runs : turn ≢ Quit
   pub cause : turn ≡ SinkFault → Rose (sink.faults before) (sink.faults after)
   pub later : sink.faults before ≤ sink.faults after
-
--- A line was gathered after its mark, which is that of the next line too.
-pub record AddsLine {K : Type 0} (sink : Ghosts K) (line : List ℕ) (old new : MarkedLines)
-    (before after : K) (turn : Turn) : Type 0 where
-  pub adds : Adds sink (old.mark ++ line) old.bytes new.bytes before after turn
-  pub mark : new.mark ≡ old.mark
-
--- the fault that a reply ends with where records were not read to their end
-abbrev pub stop_of : StopFault → Fault
-stop_of faults.Memory = NoMemory
-stop_of faults.Disk = DiskFailed
-stop_of (faults.Damaged damage) = DamagedRecord damage.file damage.id

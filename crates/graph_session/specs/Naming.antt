@@ -6,6 +6,7 @@ use Rattle.store_rules.specs.Graph.{names_of}
 use Rattle.name_store.specs.Again.{IsFirstOther}
 use Rattle.txn_core.specs.Store.{drafted}
 use Rattle.txn_core.specs.declared.store.Store.{Store}
+use Rattle.rec_bytes.specs.declared.fault.Fault.TheVariants as faults
 use Rattle.graph_session.specs.declared.answer.Answer.{Answer}
 use Rattle.graph_session.specs.declared.answer.Answer.TheVariants as answers
 use Rattle.graph_session.specs.declared.health.Health.{Health}
@@ -31,8 +32,8 @@ TakesNames old new was names health (answers.NodeMade id) = ⊥
 TakesNames old new was names health (answers.EdgeMade id) = ⊥
 TakesNames old new was names health (answers.Results results) = ⊥
 TakesNames old new was names health (answers.Refused why) = ⊥
-TakesNames old new was names health answers.NoMemory = ⊥
-TakesNames {g = g} old new was names health answers.DiskFailed =
+TakesNames old new was names health (answers.Fault faults.Memory) = ⊥
+TakesNames {g = g} old new was names health (answers.Fault faults.Disk) =
     IsUnnamed was names health × Rose (g.faults old.base.disk.now) (g.faults new.base.disk.now)
-TakesNames {g = g} old new was names health (answers.Damaged damage) =
+TakesNames {g = g} old new was names health (answers.Fault (faults.Damaged damage)) =
     IsUnnamed was names health × (g.tells_reads → IsFirstOther (drafted old) was damage)

@@ -15,7 +15,8 @@ use Rattle.rec_bytes.specs.declared.space.Reads.{Ghosts as SpaceGhosts}
 use Rattle.store_rules.specs.Graph.{graph_of}
 use Rattle.traversal_run.specs.Reading.{IsNamedStore}
 use Rattle.traversal_run.specs.Viewing.{view_reads}
-use Rattle.graph_session.specs.LineBuffer.{AddsLine, MarkedLines}
+use Rattle.graph_session.specs.ReplyLines.{AddsLine}
+use Rattle.graph_session.specs.declared.reply_lines.ReplyLines.{ReplyLines}
 use Rattle.graph_session.specs.declared.turn.Turn.{Turn}
 
 -- the line of a result over any files
@@ -26,20 +27,19 @@ IsResultLine (Some keys) item line = (element : ElementMap) × (line ≡ map_lin
 -- A line of the result was gathered, which over a store is what the graph shows.
 pub record AddsShown {R K : Type 0} (space : SpaceGhosts R) (sink : SinkGhosts K)
     (names : List (List ℕ)) (maps : Option (List (List ℕ))) (item : Item) (at : R)
-    (old new : MarkedLines) (before after : K) (turn : Turn) : Type 0 where
+    (old new : ReplyLines K) (turn : Turn) : Type 0 where
   pub line : List ℕ
   pub form : IsResultLine maps item line
   pub shown : space.tells
       → IsNamedStore (space.state at).records (space.state at).shape names
       → line ≡ shown_line (graph_of (space.state at).records) maps item
-  pub adds : AddsLine sink (text_line line) old new before after turn
+  pub adds : AddsLine sink (text_line line) old new turn
 
--- No line was gathered. The disk is blamed only where it failed, and a record only where it breaks a
--- rule.
-pub record AddsNone {R K : Type 0} (space : SpaceGhosts R) (at now : R) (old new : MarkedLines)
-    (before after : K) (fault : Fault) : Type 0 where
-  pub held : new ≡ old
-  pub output : after ≡ before
+-- No line was gathered. The disk is blamed only where it failed, and a record only where it breaks
+-- a rule.
+pub record AddsNone {R K : Type 0} (space : SpaceGhosts R) (at now : R) (old new : ReplyLines K)
+    (fault : Fault) : Type 0 where
+  pub same : new ≡ old
   pub disk : fault ≡ faults.Disk → Rose (space.faults at) (space.faults now)
   pub blames : space.tells → BlamesBroken (space.state at).records (space.state at).shape fault
 

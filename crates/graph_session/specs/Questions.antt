@@ -43,16 +43,16 @@ Means graph command (Refused why) =
     (limit : ℕ) → FirstReason change_reasons limit graph command why
 Means graph command _ = ⊥
 
--- A reply to the command was given to the sink, with this mark before each line; where the sink
+-- A reply to the command was given to the sink, with this prefix before each line; where the sink
 -- failed it is a whole one, of which a prefix was taken. Over a store with its indexes and these
 -- names the reply is what the graph means. What it says of records over any space is true of them.
 -- The disk is blamed only where it failed.
 pub record GivesReading {R K : Type 0} (space : SpaceGhosts R) (sink : SinkGhosts K)
-    (names : List (List ℕ)) (command : Command) (mark : List ℕ) (old new : R) (before after : K)
+    (names : List (List ℕ)) (command : Command) (prefix : List ℕ) (old new : R) (before after : K)
     (turn : Turn) : Type 0 where
   pub reply : Reply
   pub form : MayTell command reply
-  pub gives : Gives sink (marked_text mark reply) before after turn
+  pub gives : Gives sink (marked_text prefix reply) before after turn
   pub means : space.tells
       → IsNamedStore (space.state old).records (space.state old).shape names
       → Means (graph_of (space.state old).records) command reply

@@ -6,6 +6,7 @@ use Rattle.plain_graph.specs.Kinds.{AreSilent}
 use Rattle.plain_graph.specs.Lines.{kind_of}
 use Rattle.plain_graph.specs.Reply.{Reply, mark_text}
 use Rattle.plain_graph.specs.declared.command.Command.{Command}
+use Rattle.rec_bytes.specs.declared.fault.Fault.TheVariants as faults
 use Rattle.graph_session.specs.declared.job.Act.{Act}
 use Rattle.graph_session.specs.declared.job.Act.TheVariants as acts
 use Rattle.plain_graph.specs.declared.refusal.Refusal.{Refusal}
@@ -23,18 +24,19 @@ use Rattle.graph_session.specs.declared.health.Health.TheVariants as healths
 
 -- the answer of a line that spells no command: want of memory, or a refusal
 abbrev pub told_by : Option Refusal → Answer
-told_by None = answers.NoMemory
+told_by None = answers.Fault faults.Memory
 told_by (Some why) = answers.Refused why
 
 abbrev pub told_of : LineFault → Answer
 told_of fault = told_by (refusal_of fault)
 
 -- The line spells just this command, is of this session, and each line of its reply begins with the
--- mark.
-pub record IsParsed (line : List ℕ) (session : ℕ) (command : Command) (mark : List ℕ) : Type 0 where
+-- prefix.
+pub record IsParsed (line : List ℕ) (session : ℕ) (command : Command) (prefix : List ℕ)
+    : Type 0 where
   pub only : SpellsOnly line command
   pub session_is : session_of line ≡ session
-  pub mark_is : mark_text (session_named line) ≡ mark
+  pub prefix_is : mark_text (session_named line) ≡ prefix
 
 -- a command that gets a reply
 abbrev pub IsLoud : Command → Type 0

@@ -23,16 +23,16 @@ pub record Counts : Type 0 where
 abbrev pub counts : ℕ → ℕ → Counts
 counts was now = record { was = was; now = now }
 
--- A reply to the command was given to the sink, with this mark before each line. Where the records
--- that the snapshot sees are those of a store with its indexes, and these are its names with maybe
--- more after them, it is what the graph of that store means. What it says of records is true of
--- those that the snapshot sees, whatever they are. The disk is blamed only where it failed.
+-- A reply to the command was given to the sink, with this prefix before each line. Where the
+-- records that the snapshot sees are those of a store with its indexes, and these are its names
+-- with maybe more after them, it is what the graph of that store means. What it says of records is
+-- true of those that the snapshot sees, whatever they are. The disk is blamed only where it failed.
 pub record GivesSight {K : Type 0} (tells : Type 0) (sink : SinkGhosts K) (seen : Records)
-    (shape : Shape) (names : List (List ℕ)) (command : Command) (mark : List ℕ)
+    (shape : Shape) (names : List (List ℕ)) (command : Command) (prefix : List ℕ)
     (faults : Counts) (before after : K) (turn : Turn) : Type 0 where
   pub reply : Reply
   pub form : MayTell command reply
-  pub gives : Gives sink (marked_text mark reply) before after turn
+  pub gives : Gives sink (marked_text prefix reply) before after turn
   pub means : tells → IsNamedStore seen shape names → Means (graph_of seen) command reply
   pub judges : tells → Judges seen shape command reply
   pub told : told_fault reply ≢ 0 → Rose faults.was faults.now

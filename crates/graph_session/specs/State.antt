@@ -78,9 +78,9 @@ session_in (Whole bytes) = session_of bytes
 session_in Long = 0
 
 -- what each line of its reply begins with
-abbrev pub mark_in : InputLine → List ℕ
-mark_in (Whole bytes) = mark_text (session_named bytes)
-mark_in Long = []
+abbrev pub prefix_in : InputLine → List ℕ
+prefix_in (Whole bytes) = mark_text (session_named bytes)
+prefix_in Long = []
 
 abbrev pub IsQuit : InputLine → Type 0
 IsQuit line = SpellsLine line commands.Quit

@@ -3,6 +3,7 @@ use Rattle.std.specs.Prelude.{◌≡◌, ◌⊎◌, ◌+◌, ◌≤◌, true, fa
 use Rattle.disk_model.specs.declared.disk.Disk.{Ghosts}
 use Rattle.plain_graph.specs.Changes.{most_weight, start_weight}
 use Rattle.rec_bytes.specs.Pairs.{Held, Pairs, merged}
+use Rattle.rec_bytes.specs.declared.fault.Fault.TheVariants as faults
 use Rattle.graph_session.specs.Console.{SessionView}
 use Rattle.graph_session.specs.Drafting.{IsUnkeptAlone}
 use Rattle.graph_session.specs.Tapping.{IsEmpty, IsTapped, Takes}
@@ -22,7 +23,7 @@ abbrev pub TapsCommit :
     → Option Held → Option Held → Type 0
 TapsCommit g old new written made answer was tap =
     ((answer ≡ made) × Takes (AreTapped g old new written) was tap)
-    ⊎ ((answer ≡ answers.DiskFailed) × Takes IsEmpty was tap)
+    ⊎ ((answer ≡ answers.Fault faults.Disk) × Takes IsEmpty was tap)
 
 -- a change that is a transaction by itself, with what is drafted then
 abbrev pub TapsAlone :

@@ -16,6 +16,7 @@ use Rattle.store_rules.specs.Breaking.{Breaks}
 use Rattle.store_rules.specs.Graph.{graph_of}
 use Rattle.traversal_run.specs.Reading.{IsNamedStore}
 use Rattle.traversal_run.specs.Viewing.{view_of}
+use Rattle.rec_bytes.specs.declared.fault.Fault.TheVariants as faults
 use Rattle.graph_session.specs.declared.answer.Answer.{Answer}
 use Rattle.graph_session.specs.declared.answer.Answer.TheVariants as answers
 
@@ -39,9 +40,10 @@ pub record MakesElement {R : Type 0} (space : SpaceGhosts R) (names : List (List
 -- it breaks a rule.
 abbrev pub IsViewAnswer : {R : Type 0} → SpaceGhosts R → Target → R → R → Answer → Type 0
 IsViewAnswer space target at now (answers.Refused why) = why ≡ no_element target
-IsViewAnswer space target at now answers.NoMemory = Unit {0}
-IsViewAnswer space target at now answers.DiskFailed = Rose (space.faults at) (space.faults now)
-IsViewAnswer space target at now (answers.Damaged damage) =
+IsViewAnswer space target at now (answers.Fault faults.Memory) = Unit {0}
+IsViewAnswer space target at now (answers.Fault faults.Disk) =
+    Rose (space.faults at) (space.faults now)
+IsViewAnswer space target at now (answers.Fault (faults.Damaged damage)) =
     space.tells → Breaks (space.state at).records (space.state at).shape damage
 IsViewAnswer space target at now _ = ⊥
 

@@ -1,6 +1,13 @@
+ghost use Rattle.std.specs.Prelude.{◌≡◌};
+ghost use Rattle.change_parts.specs.Change.{full_of};
+
 use crate::results::Results;
+use expand::ExpandFault;
+use graph_ops::ChangeFault;
+use gremlin_parse::LineFault;
 use plain_graph::Refusal;
-use rec_bytes::Damage;
+use prop_index::LookupFault;
+use rec_bytes::{Fault, INDEX, NODES, PROPERTIES, RELATIONSHIPS};
 
 /// What a line is answered with that is no question.
 #[derive(Drop)]
@@ -15,10 +22,106 @@ pub(crate) enum Answer {
     Results(Results),
     /// It is refused, and changes nothing.
     Refused(Refusal),
-    /// There was no memory for it, and it changes nothing.
-    NoMemory,
-    /// The disk failed in it.
-    DiskFailed,
-    /// A record that it needs breaks a rule of the store.
-    Damaged(Damage),
+    /// There was no memory for it, the disk failed in it, or a record that it needs breaks a rule
+    /// of the store. Without memory it changes nothing.
+    Fault(Fault),
+}
+
+impl From<Fault> for Answer {
+    ghost from_gives = { λ fault answer. answer ≡ answers.Fault fault };
+
+    ghost use Rattle.graph_session.specs.declared.answer.Answer.TheVariants as answers;
+
+    fn from(fault: Fault) -> Answer {
+        Answer::Fault(fault)
+    }
+}
+
+impl From<LineFault> for Answer {
+    ghost from_gives = { λ fault answer. answer ≡ told_of fault };
+
+    ghost use Rattle.graph_session.specs.Settling.{told_of};
+
+    fn from(fault: LineFault) -> Answer {
+        match fault {
+            LineFault::Memory => Answer::Fault(Fault::Memory),
+            LineFault::Syntax { at } => Answer::Refused(Refusal::Syntax { at }),
+            LineFault::NameLength { at } => Answer::Refused(Refusal::NameLength { at }),
+            LineFault::TextLength { at } => Answer::Refused(Refusal::TextLength { at }),
+            LineFault::NumberRange { at } => Answer::Refused(Refusal::NumberRange { at }),
+            LineFault::StepKind { at } => Answer::Refused(Refusal::StepKind { at }),
+            LineFault::TooManySteps { at } => Answer::Refused(Refusal::TooManySteps { at }),
+            LineFault::TimesRange { at } => Answer::Refused(Refusal::TimesRange { at }),
+        }
+    }
+}
+
+impl From<ExpandFault> for Answer {
+    ghost from_gives = { λ fault answer. answer ≡ answer_for fault };
+
+    ghost use Rattle.graph_session.specs.EdgeResults.{answer_for};
+
+    fn from(fault: ExpandFault) -> Answer {
+        match fault {
+            ExpandFault::NoNode { id } => Answer::Refused(Refusal::NoNode { id }),
+            ExpandFault::Memory => Answer::Fault(Fault::Memory),
+            ExpandFault::Disk => Answer::Fault(Fault::Disk),
+            ExpandFault::Damaged(damage) => Answer::Fault(Fault::Damaged(damage)),
+        }
+    }
+}
+
+impl From<LookupFault> for Answer {
+    ghost from_gives = { λ fault answer. answer ≡ answer_for fault };
+
+    ghost use Rattle.graph_session.specs.IndexResults.{answer_for};
+
+    fn from(fault: LookupFault) -> Answer {
+        match fault {
+            LookupFault::NoIndex => Answer::Refused(Refusal::NoIndex),
+            LookupFault::Memory => Answer::Fault(Fault::Memory),
+            LookupFault::Disk => Answer::Fault(Fault::Disk),
+            LookupFault::Damaged(damage) => Answer::Fault(Fault::Damaged(damage)),
+        }
+    }
+}
+
+impl From<ChangeFault> for Answer {
+    ghost from_gives = { λ fault answer. answer ≡ answer_for fault };
+
+    ghost use Rattle.graph_session.specs.Drafting.{answer_for};
+
+    fn from(fault: ChangeFault) -> Answer {
+        match fault {
+            ChangeFault::NoNode { id } => Answer::Refused(Refusal::NoNode { id }),
+            ChangeFault::NoEdge { id } => Answer::Refused(Refusal::NoEdge { id }),
+            ChangeFault::IndexThere => Answer::Refused(Refusal::IndexThere),
+            ChangeFault::TooManyIndexes => Answer::Refused(Refusal::TooManyIndexes),
+            ChangeFault::IndexTooLarge { count } => {
+                Answer::Refused(Refusal::IndexTooLarge { count })
+            }
+            ChangeFault::Full { file, .. } => Answer::Refused(full_of(file)),
+            ChangeFault::NamesFull { .. } => Answer::Refused(Refusal::FullNames),
+            ChangeFault::PropsFull { .. } => Answer::Refused(Refusal::TooManyProperties),
+            ChangeFault::Memory => Answer::Fault(Fault::Memory),
+            ChangeFault::Disk => Answer::Fault(Fault::Disk),
+            ChangeFault::HasRelationships { id, .. } => {
+                Answer::Refused(Refusal::HasRelationships { id })
+            }
+            ChangeFault::Damaged(damage) => Answer::Fault(Fault::Damaged(damage)),
+        }
+    }
+}
+
+// Which part of the graph has no room, by its file.
+fn full_of(file: u8) -> Refusal
+    ensures { result ≡ full_of file }
+{
+    match file {
+        NODES => Refusal::FullNodes,
+        RELATIONSHIPS => Refusal::FullEdges,
+        PROPERTIES => Refusal::FullProperties,
+        INDEX => Refusal::FullIndex,
+        _ => Refusal::FullStrings,
+    }
 }

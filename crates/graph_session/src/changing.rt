@@ -12,10 +12,8 @@ ghost use Rattle.rec_bytes.specs.Space.{SameButReads};
 ghost use Rattle.txn_core.specs.Base.{SameBeneath};
 ghost use Rattle.txn_core.specs.Shipped.{AllShip};
 ghost use Rattle.txn_core.specs.Store.{drafted, working};
-ghost use Rattle.change_parts.specs.Change.{full_of};
 ghost use Rattle.change_parts.specs.Store.{graph_in};
 ghost use Rattle.graph_session.specs.Answering.{reply_of};
-ghost use Rattle.graph_session.specs.Drafting.{answer_for};
 ghost use Rattle.graph_session.specs.Drafting.{drafted_done, drafted_edge, drafted_node};
 ghost use Rattle.graph_session.specs.Settling.{SettlesCommand};
 ghost use Rattle.graph_session.specs.SnapshotEffects.{KeepsOlds};
@@ -26,7 +24,6 @@ use crate::answer::Answer;
 use crate::change::Change;
 use crate::results::Results;
 use crate::tapping::forget;
-use crate::unknown::answer_of_lookup;
 use crate::{Health, Session};
 use disk_model::Disk;
 use fault_count::Failed;
@@ -35,7 +32,7 @@ use graph_ops::{
     unset,
 };
 use plain_graph::{Item, MOST_WEIGHT, Mutation, Query, Refusal, START_WEIGHT, Target};
-use rec_bytes::{Fault, INDEX, NODES, PROPERTIES, RELATIONSHIPS, SpaceFault, WriteSet};
+use rec_bytes::{Fault, SpaceFault, WriteSet};
 use std::alloc::AllocError;
 use traversal_run::items_of;
 use txn_core::Store;
@@ -166,8 +163,8 @@ impl<'d, D: Disk> Session<'d, D> {
     {
         match self.store.drop_unchanged() {
             Ok(()) => Ok(drafted),
-            Err(SpaceFault::Memory) => Err(Answer::NoMemory),
-            Err(SpaceFault::Disk) => Err(Answer::DiskFailed),
+            Err(SpaceFault::Memory) => Err(Answer::Fault(Fault::Memory)),
+            Err(SpaceFault::Disk) => Err(Answer::Fault(Fault::Disk)),
         }
     }
 
@@ -242,7 +239,7 @@ impl<'d, D: Disk> Session<'d, D> {
                 answer: Answer::Results(Results::new(items)),
                 weight,
             }),
-            Err(fault) => Err(answer_of(fault)),
+            Err(fault) => Err(Answer::from(fault)),
         }
     }
 
@@ -265,7 +262,7 @@ impl<'d, D: Disk> Session<'d, D> {
             None => Ok(Vec::new(self.alloc)),
             Some(query) => match items_of(self.alloc, &mut self.store, &self.names, query) {
                 Ok(items) => Ok(items),
-                Err(fault) => Err(answer_of_lookup(fault)),
+                Err(fault) => Err(Answer::from(fault)),
             },
         }
     }
@@ -306,7 +303,7 @@ impl<'d, D: Disk> Session<'d, D> {
             }
             Err(_) => {
                 self.drop_draft(names);
-                Err(Answer::NoMemory)
+                Err(Answer::Fault(Fault::Memory))
             }
         }
     }
@@ -340,7 +337,7 @@ impl<'d, D: Disk> Session<'d, D> {
                 }
                 match keep(&mut self.store) {
                     Ok(()) => self.commit_alone(answer, tap),
-                    Err(_) => self.drop_alone(Answer::NoMemory, names),
+                    Err(_) => self.drop_alone(Answer::Fault(Fault::Memory), names),
                 }
             }
             Err(answer) => self.drop_alone(answer, names),
@@ -364,7 +361,7 @@ impl<'d, D: Disk> Session<'d, D> {
             Err(Failed) => {
                 forget(tap);
                 self.health = Health::Failed;
-                Answer::DiskFailed
+                Answer::Fault(Fault::Disk)
             }
         }
     }
@@ -377,7 +374,7 @@ impl<'d, D: Disk> Session<'d, D> {
     {
         self.drop_draft(names);
         self.store.rollback();
-        if matches!(answer, Answer::DiskFailed) {
+        if matches!(answer, Answer::Fault(Fault::Disk)) {
             self.health = Health::Failed;
         }
         answer
@@ -413,7 +410,7 @@ fn drafted_node(outcome: Result<Added, ChangeFault>) -> Result<Drafted, Answer>
             answer: Answer::NodeMade(id),
             weight,
         }),
-        Err(fault) => Err(answer_of(fault)),
+        Err(fault) => Err(Answer::from(fault)),
     }
 }
 
@@ -426,7 +423,7 @@ fn drafted_edge(outcome: Result<Added, ChangeFault>) -> Result<Drafted, Answer>
             answer: Answer::EdgeMade(id),
             weight,
         }),
-        Err(fault) => Err(answer_of(fault)),
+        Err(fault) => Err(Answer::from(fault)),
     }
 }
 
@@ -439,41 +436,6 @@ fn drafted_done(outcome: Result<u32, ChangeFault>) -> Result<Drafted, Answer>
             answer: Answer::Done,
             weight,
         }),
-        Err(fault) => Err(answer_of(fault)),
-    }
-}
-
-// The answer of a change that is refused.
-fn answer_of(fault: ChangeFault) -> Answer
-    ensures { result ≡ answer_for fault }
-{
-    match fault {
-        ChangeFault::NoNode { id } => Answer::Refused(Refusal::NoNode { id }),
-        ChangeFault::NoEdge { id } => Answer::Refused(Refusal::NoEdge { id }),
-        ChangeFault::IndexThere => Answer::Refused(Refusal::IndexThere),
-        ChangeFault::TooManyIndexes => Answer::Refused(Refusal::TooManyIndexes),
-        ChangeFault::IndexTooLarge { count } => Answer::Refused(Refusal::IndexTooLarge { count }),
-        ChangeFault::Full { file, .. } => Answer::Refused(full_of(file)),
-        ChangeFault::NamesFull { .. } => Answer::Refused(Refusal::FullNames),
-        ChangeFault::PropsFull { .. } => Answer::Refused(Refusal::TooManyProperties),
-        ChangeFault::Memory => Answer::NoMemory,
-        ChangeFault::Disk => Answer::DiskFailed,
-        ChangeFault::HasRelationships { id, .. } => {
-            Answer::Refused(Refusal::HasRelationships { id })
-        }
-        ChangeFault::Damaged(damage) => Answer::Damaged(damage),
-    }
-}
-
-// Which part of the graph has no room, by its file.
-fn full_of(file: u8) -> Refusal
-    ensures { result ≡ full_of file }
-{
-    match file {
-        NODES => Refusal::FullNodes,
-        RELATIONSHIPS => Refusal::FullEdges,
-        PROPERTIES => Refusal::FullProperties,
-        INDEX => Refusal::FullIndex,
-        _ => Refusal::FullStrings,
+        Err(fault) => Err(Answer::from(fault)),
     }
 }

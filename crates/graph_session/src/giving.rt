@@ -2,40 +2,63 @@ ghost use Rattle.std.specs.Prelude.{◌++◌};
 ghost use Rattle.plain_graph.specs.Reply.{marked_text};
 ghost use Rattle.graph_session.specs.Answer.{Gives};
 ghost use Rattle.graph_session.specs.Answering.{reply_of};
+ghost use Rattle.graph_session.specs.ReplyLines.{HaveSameSink};
 
 use crate::Turn;
 use crate::answer::Answer;
 use crate::line_buffer::LineBuffer;
+use crate::reply_lines::ReplyLines;
 use fault_count::Failed;
-use plain_graph::{damaged, disk_fault, done, edge_made, no_memory, node_made, refused};
+use plain_graph::{done, edge_made, node_made, refused};
 use stream_io::Sink;
 
+/// Gives an answer to a sink, each line after the prefix, through the buffer.
+pub(crate) fn give_reply<K: Sink>(
+    buffer: &mut LineBuffer,
+    prefix: &[u8],
+    output: &mut K,
+    answer: Answer,
+) -> Turn
+    ensures { Gives K.Sink (marked_text prefix.now (reply_of answer)) output.old output.new result }
+{
+    let mut lines = ReplyLines {
+        prefix,
+        buffer,
+        output,
+    };
+    give_answer(&mut lines, answer)
+}
+
 /// Gives an answer to the sink, in one piece but for its results. It takes no memory.
-pub(crate) fn give_answer<K: Sink>(output: &mut K, mark: &[u8], answer: Answer) -> Turn
-    ensures { Gives K.Sink (marked_text mark.now (reply_of answer)) output.old output.new result }
+pub(crate) fn give_answer<K: Sink>(lines: &mut ReplyLines<'_, K>, answer: Answer) -> Turn
+    ensures gives { Gives K.Sink (marked_text lines.old.prefix.now (reply_of answer))
+        lines.old.output.now lines.new.output.now result }
+    ensures same_sink { HaveSameSink lines.old lines.new }
 {
     match answer {
-        Answer::Done => give_line(output, mark, done()),
-        Answer::NodeMade(id) => give_line(output, mark, node_made(id).as_bytes()),
-        Answer::EdgeMade(id) => give_line(output, mark, edge_made(id).as_bytes()),
-        Answer::Results(results) => results.give(output, mark),
-        Answer::Refused(why) => give_line(output, mark, refused(why).as_bytes()),
-        Answer::NoMemory => give_line(output, mark, no_memory()),
-        Answer::DiskFailed => give_line(output, mark, disk_fault()),
-        Answer::Damaged(damage) => {
-            give_line(output, mark, damaged(damage.file, damage.id).as_bytes())
+        Answer::Done => give_line(lines, done()),
+        Answer::NodeMade(id) => give_line(lines, node_made(id).as_bytes()),
+        Answer::EdgeMade(id) => give_line(lines, edge_made(id).as_bytes()),
+        Answer::Results(results) => results.give(lines),
+        Answer::Refused(why) => give_line(lines, refused(why).as_bytes()),
+        Answer::Fault(fault) => {
+            lines.begin();
+            lines.stop(fault)
         }
     }
 }
 
-/// Gives a line after its mark to the sink, in one piece if both fit in a buffer.
-pub(crate) fn give_line<K: Sink>(output: &mut K, mark: &[u8], line: &[u8]) -> Turn
-    ensures { Gives K.Sink (mark.now ++ line.now) output.old output.new result }
+/// Gives a line after its prefix to the sink, in one piece if both fit in a buffer.
+pub(crate) fn give_line<K: Sink>(lines: &mut ReplyLines<'_, K>, line: &[u8]) -> Turn
+    ensures gives { Gives K.Sink (lines.old.prefix.now ++ line.now)
+        lines.old.output.now lines.new.output.now result }
+    ensures same_sink { HaveSameSink lines.old lines.new }
 {
-    if mark.is_empty() {
-        return give(output, line);
+    if lines.prefix.is_empty() {
+        return give(lines.output, line);
     }
-    LineBuffer::new(mark).finish(output, line)
+    lines.begin();
+    lines.finish(line)
 }
 
 /// Gives a text to the sink, in one piece.

@@ -2,7 +2,7 @@ ghost use Rattle.std.specs.Prelude.{◌≡◌};
 ghost use Rattle.graph_session.specs.Jobs.{command_of};
 
 use crate::change::Change;
-use crate::question::Question;
+use crate::question::{Question, Route};
 use plain_graph::Command;
 
 /// What a command asks for, by who may ask for it.
@@ -13,7 +13,7 @@ pub(crate) enum Job<'a> {
     /// The end of the run, which gets none either.
     Quit,
     /// A snapshot, or none: of a session that reads.
-    Sight(Sight),
+    Snapshot(SnapshotAct),
     /// What only the session that writes may do.
     Act(Act<'a>),
     /// What is read of the graph, of whichever session.
@@ -22,8 +22,8 @@ pub(crate) enum Job<'a> {
 
 /// What a session that reads does with its snapshot.
 #[derive(Clone, Copy)]
-pub(crate) enum Sight {
-    Snapshot,
+pub(crate) enum SnapshotAct {
+    Take,
     Release,
 }
 
@@ -46,8 +46,8 @@ impl<'a> Job<'a> {
         match command {
             Command::Blank => Job::Blank,
             Command::Quit => Job::Quit,
-            Command::Snapshot => Job::Sight(Sight::Snapshot),
-            Command::Release => Job::Sight(Sight::Release),
+            Command::Snapshot => Job::Snapshot(SnapshotAct::Take),
+            Command::Release => Job::Snapshot(SnapshotAct::Release),
             Command::Begin => Job::Act(Act::Begin),
             Command::Commit => Job::Act(Act::Commit),
             Command::Rollback => Job::Act(Act::Rollback),
@@ -107,23 +107,23 @@ impl<'a> Job<'a> {
                 to,
                 direction,
                 label,
-            } => Job::Question(Question::Path {
+            } => Job::Question(Question::Path(Route {
                 from: *from,
                 to: *to,
                 direction: *direction,
                 label,
-            }),
+            })),
             Command::Levels {
                 from,
                 to,
                 direction,
                 label,
-            } => Job::Question(Question::Levels {
+            } => Job::Question(Question::Levels(Route {
                 from: *from,
                 to: *to,
                 direction: *direction,
                 label,
-            }),
+            })),
             Command::View(target) => Job::Question(Question::View(*target)),
             Command::ViewNames => Job::Question(Question::ViewNames),
             Command::ViewIndexes => Job::Question(Question::ViewIndexes),

@@ -7,6 +7,7 @@
 mod answer;
 mod change;
 mod changing;
+mod context;
 mod giving;
 mod health;
 mod job;
@@ -15,6 +16,7 @@ mod opening;
 mod question;
 mod questions;
 mod reading;
+mod reply_lines;
 mod results;
 mod session;
 mod sight_reading;
@@ -23,7 +25,6 @@ mod tapping;
 mod transacting;
 mod turn;
 mod type_numbers;
-mod unknown;
 
 pub use health::Health;
 pub use session::Session;

@@ -6,6 +6,7 @@ ghost use Rattle.txn_core.specs.Config.{shape_of};
 ghost use Rattle.txn_core.specs.Opening.{Opens as OpensStore};
 ghost use Rattle.graph_session.specs.Opening.{IsUnopened, Opens, unloaded};
 
+use crate::line_buffer::LineBuffer;
 use crate::{Health, NotOpened, Session};
 use disk_model::Disk;
 use name_store::load;
@@ -52,6 +53,7 @@ impl<'d, D: Disk> Session<'d, D> {
                 weight: 0,
                 health: Health::Live,
                 snaps: Snaps::new(alloc),
+                buffer: LineBuffer::new(),
                 alloc,
             }),
             Err(fault) => Err(NotOpened {

@@ -26,19 +26,9 @@ pub(crate) enum Question<'a> {
         label: &'a Option<Text>,
     },
     /// A shortest walk.
-    Path {
-        from: u32,
-        to: u32,
-        direction: Direction,
-        label: &'a Option<Text>,
-    },
+    Path(Route<'a>),
     /// The levels that prove it.
-    Levels {
-        from: u32,
-        to: u32,
-        direction: Direction,
-        label: &'a Option<Text>,
-    },
+    Levels(Route<'a>),
     /// An element.
     View(Target),
     /// The names of the graph.
@@ -47,4 +37,13 @@ pub(crate) enum Question<'a> {
     ViewIndexes,
     /// The results of a query.
     Query(&'a Query),
+}
+
+/// Which walks are looked for: from a node to another, by edges of a type or of all types.
+#[derive(Clone, Copy)]
+pub(crate) struct Route<'a> {
+    pub(crate) from: u32,
+    pub(crate) to: u32,
+    pub(crate) direction: Direction,
+    pub(crate) label: &'a Option<Text>,
 }

@@ -1,8 +1,11 @@
 ghost use Rattle.graph_session.specs.Jobs.{question_command};
 ghost use Rattle.plain_graph.specs.Lines.{HasForm};
 ghost use Rattle.graph_session.specs.Questions.{GivesReading};
+ghost use Rattle.graph_session.specs.ReplyLines.{HaveSameSink};
 
 use crate::Turn;
+use crate::context::Context;
+use crate::line_buffer::LineBuffer;
 use crate::question::Question;
 use crate::questions::counts::give_counts;
 use crate::questions::degrees::give_degree;
@@ -14,9 +17,8 @@ use crate::questions::query_results::give_query;
 use crate::questions::verdicts::give_verdict;
 use crate::questions::views::give_view;
 use crate::questions::walks::{give_levels, give_walk};
-use name_store::Names;
+use crate::reply_lines::ReplyLines;
 use rec_bytes::Reads;
-use std::alloc::Global;
 use stream_io::Sink;
 
 mod counts;
@@ -30,55 +32,64 @@ mod verdicts;
 mod views;
 mod walks;
 
-/// Answers a line that reads the graph of a space, whose names these are. The mark stands before
+/// Answers a line that reads the graph of a space, through the buffer. The prefix stands before
 /// each line of the reply.
-pub(crate) fn answer_question<R: Reads, K: Sink>(
-    alloc: Global,
+pub(crate) fn reply_question<R: Reads, K: Sink>(
+    context: Context<'_>,
     space: &mut R,
-    names: &Names,
     question: Question<'_>,
-    mark: &[u8],
+    buffer: &mut LineBuffer,
+    prefix: &[u8],
     output: &mut K,
 ) -> Turn
     requires { HasForm (question_command question) }
-    ensures { GivesReading R.Reads K.Sink names.now.names (question_command question.entry)
-        mark.now space.old space.new output.old output.new result }
+    ensures { GivesReading R.Reads K.Sink context.entry.names.now.names
+        (question_command question.entry)
+        prefix.now space.old space.new output.old output.new result }
+{
+    let mut lines = ReplyLines {
+        prefix,
+        buffer,
+        output,
+    };
+    answer_question(context, space, question, &mut lines)
+}
+
+/// Answers a line that reads the graph of a space, whose names these are.
+pub(crate) fn answer_question<R: Reads, K: Sink>(
+    context: Context<'_>,
+    space: &mut R,
+    question: Question<'_>,
+    lines: &mut ReplyLines<'_, K>,
+) -> Turn
+    requires { HasForm (question_command question) }
+    ensures gives { GivesReading R.Reads K.Sink context.entry.names.now.names
+        (question_command question.entry)
+        lines.old.prefix.now space.old space.new
+        lines.old.output.now lines.new.output.now result }
+    ensures same_sink { HaveSameSink lines.old lines.new }
 {
     match question {
-        Question::Check => give_verdict(alloc, space, mark, output),
-        Question::Stats => give_counts(space, mark, output),
+        Question::Check => give_verdict(context.alloc, space, lines),
+        Question::Stats => give_counts(space, lines),
         Question::Degree {
             id,
             direction,
             label,
-        } => give_degree(alloc, space, names, id, direction, label, mark, output),
+        } => give_degree(context, space, id, direction, label, lines),
         Question::Expand {
             id,
             direction,
             label,
-        } => give_edges(alloc, space, names, id, direction, label, mark, output),
-        Question::Path {
-            from,
-            to,
-            direction,
-            label,
-        } => give_walk(
-            alloc, space, names, from, to, direction, label, mark, output,
-        ),
-        Question::Levels {
-            from,
-            to,
-            direction,
-            label,
-        } => give_levels(
-            alloc, space, names, from, to, direction, label, mark, output,
-        ),
+        } => give_edges(context, space, id, direction, label, lines),
+        Question::Path(route) => give_walk(context, space, route, lines),
+        Question::Levels(route) => give_levels(context, space, route, lines),
         Question::Find { label, key, value } => {
-            give_found(alloc, space, names, label, key, value, mark, output)
+            give_found(context, space, label, key, value, lines)
         }
-        Question::View(target) => give_view(alloc, space, names, &target, mark, output),
-        Question::ViewNames => give_names(space, names, mark, output),
-        Question::ViewIndexes => give_indexes(alloc, space, names, mark, output),
-        Question::Query(query) => give_query(alloc, space, names, query, mark, output),
+        Question::View(target) => give_view(context, space, &target, lines),
+        Question::ViewNames => give_names(space, context.names, lines),
+        Question::ViewIndexes => give_indexes(context, space, lines),
+        Question::Query(query) => give_query(context, space, query, lines),
     }
 }

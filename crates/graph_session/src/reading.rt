@@ -2,7 +2,7 @@
 
 ghost use Rattle.std.specs.Prelude.{◌≡◌, ◌≢◌, ◌≤◌, IfNone, IfSome, List, ℕ};
 ghost use Rattle.stream_io.specs.Lines.{Whole};
-ghost use Rattle.graph_session.specs.Jobs.{question_command, sight_command};
+ghost use Rattle.graph_session.specs.Jobs.{question_command, snapshot_command};
 ghost use Rattle.plain_graph.specs.Lines.{HasForm, IsQuestion};
 ghost use Rattle.plain_graph.specs.declared.command.Command.{Command};
 ghost use Rattle.snap_store.specs.Layers.{SameSights};
@@ -16,14 +16,16 @@ ghost use Rattle.graph_session.specs.Settling.{IsParsed};
 ghost use Rattle.graph_session.specs.declared.health.Health.TheVariants as healths;
 
 use crate::answer::Answer;
-use crate::giving::give_answer;
-use crate::job::Sight;
+use crate::context::Context;
+use crate::giving::give_reply;
+use crate::job::SnapshotAct;
 use crate::question::Question;
 use crate::session::WRITER;
-use crate::sight_reading::read_store;
+use crate::sight_reading::{Reader, read_store};
 use crate::{Health, Session, Turn};
 use disk_model::Disk;
 use plain_graph::Refusal;
+use rec_bytes::Fault;
 use snap_store::SnapState;
 use stream_io::Sink;
 
@@ -31,33 +33,38 @@ impl<'d, D: Disk> Session<'d, D> {
     ghost use Rattle.graph_session.specs.Session.{HaveSameDisk, shared_view, view, with_sink};
 
     /// Answers a line about a snapshot, which only sessions that read have.
-    pub(crate) fn serve_sight<K: Sink>(
+    pub(crate) fn serve_snapshot<K: Sink>(
         &mut self,
         session: u8,
-        sight: Sight,
-        mark: &[u8],
+        act: SnapshotAct,
+        prefix: &[u8],
         output: &mut K,
     ) -> Turn
         requires session { session ≤ 7 }
-        ensures answers { (line : List ℕ) → IsParsed line session (sight_command sight) mark.now
+        ensures answers { (line : List ℕ) → IsParsed line session (snapshot_command act) prefix.now
             → AnswersLine D.Disk K.Sink (Whole line)
             (with_sink self.old output.old) (with_sink self.new output.new) result }
         ensures same_disk { HaveSameDisk self.old self.new }
     {
         if session == WRITER {
-            return give_answer(output, mark, Answer::Refused(Refusal::Writer));
+            return give_reply(
+                &mut self.buffer,
+                prefix,
+                output,
+                Answer::Refused(Refusal::Writer),
+            );
         }
-        if let Some(why) = self.refuses_sight(session, sight) {
-            return give_answer(output, mark, Answer::Refused(why));
+        if let Some(why) = self.refuses_snapshot(session, act) {
+            return give_reply(&mut self.buffer, prefix, output, Answer::Refused(why));
         }
-        match sight {
-            Sight::Snapshot => {
+        match act {
+            SnapshotAct::Take => {
                 let answer = self.take_snapshot(session);
-                give_answer(output, mark, answer)
+                give_reply(&mut self.buffer, prefix, output, answer)
             }
-            Sight::Release => {
+            SnapshotAct::Release => {
                 let answer = self.release_snapshot(session);
-                give_answer(output, mark, answer)
+                give_reply(&mut self.buffer, prefix, output, answer)
             }
         }
     }
@@ -67,43 +74,50 @@ impl<'d, D: Disk> Session<'d, D> {
         &mut self,
         reader: u8,
         question: Question<'_>,
-        mark: &[u8],
+        prefix: &[u8],
         output: &mut K,
     ) -> Turn
         requires form { HasForm (question_command question) }
         requires reader { IsReader reader }
         ensures answers { (line : List ℕ)
-            → IsParsed line reader (question_command question.entry) mark.now
+            → IsParsed line reader (question_command question.entry) prefix.now
             → AnswersLine D.Disk K.Sink (Whole line)
             (with_sink self.old output.old) (with_sink self.new output.new) result }
         ensures same_disk { HaveSameDisk self.old self.new }
     {
         if let Some(why) = self.refuses_reading(reader) {
-            return give_answer(output, mark, Answer::Refused(why));
+            return give_reply(&mut self.buffer, prefix, output, Answer::Refused(why));
         }
+        let context = Context {
+            alloc: self.alloc,
+            names: &self.names,
+        };
+        let seer = Reader {
+            context,
+            snaps: &self.snaps,
+            number: reader,
+        };
         read_store(
-            self.alloc,
+            seer,
             &mut self.store,
-            &self.snaps,
-            reader,
-            &self.names,
             question,
-            mark,
+            &mut self.buffer,
+            prefix,
             output,
         )
     }
 
     // Why a line about the reader's snapshot is refused, if it is.
-    fn refuses_sight(&self, reader: u8, sight: Sight) -> Option<Refusal>
+    fn refuses_snapshot(&self, reader: u8, act: SnapshotAct) -> Option<Refusal>
         requires { IsReader reader }
         ensures refused { IfSome result
-            (RefusesReader reader (shared_view self.now) (sight_command sight)) }
+            (RefusesReader reader (shared_view self.now) (snapshot_command act)) }
         ensures served { IfNone result
-            (ServesReader reader (shared_view self.now) (sight_command sight)) }
+            (ServesReader reader (shared_view self.now) (snapshot_command act)) }
     {
         match self.health {
             Health::Failed => Some(Refusal::Failed),
-            Health::Live => lacked_sight(sight, self.snaps.state(reader)),
+            Health::Live => lacked_snapshot(act, self.snaps.state(reader)),
         }
     }
 
@@ -131,7 +145,7 @@ impl<'d, D: Disk> Session<'d, D> {
     {
         match self.snaps.take(reader) {
             Ok(()) => Answer::Done,
-            Err(_) => Answer::NoMemory,
+            Err(_) => Answer::Fault(Fault::Memory),
         }
     }
 
@@ -150,16 +164,16 @@ impl<'d, D: Disk> Session<'d, D> {
 }
 
 // Why a snapshot in this state is neither taken nor released, if it isn't.
-fn lacked_sight(sight: Sight, state: SnapState) -> Option<Refusal>
-    ensures lacks { IfSome result (LacksSnapshot state (sight_command sight)) }
-    ensures suits { IfNone result (SuitsSnapshot state (sight_command sight)) }
+fn lacked_snapshot(act: SnapshotAct, state: SnapState) -> Option<Refusal>
+    ensures lacks { IfSome result (LacksSnapshot state (snapshot_command act)) }
+    ensures suits { IfNone result (SuitsSnapshot state (snapshot_command act)) }
 {
-    match sight {
-        Sight::Snapshot => match state {
+    match act {
+        SnapshotAct::Take => match state {
             SnapState::Open => Some(Refusal::SnapshotOpen),
             SnapState::Absent | SnapState::Ended => None,
         },
-        Sight::Release => match state {
+        SnapshotAct::Release => match state {
             SnapState::Absent => Some(Refusal::NoSnapshot),
             SnapState::Open | SnapState::Ended => None,
         },

@@ -4,10 +4,11 @@ ghost use Rattle.plain_graph.specs.Forms.{IsShown};
 ghost use Rattle.plain_graph.specs.LineChanges.{mutated_reply};
 ghost use Rattle.plain_graph.specs.Reply.{marked_text};
 ghost use Rattle.graph_session.specs.Answer.{Gives};
+ghost use Rattle.graph_session.specs.ReplyLines.{HaveSameSink};
 ghost use Rattle.graph_session.specs.Results.{AreShown-prop};
 
 use crate::Turn;
-use crate::line_buffer::LineBuffer;
+use crate::reply_lines::ReplyLines;
 use plain_graph::{Item, end_of_results};
 use stream_io::Sink;
 
@@ -28,17 +29,19 @@ impl Results {
     }
 
     /// Gives a line for each result to the sink, and the end. It takes no memory.
-    pub(crate) fn give<K: Sink>(&self, output: &mut K, mark: &[u8]) -> Turn
-        ensures { Gives K.Sink (marked_text mark.now (mutated_reply self.now.items.items))
-            output.old output.new result }
+    pub(crate) fn give<K: Sink>(&self, lines: &mut ReplyLines<'_, K>) -> Turn
+        ensures gives { Gives K.Sink
+            (marked_text lines.old.prefix.now (mutated_reply self.now.items.items))
+            lines.old.output.now lines.new.output.now result }
+        ensures same_sink { HaveSameSink lines.old lines.new }
     {
-        let mut lines = LineBuffer::new(mark);
+        lines.begin();
         for item in &self.items {
-            match lines.add_result(output, item) {
+            match lines.add_result(item) {
                 Turn::Go => {}
                 turn => return turn,
             }
         }
-        lines.finish(output, end_of_results())
+        lines.finish(end_of_results())
     }
 }

@@ -14,7 +14,7 @@ ghost use Rattle.recovery.specs.Finding.{IsCareful};
 ghost use Rattle.graph_session.specs.Answer.{AnswersLine};
 ghost use Rattle.graph_session.specs.Answering.{reply_of};
 ghost use Rattle.graph_session.specs.Console.{HasNoDraft};
-ghost use Rattle.graph_session.specs.Settling.{IsParsed, ServesAct, SettlesCommand, told_of};
+ghost use Rattle.graph_session.specs.Settling.{IsParsed, ServesAct, SettlesCommand};
 ghost use Rattle.graph_session.specs.SnapshotEffects.{KeepsOlds};
 ghost use Rattle.graph_session.specs.Tapping.{AllShip-prop, HasRoom, Takes, TapsAnswer};
 ghost use Rattle.graph_session.specs.Tapping.{TapsCommand, TapsLine};
@@ -27,13 +27,15 @@ ghost use Rattle.graph_session.specs.declared.job.Act.TheVariants as acts;
 ghost use Rattle.graph_session.specs.declared.health.Health.TheVariants as healths;
 
 use crate::answer::Answer;
-use crate::giving::give_answer;
+use crate::context::Context;
+use crate::giving::give_reply;
 use crate::job::{Act, Job};
+use crate::line_buffer::LineBuffer;
 use crate::question::Question;
-use crate::questions::answer_question;
+use crate::questions::reply_question;
 use crate::{Health, Turn};
 use disk_model::Disk;
-use gremlin_parse::{LineFault, Parsed, named_session, parse_line};
+use gremlin_parse::{Parsed, named_session, parse_line};
 use name_store::Names;
 use plain_graph::{Command, Refusal, mark_of};
 use rec_bytes::WriteSet;
@@ -57,6 +59,8 @@ pub struct Session<'d, D: Disk> {
     pub(crate) health: Health,
     /// The snapshots of the sessions that read, with the old records that they need.
     pub(crate) snaps: Snaps,
+    /// Where the lines of a reply are gathered. Each reply begins with none.
+    pub(crate) buffer: LineBuffer,
     pub(crate) alloc: Global,
     ghost light: { weight ≤ 2048 },
     ghost standing: { health ≡ healths.Live → IsTrue store.base.live },
@@ -116,7 +120,12 @@ impl<'d, D: Disk> Session<'d, D> {
         ensures no_draft { HasNoDraft (view self.old) → HasNoDraft (view self.new) }
         ensures same_disk { HaveSameDisk self.old self.new }
     {
-        give_answer(output, &[], Answer::Refused(Refusal::LongLine))
+        give_reply(
+            &mut self.buffer,
+            &[],
+            output,
+            Answer::Refused(Refusal::LongLine),
+        )
     }
 
     /// Ends the sessions, drops an open transaction, and hands the disk back.
@@ -151,29 +160,34 @@ impl<'d, D: Disk> Session<'d, D> {
         ensures no_draft { HasNoDraft (view self.old) → HasNoDraft (view self.new) }
         ensures same_disk { HaveSameDisk self.old self.new }
     {
-        let mark = mark_of(named_session(line));
+        let prefix = mark_of(named_session(line));
         match parse_line(self.alloc, line) {
             Ok(Parsed { session, command }) => {
-                self.answer(session, &command, mark.as_bytes(), output, tap)
+                self.answer(session, &command, prefix.as_bytes(), output, tap)
             }
-            Err(fault) => give_answer(output, mark.as_bytes(), answer_of(fault)),
+            Err(fault) => give_reply(
+                &mut self.buffer,
+                prefix.as_bytes(),
+                output,
+                Answer::from(fault),
+            ),
         }
     }
 
-    // Answers a line of a session that spells this command. The mark stands before each line of its
-    // reply.
+    // Answers a line of a session that spells this command. The prefix stands before each line of
+    // its reply.
     fn answer<K: Sink>(
         &mut self,
         session: u8,
         command: &Command,
-        mark: &[u8],
+        prefix: &[u8],
         output: &mut K,
         tap: &mut Option<WriteSet>,
     ) -> Turn
         requires room { HasRoom tap.old }
         requires form { HasForm command.now }
         requires session { session ≤ 7 }
-        ensures answers { (line : List ℕ) → IsParsed line session command.now mark.now
+        ensures answers { (line : List ℕ) → IsParsed line session command.now prefix.now
             → TapsAnswer D.Disk K.Sink (Whole line)
             (with_sink self.old output.old) (with_sink self.new output.new) result
             tap.old tap.new }
@@ -184,9 +198,9 @@ impl<'d, D: Disk> Session<'d, D> {
         match Job::of(command) {
             Job::Blank => Turn::Go,
             Job::Quit => Turn::Quit,
-            Job::Sight(sight) => self.serve_sight(session, sight, mark, output),
-            Job::Act(act) => self.serve_act(session, act, mark, output, tap),
-            Job::Question(question) => self.serve_question(session, question, mark, output),
+            Job::Snapshot(act) => self.serve_snapshot(session, act, prefix, output),
+            Job::Act(act) => self.serve_act(session, act, prefix, output, tap),
+            Job::Question(question) => self.serve_question(session, question, prefix, output),
         }
     }
 
@@ -195,7 +209,7 @@ impl<'d, D: Disk> Session<'d, D> {
         &mut self,
         session: u8,
         act: Act<'_>,
-        mark: &[u8],
+        prefix: &[u8],
         output: &mut K,
         tap: &mut Option<WriteSet>,
     ) -> Turn
@@ -203,7 +217,7 @@ impl<'d, D: Disk> Session<'d, D> {
         requires form { HasForm (act_command act) }
         requires session { session ≤ 7 }
         ensures answers { (line : List ℕ)
-            → IsParsed line session (act_command act.entry) mark.now
+            → IsParsed line session (act_command act.entry) prefix.now
             → TapsAnswer D.Disk K.Sink (Whole line)
             (with_sink self.old output.old) (with_sink self.new output.new) result
             tap.old tap.new }
@@ -212,13 +226,23 @@ impl<'d, D: Disk> Session<'d, D> {
         ensures same_disk { HaveSameDisk self.old self.new }
     {
         if session != WRITER {
-            return give_answer(output, mark, Answer::Refused(Refusal::ReadOnly));
+            return give_reply(
+                &mut self.buffer,
+                prefix,
+                output,
+                Answer::Refused(Refusal::ReadOnly),
+            );
         }
         if self.refuses(act) {
-            return give_answer(output, mark, Answer::Refused(Refusal::Failed));
+            return give_reply(
+                &mut self.buffer,
+                prefix,
+                output,
+                Answer::Refused(Refusal::Failed),
+            );
         }
         let answer = self.settle(act, tap);
-        give_answer(output, mark, answer)
+        give_reply(&mut self.buffer, prefix, output, answer)
     }
 
     // Whether the disk has failed the session, which then refuses the act.
@@ -261,48 +285,41 @@ impl<'d, D: Disk> Session<'d, D> {
         &mut self,
         session: u8,
         question: Question<'_>,
-        mark: &[u8],
+        prefix: &[u8],
         output: &mut K,
     ) -> Turn
         requires form { HasForm (question_command question) }
         requires session { session ≤ 7 }
         ensures answers { (line : List ℕ)
-            → IsParsed line session (question_command question.entry) mark.now
+            → IsParsed line session (question_command question.entry) prefix.now
             → AnswersLine D.Disk K.Sink (Whole line)
             (with_sink self.old output.old) (with_sink self.new output.new) result }
         ensures same_disk { HaveSameDisk self.old self.new }
     {
         if session != WRITER {
-            return self.read_snapshot(session, question, mark, output);
+            return self.read_snapshot(session, question, prefix, output);
         }
         match self.health {
-            Health::Failed => give_answer(output, mark, Answer::Refused(Refusal::Failed)),
+            Health::Failed => give_reply(
+                &mut self.buffer,
+                prefix,
+                output,
+                Answer::Refused(Refusal::Failed),
+            ),
             Health::Live => {
-                answer_question(
-                    self.alloc,
+                let context = Context {
+                    alloc: self.alloc,
+                    names: &self.names,
+                };
+                reply_question(
+                    context,
                     &mut self.store,
-                    &self.names,
                     question,
-                    mark,
+                    &mut self.buffer,
+                    prefix,
                     output,
                 )
             }
         }
-    }
-}
-
-// The answer of a line that spells no command.
-fn answer_of(fault: LineFault) -> Answer
-    ensures { result ≡ told_of fault }
-{
-    match fault {
-        LineFault::Memory => Answer::NoMemory,
-        LineFault::Syntax { at } => Answer::Refused(Refusal::Syntax { at }),
-        LineFault::NameLength { at } => Answer::Refused(Refusal::NameLength { at }),
-        LineFault::TextLength { at } => Answer::Refused(Refusal::TextLength { at }),
-        LineFault::NumberRange { at } => Answer::Refused(Refusal::NumberRange { at }),
-        LineFault::StepKind { at } => Answer::Refused(Refusal::StepKind { at }),
-        LineFault::TooManySteps { at } => Answer::Refused(Refusal::TooManySteps { at }),
-        LineFault::TimesRange { at } => Answer::Refused(Refusal::TimesRange { at }),
     }
 }

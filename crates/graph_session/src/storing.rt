@@ -13,7 +13,7 @@ use crate::{Health, Session};
 use disk_model::Disk;
 use fault_count::Failed;
 use plain_graph::Refusal;
-use rec_bytes::RowFault;
+use rec_bytes::{Fault, RowFault};
 use txn_core::AgainFault;
 
 impl<'d, D: Disk> Session<'d, D> {
@@ -35,7 +35,7 @@ impl<'d, D: Disk> Session<'d, D> {
             Ok(()) => Answer::Done,
             Err(Failed) => {
                 self.health = Health::Failed;
-                Answer::DiskFailed
+                Answer::Fault(Fault::Disk)
             }
         }
     }
@@ -55,8 +55,8 @@ impl<'d, D: Disk> Session<'d, D> {
         self.health = Health::Failed;
         match self.store.recover_again() {
             Ok(()) => self.name_again(),
-            Err(AgainFault::Disk) => Answer::DiskFailed,
-            Err(AgainFault::Damaged(damage)) => Answer::Damaged(damage),
+            Err(AgainFault::Disk) => Answer::Fault(Fault::Disk),
+            Err(AgainFault::Damaged(damage)) => Answer::Fault(Fault::Damaged(damage)),
         }
     }
 
@@ -78,8 +78,8 @@ impl<'d, D: Disk> Session<'d, D> {
                 self.health = Health::Live;
                 Answer::Done
             }
-            Err(RowFault::Disk) => Answer::DiskFailed,
-            Err(RowFault::Damaged(damage)) => Answer::Damaged(damage),
+            Err(RowFault::Disk) => Answer::Fault(Fault::Disk),
+            Err(RowFault::Damaged(damage)) => Answer::Fault(Fault::Damaged(damage)),
         }
     }
 }

@@ -12,7 +12,7 @@ use crate::{Health, Session};
 use disk_model::Disk;
 use fault_count::Failed;
 use plain_graph::{Refusal, START_WEIGHT};
-use rec_bytes::{NAMES, Reads, WriteSet};
+use rec_bytes::{Fault, NAMES, Reads, WriteSet};
 
 impl<'d, D: Disk> Session<'d, D> {
     ghost use Rattle.graph_session.specs.Session.{HaveSameDisk, shared_view, view};
@@ -56,7 +56,7 @@ impl<'d, D: Disk> Session<'d, D> {
             Err(Failed) => {
                 forget(tap);
                 self.health = Health::Failed;
-                Answer::DiskFailed
+                Answer::Fault(Fault::Disk)
             }
         }
     }

@@ -33,7 +33,8 @@ pub(crate) fn number_of(names: &Names, label: &Text) -> u32
 
 /// The number of the type that a line names, or none for all types.
 pub(crate) fn number_in(names: &Names, label: &Option<Text>) -> Option<u32>
-    ensures stands { (records : Records) (shape : AShape) → IsNamedStore records shape names.now.names
+    ensures stands { (records : Records) (shape : AShape)
+        → IsNamedStore records shape names.now.names
         → StandFor records (option_list result) (types_of label.now) }
     ensures given { is_some result ≡ is_some label.now }
 {

@@ -12,66 +12,69 @@ ghost use Rattle.graph_session.specs.IndexLists.{
   with_place,
 };
 ghost use Rattle.graph_session.specs.Questions.{GivesReading};
+ghost use Rattle.graph_session.specs.ReplyLines.{HaveSameSink};
 
 use crate::Turn;
+use crate::answer::Answer;
+use crate::context::Context;
 use crate::giving::give_answer;
-use crate::line_buffer::LineBuffer;
+use crate::reply_lines::ReplyLines;
 use crate::type_numbers::name_count;
-use crate::unknown::answer_of_read;
 use name_store::Names;
 use plain_graph::end_of_results;
 use prop_index::{IndexPair, indexes};
 use rec_bytes::Reads;
-use std::alloc::Global;
 use stream_io::Sink;
 
 /// Gives the indexes of the graph, by label and then by key in the order of their names. It reads
 /// the definitions, before the first line.
 pub(crate) fn give_indexes<R: Reads, K: Sink>(
-    alloc: Global,
+    context: Context<'_>,
     space: &mut R,
-    names: &Names,
-    mark: &[u8],
-    output: &mut K,
+    lines: &mut ReplyLines<'_, K>,
 ) -> Turn
-    ensures gives { GivesReading R.Reads K.Sink names.now.names commands.ViewIndexes
-        mark.now space.old space.new output.old output.new result }
+    ensures gives { GivesReading R.Reads K.Sink context.entry.names.now.names
+        commands.ViewIndexes
+        lines.old.prefix.now space.old space.new
+        lines.old.output.now lines.new.output.now result }
+    ensures same_sink { HaveSameSink lines.old lines.new }
     ensures cost { ReadsAtMost 17 (R.state space.old) (R.state space.new) }
 {
-    let count = name_count(space, names);
-    match indexes(alloc, space) {
-        Ok(pairs) => give_pairs(&pairs, names, count, mark, output),
-        Err(fault) => give_answer(output, mark, answer_of_read(fault)),
+    let count = name_count(space, context.names);
+    match indexes(context.alloc, space) {
+        Ok(pairs) => give_pairs(&pairs, context.names, count, lines),
+        Err(fault) => give_answer(lines, Answer::from(fault)),
     }
 }
 
 /// Gives a line for each of these pairs, and the end. A pair with a number that isn't below the
-/// mark is no index.
+/// count is no index.
 fn give_pairs<K: Sink>(
     pairs: &[IndexPair],
     names: &Names,
     count: u32,
-    mark: &[u8],
-    output: &mut K,
+    lines: &mut ReplyLines<'_, K>,
 ) -> Turn
     requires few { count ≤ most_names }
     requires named { count ≤ length names.now.names }
-    ensures { Gives K.Sink
-        (marked_text mark.now (Told (index_lines names.now.names count pairs.now) end_text))
-        output.old output.new result }
+    ensures gives { Gives K.Sink
+        (marked_text lines.old.prefix.now
+        (Told (index_lines names.now.names count pairs.now) end_text))
+        lines.old.output.now lines.new.output.now result }
+    ensures same_sink { HaveSameSink lines.old lines.new }
 {
-    let mut lines = LineBuffer::new(mark);
+    lines.begin();
     let mut from = 0;
     'each: while let Some(place) = next_place(pairs, count, from) {
         let label = names.text(place / count);
         let key = names.text(place % count);
-        match lines.add_index(output, label, key) {
+        match lines.add_index(label, key) {
             Turn::Go => {}
             turn => return turn,
         }
         from = place + 1;
     }
-    lines.finish(output, end_of_results())
+    lines.finish(end_of_results())
 }
 
 /// The first place from one on that a pair has.

@@ -4,9 +4,10 @@ ghost use Rattle.plain_graph.specs.declared.command.Command.TheVariants as comma
 ghost use Rattle.graph_session.specs.Answer.{Gives};
 ghost use Rattle.graph_session.specs.NameLists.{name_text};
 ghost use Rattle.graph_session.specs.Questions.{GivesReading};
+ghost use Rattle.graph_session.specs.ReplyLines.{HaveSameSink};
 
 use crate::Turn;
-use crate::line_buffer::LineBuffer;
+use crate::reply_lines::ReplyLines;
 use crate::type_numbers::name_count;
 use name_store::Names;
 use plain_graph::end_of_results;
@@ -17,29 +18,32 @@ use stream_io::Sink;
 pub(crate) fn give_names<R: Reads, K: Sink>(
     space: &mut R,
     names: &Names,
-    mark: &[u8],
-    output: &mut K,
+    lines: &mut ReplyLines<'_, K>,
 ) -> Turn
     ensures gives { GivesReading R.Reads K.Sink names.now.names commands.ViewNames
-        mark.now space.old space.new output.old output.new result }
+        lines.old.prefix.now space.old space.new
+        lines.old.output.now lines.new.output.now result }
+    ensures same_sink { HaveSameSink lines.old lines.new }
     ensures cost { space.new ≡ space.old }
 {
-    give_first(names, name_count(space, names), mark, output)
+    give_first(names, name_count(space, names), lines)
 }
 
 /// Gives so many of the first names, and the end.
-fn give_first<K: Sink>(names: &Names, count: u32, mark: &[u8], output: &mut K) -> Turn
+fn give_first<K: Sink>(names: &Names, count: u32, lines: &mut ReplyLines<'_, K>) -> Turn
     requires { count ≤ length names.now.names }
-    ensures { Gives K.Sink
-        (marked_text mark.now (Told (map name_text (take count names.now.names)) end_text))
-        output.old output.new result }
+    ensures gives { Gives K.Sink
+        (marked_text lines.old.prefix.now
+        (Told (map name_text (take count names.now.names)) end_text))
+        lines.old.output.now lines.new.output.now result }
+    ensures same_sink { HaveSameSink lines.old lines.new }
 {
-    let mut lines = LineBuffer::new(mark);
+    lines.begin();
     for id in 0..count {
-        match lines.add_name(output, names.text(id)) {
+        match lines.add_name(names.text(id)) {
             Turn::Go => {}
             turn => return turn,
         }
     }
-    lines.finish(output, end_of_results())
+    lines.finish(end_of_results())
 }

@@ -1,11 +1,14 @@
 ghost use Rattle.std.specs.Prelude.{List, ℕ};
 ghost use Rattle.plain_graph.specs.declared.command.Command.TheVariants as commands;
 ghost use Rattle.graph_session.specs.Questions.{GivesReading};
+ghost use Rattle.graph_session.specs.ReplyLines.{HaveSameSink};
 
 use crate::Turn;
-use crate::giving::give_line;
-use plain_graph::{broken, disk_fault, no_memory, sound};
-use rec_bytes::{Reads, SpaceFault};
+use crate::answer::Answer;
+use crate::giving::{give_answer, give_line};
+use crate::reply_lines::ReplyLines;
+use plain_graph::{broken, sound};
+use rec_bytes::{Fault, Reads};
 use std::alloc::Global;
 use store_check::{Verdict, check};
 use stream_io::Sink;
@@ -15,22 +18,21 @@ use stream_io::Sink;
 pub(crate) fn give_verdict<R: Reads, K: Sink>(
     alloc: Global,
     space: &mut R,
-    mark: &[u8],
-    output: &mut K,
+    lines: &mut ReplyLines<'_, K>,
 ) -> Turn
-    ensures { (names : List (List ℕ)) → GivesReading R.Reads K.Sink names commands.Check
-        mark.now space.old space.new output.old output.new result }
+    ensures gives { (names : List (List ℕ)) → GivesReading R.Reads K.Sink names commands.Check
+        lines.old.prefix.now space.old space.new
+        lines.old.output.now lines.new.output.now result }
+    ensures same_sink { HaveSameSink lines.old lines.new }
 {
     match check(alloc, space) {
-        Ok(Verdict::Sound) => give_line(output, mark, sound()),
+        Ok(Verdict::Sound) => give_line(lines, sound()),
         Ok(Verdict::Broken(damage)) => {
             give_line(
-                output,
-                mark,
+                lines,
                 broken(damage.file, damage.id, damage.rule).as_bytes(),
             )
         }
-        Err(SpaceFault::Memory) => give_line(output, mark, no_memory()),
-        Err(SpaceFault::Disk) => give_line(output, mark, disk_fault()),
+        Err(fault) => give_answer(lines, Answer::Fault(Fault::from(fault))),
     }
 }

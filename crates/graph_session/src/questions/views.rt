@@ -6,69 +6,71 @@ ghost use Rattle.store_rules.specs.Graph.{graph_of};
 ghost use Rattle.traversal_run.specs.Reading.{IsNamedStore, IsRead};
 ghost use Rattle.traversal_run.specs.Viewing.{view_reads};
 ghost use Rattle.graph_session.specs.Questions.{GivesReading};
+ghost use Rattle.graph_session.specs.ReplyLines.{HaveSameSink};
 ghost use Rattle.graph_session.specs.Views.{IsViewAnswer, IsViewRefusal, MakesElement};
 ghost use Rattle.graph_session.specs.Views.{no_element};
 
 use crate::Turn;
 use crate::answer::Answer;
+use crate::context::Context;
 use crate::giving::{give_answer, give_line};
-use crate::unknown::answer_of_read;
-use name_store::Names;
+use crate::reply_lines::ReplyLines;
 use plain_graph::{Refusal, Target, making_line};
-use rec_bytes::Reads;
-use std::alloc::Global;
+use rec_bytes::{Fault, Reads};
 use stream_io::Sink;
 use traversal_run::view_element;
 
 /// Gives an element, as the line that makes it again.
 pub(crate) fn give_view<R: Reads, K: Sink>(
-    alloc: Global,
+    context: Context<'_>,
     space: &mut R,
-    names: &Names,
     target: &Target,
-    mark: &[u8],
-    output: &mut K,
+    lines: &mut ReplyLines<'_, K>,
 ) -> Turn
-    ensures gives { GivesReading R.Reads K.Sink names.now.names (commands.View target.now)
-        mark.now space.old space.new output.old output.new result }
+    ensures gives { GivesReading R.Reads K.Sink context.entry.names.now.names
+        (commands.View target.now)
+        lines.old.prefix.now space.old space.new
+        lines.old.output.now lines.new.output.now result }
+    ensures same_sink { HaveSameSink lines.old lines.new }
     ensures cost { ReadsAtMost 737 (R.state space.old) (R.state space.new) }
 {
-    match line_of(alloc, space, names, target) {
-        Ok(line) => give_line(output, mark, &line),
-        Err(answer) => give_answer(output, mark, answer),
+    match line_of(context, space, target) {
+        Ok(line) => give_line(lines, &line),
+        Err(answer) => give_answer(lines, answer),
     }
 }
 
 /// The line that makes an element again, or the answer in its place.
 fn line_of<R: Reads>(
-    alloc: Global,
+    context: Context<'_>,
     space: &mut R,
-    names: &Names,
     target: &Target,
 ) -> Result<Vec<u8>, Answer>
     ensures makes { IfOk result (λ line.
-        MakesElement R.Reads names.now.names target.now space.old line.items) }
+        MakesElement R.Reads context.entry.names.now.names target.now space.old line.items) }
     ensures refused { R.tells
-        → IsNamedStore (R.state space.old).records (R.state space.old).shape names.now.names
+        → IsNamedStore (R.state space.old).records (R.state space.old).shape
+        context.entry.names.now.names
         → IfErr result (IsViewRefusal (graph_of (R.state space.old).records) target.now) }
     ensures answer { IfErr result
         (IsViewAnswer R.Reads target.now space.old space.new) }
     // One read of the element, and one for each property and each block of their texts.
     ensures cost { R.tells
-        → IsNamedStore (R.state space.old).records (R.state space.old).shape names.now.names
+        → IsNamedStore (R.state space.old).records (R.state space.old).shape
+        context.entry.names.now.names
         → OnOk result (ReadsAtMost
         (view_reads (properties_at (graph_of (R.state space.old).records) target.now))
         (R.state space.old) (R.state space.new)) }
     ensures at_most { ReadsAtMost 737 (R.state space.old) (R.state space.new) }
     ensures read { IsRead R.Reads space.old space.new }
 {
-    match view_element(alloc, space, names, target) {
-        Ok(Some((item, map))) => match making_line(alloc, &item, &map) {
+    match view_element(context.alloc, space, context.names, target) {
+        Ok(Some((item, map))) => match making_line(context.alloc, &item, &map) {
             Ok(line) => Ok(line),
-            Err(_) => Err(Answer::NoMemory),
+            Err(_) => Err(Answer::Fault(Fault::Memory)),
         },
         Ok(None) => Err(Answer::Refused(no_element(target))),
-        Err(fault) => Err(answer_of_read(fault)),
+        Err(fault) => Err(Answer::from(fault)),
     }
 }
 

@@ -16,9 +16,9 @@ lent P old was now new first last holds = subst (λ x. P was x) (sym last) (subs
 
 pub returns-clause-gives : goal.returns-clause-gives
 returns-clause-gives g c =
-    let given = c.answer_question.ensures in
+    let given = c.answer_question.ensures.gives in
     let name = sym c.view-view.ensures.same_space ∙ sym given.read.onward.same in
-    let names = c.args.names.now.names in
+    let names = c.args.reader.context.names.now.names in
     let command = question_command c.args.question in
     record {
       reply = given.reply;
@@ -35,12 +35,12 @@ returns-clause-gives g c =
 
 pub returns-clause-onward : goal.returns-clause-onward
 returns-clause-onward g c =
-    let given = c.answer_question.ensures in
+    let given = c.answer_question.ensures.gives in
     let name = sym c.view-view.ensures.same_space ∙ sym given.read.onward.same in
     lent g.R.Reads.onward _ _ _ _ c.view-view.ensures.committed (search rules) given.read.onward.beneath
 
 pub returns-clause-idle : goal.returns-clause-idle
 returns-clause-idle g c = λ spared.
-    let given = c.answer_question.ensures in
+    let given = c.answer_question.ensures.gives in
     let name = sym c.view-view.ensures.same_space ∙ sym given.read.onward.same in
     lent (λ old new. new ≡ old) _ _ _ _ c.view-view.ensures.committed (search rules) (ap (λ (view : View _). view.committed.now) (given.idle spared))

@@ -21,9 +21,9 @@ returns-in-Ok-clause-gives g c =
     (λ told store. met.missing told store.store)
     (λ told store.
     ap (λ (edges : ℕ). one_line (degree_text edges))
-    (met.rows told store.store ∙ rows-degree s.records s.shape store.store (option_list c.number_in.result) c.args.label.now
-    (c.number_in.ensures.stands s.records s.shape store) c.args.direction c.args.id))
-    (rw (c.as_bytes.ensures, c.degree-in-Ok.ensures) at c.give_line.ensures)
+    (met.rows told store.store ∙ rows-degree s.records s.shape store.store (option_list c.number_in-number.result) c.args.label.now
+    (c.number_in-number.ensures.stands s.records s.shape store) c.args.direction c.args.id))
+    (rw (c.as_bytes.ensures, c.degree-in-Ok.ensures) at c.give_line.ensures.gives)
 
 pub returns-in-Err-clause-gives : goal.returns-in-Err-clause-gives
 returns-in-Err-clause-gives g c =
@@ -33,17 +33,17 @@ returns-in-Err-clause-gives g c =
     c.in-Err.fault (λ disk. met.cause.disk (ap Err disk))
     (λ told store. one-missing ℕ c.in-Err.fault c.args.id (graph_of s.records) (met.missing told store.store))
     (λ told. one-blamed s c.args.id c.in-Err.fault (met.damaged told))
-    (rw c.answer_of.ensures at c.give_answer.ensures)
+    (rw c.from.ensures at c.give_answer.ensures.gives)
 
 pub returns-in-Ok-clause-cost : goal.returns-in-Ok-clause-cost
 returns-in-Ok-clause-cost g c =
     λ tells store.
     let s = g.R.Reads.state c.args.space.now in
     let met = c.in-Ok.ensures.reads tells store.store in
-    let stand = c.number_in.ensures.stands s.records s.shape store in
-    ByNumbers (option_list c.number_in.result) stand (record { count = met.count; within = met.within; is = met.is })
+    let stand = c.number_in-number.ensures.stands s.records s.shape store in
+    ByNumbers (option_list c.number_in-number.result) stand (record { count = met.count; within = met.within; is = met.is })
     (λ unknown.
-    let one = c.in-Ok.ensures.unknown (unknown_numbers_in s.records c.number_in.result c.args.label.now c.number_in.ensures.given stand unknown) in
+    let one = c.in-Ok.ensures.unknown (unknown_numbers_in s.records c.number_in-number.result c.args.label.now c.number_in-number.ensures.given stand unknown) in
     record { count = one.count; within = one.within; is = one.is })
 
 pub returns-in-Err-clause-cost : goal.returns-in-Err-clause-cost
@@ -51,8 +51,8 @@ returns-in-Err-clause-cost g c =
     λ tells store.
     let s = g.R.Reads.state c.args.space.now in
     let met = c.in-Err.ensures.reads tells store.store in
-    let stand = c.number_in.ensures.stands s.records s.shape store in
-    ByNumbers (option_list c.number_in.result) stand (record { count = met.count; within = met.within; is = met.is })
+    let stand = c.number_in-number.ensures.stands s.records s.shape store in
+    ByNumbers (option_list c.number_in-number.result) stand (record { count = met.count; within = met.within; is = met.is })
     (λ unknown.
-    let one = c.in-Err.ensures.unknown (unknown_numbers_in s.records c.number_in.result c.args.label.now c.number_in.ensures.given stand unknown) in
+    let one = c.in-Err.ensures.unknown (unknown_numbers_in s.records c.number_in-number.result c.args.label.now c.number_in-number.ensures.given stand unknown) in
     record { count = one.count; within = one.within; is = one.is })

@@ -11,7 +11,7 @@ returns-clause-found g c = λ tells store.
     let s = g.R.Reads.state c.args.space.now in
     ok-then c.expand.result
     (λ (rows : Vec EdgeRow Global) found.
-    items-expansion s.records s.shape c.args.names.now.names store c.number_of.result c.args.label.now (c.number_of.ensures s.records s.shape store)
+    items-expansion s.records s.shape c.args.context.names.now.names store c.number_of-number.result c.args.label.now (c.number_of-number.ensures s.records s.shape store)
     c.args.direction c.args.id rows.items (found store.store))
     (c.expand.ensures.rows tells)
 
@@ -23,8 +23,8 @@ returns-clause-cost g c =
     λ tells store.
     let s = g.R.Reads.state c.args.space.now in
     let met = c.expand.ensures.reads tells store.store in
-    let stand = c.number_of.ensures s.records s.shape store in
-    ByNumbers (c.number_of.result ∷ []) stand (record { count = met.count; within = met.within; is = met.is })
+    let stand = c.number_of-number.ensures s.records s.shape store in
+    ByNumbers (c.number_of-number.result ∷ []) stand (record { count = met.count; within = met.within; is = met.is })
     (λ unknown.
-    let one = c.expand.ensures.unknown (unknown_numbers s.records c.number_of.result [] (c.args.label.now ∷ []) stand unknown) in
+    let one = c.expand.ensures.unknown (unknown_numbers s.records c.number_of-number.result [] (c.args.label.now ∷ []) stand unknown) in
     record { count = one.count; within = one.within; is = one.is })

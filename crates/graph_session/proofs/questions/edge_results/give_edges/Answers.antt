@@ -20,7 +20,7 @@ asks id direction label = record { question = tt; some = tt; reading = listed []
 pub returns-in_default-clause-gives : goal.returns-in_default-clause-gives
 returns-in_default-clause-gives g c =
     gives-unknown (asks c.args.id c.args.direction c.args.label.now) (is_read-none g.R.Reads g.met.R.Reads.stays_onward c.args.space.now) tt faults.Memory
-    (λ e. cc) (λ told store id e. cc) (λ told. tt) (rw c.no_memory.ensures at c.give_line.ensures)
+    (λ e. cc) (λ told store id e. cc) (λ told. tt) c.give_answer.ensures.gives
 
 pub returns-in-Ok-edges_of-clause-gives : goal.returns-in-Ok-edges_of-clause-gives
 returns-in-Ok-edges_of-clause-gives g c =
@@ -30,7 +30,7 @@ returns-in-Ok-edges_of-clause-gives g c =
     (items_of c.args.label.now rows, refl) refl
     (λ told store. met.missing told store)
     (λ told store. ap (λ (found : List Item). listed (map item_line found)) (met.found told store))
-    (rw (c.deref.ensures.value, c.in-Ok.ensures) at c.give_rows.ensures)
+    (rw (c.deref.ensures.value, c.in-Ok.ensures) at c.give_rows.ensures.gives)
 
 pub returns-in-Err-clause-gives : goal.returns-in-Err-clause-gives
 returns-in-Err-clause-gives g c =
@@ -40,7 +40,7 @@ returns-in-Err-clause-gives g c =
     gives-unknown (asks c.args.id c.args.direction c.args.label.now) met.read tt fault (λ disk. met.cause.disk (ap Err disk))
     (λ told store. one-missing (Vec EdgeRow Global) fault c.args.id (graph_of s.records) (met.missing told store))
     (λ told. one-blamed s c.args.id fault (met.damaged told))
-    (rw c.answer_of.ensures at c.give_answer.ensures)
+    (rw c.from.ensures at c.give_answer-in-Err.ensures.gives)
 
 pub returns-in_default-clause-cost : goal.returns-in_default-clause-cost
 returns-in_default-clause-cost g c =

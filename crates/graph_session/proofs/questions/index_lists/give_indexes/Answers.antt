@@ -10,7 +10,7 @@ use Rattle.graph_session.proofs.questions.index_lists.give_indexes.Goals as goal
 pub returns-in-Ok-clause-gives : goal.returns-in-Ok-clause-gives
 returns-in-Ok-clause-gives g c =
     let s = g.R.Reads.state c.args.space.now in
-    let names = c.args.names.now.names in
+    let names = c.args.context.names.now.names in
     let count = c.name_count-count.result in
     let met = c.in-Ok.ensures in
     let pairs = c.in-Ok.pairs.items in
@@ -19,11 +19,11 @@ returns-in-Ok-clause-gives g c =
     (λ told store.
     ap listed
     ((λ i. index_lines names (c.name_count-count.ensures.is store i) (met.listed told _ store.indexes i)) ∙ sym (graph-lines s.records s.shape names store)))
-    (rw c.deref.ensures.value at c.give_pairs.ensures)
+    (rw c.deref.ensures.value at c.give_pairs.ensures.gives)
 
 pub returns-in-Err-clause-gives : goal.returns-in-Err-clause-gives
 returns-in-Err-clause-gives g c =
     let met = c.in-Err.ensures in
     asks-unread asks-indexes (is_read-gets g.R.Reads met.at_most.count met.at_most.is met.onward met.cause.later) c.in-Err.fault
     (λ disk. met.cause.disk (ap Err disk))
-    (λ told. met.damaged told) (rw c.answer_of_read.ensures at c.give_answer.ensures)
+    (λ told. met.damaged told) (rw c.from.ensures at c.give_answer.ensures.gives)

@@ -1,18 +1,18 @@
-use Rattle.std.proofs.Common.{◌≡◌, ◌+◌, ◌≤◌, ◌*◌, ◌/◌, ◌%◌, ℕ, Some, List, [], slice_get, sym, subst, arith}
+use Rattle.std.proofs.Common.{◌≡◌, ◌∙◌, ◌+◌, ◌≤◌, ◌*◌, ◌/◌, ◌%◌, ℕ, Some, List, [], slice_get, sym, subst, arith}
 use Rattle.std.proofs.Math.Nat.{mul-le-mul_right}
 use Rattle.std.proofs.lemmas.Option.{get_or_from_slice_get}
 use Rattle.plain_graph.specs.Reply.{Told, end_text, index_line, marked_text, text_line}
 use Rattle.graph_session.specs.Answer.{Gives}
 use Rattle.graph_session.specs.Exchange.{AreFirst}
 use Rattle.graph_session.specs.IndexLists.{index_lines, place_line}
-use Rattle.graph_session.specs.LineBuffer.{AddsLine}
+use Rattle.graph_session.specs.ReplyLines.{AddsLine}
 use Rattle.graph_session.specs.declared.turn.Turn.TheVariants.{Go}
 use Rattle.graph_session.proofs.ListedLines.{HasLines, lines-add, lines-last, lines-none, lines-stop_in}
 use Rattle.graph_session.proofs.Places.{lines-begin, lines-next, lines-over, place-parts, taken-below}
 use Rattle.graph_session.proofs.questions.index_lists.give_pairs.Goals as goal
 
 pub each-init : goal.each-init
-each-init g c = record { has = rw c.new-lines.ensures (lines-none c.args.mark.now c.args.output.now); low = omega arith }
+each-init g c = record { has = lines-none c.begin.ensures; low = omega arith }
 
 pub nonzero_div-place : goal.nonzero_div-place
 nonzero_div-place g c = (place-parts c.args.count c.in-Some.place (taken-below c.args.count c.args.pairs.now c.in-Some.place c.in-Some.ensures.1)).0
@@ -57,16 +57,16 @@ each-preserved g c =
     let low = taken-below count pairs place c.in-Some.ensures.1 in
     let line = placed names count place c.text-label.result.now c.text-key.result.now c.text-label.ensures.is c.text-key.ensures.is in
     record {
-      has = subst (λ (lines : List (List ℕ)). HasLines g.K.Sink c.args.mark.now c.args.output.now c.add_index.new.output c.add_index.new.self lines)
+      has = subst (λ (lines : List (List ℕ)). HasLines g.K.Sink c.args.lines.now c.add_index.new.self lines)
           (sym (lines-next names count pairs c.each.from place c.in-Some.ensures))
-          (lines-add c.each.invariant.has (place_line names count place) c.add_index.new.self c.add_index.new.output
-          (subst (λ (text : List ℕ). AddsLine g.K.Sink (text_line text) c.each.lines c.add_index.new.self c.each.output c.add_index.new.output Go) line
+          (lines-add c.each.invariant.has (place_line names count place) c.add_index.new.self
+          (subst (λ (text : List ℕ). AddsLine g.K.Sink (text_line text) c.each.lines c.add_index.new.self Go) line
           (rw c.in-Go.is at c.add_index.ensures)));
       low = omega (arith, low);
     }
 
-pub returns-in_default-add_index : goal.returns-in_default-add_index
-returns-in_default-add_index g c =
+pub returns-in_default-add_index-clause-gives : goal.returns-in_default-add_index-clause-gives
+returns-in_default-add_index-clause-gives g c =
     let names = c.args.names.now.names in
     let count = c.args.count in
     let pairs = c.args.pairs.now in
@@ -76,15 +76,22 @@ returns-in_default-add_index g c =
     lines-stop_in c.each.invariant.has (index_lines names count pairs) end_text (place_line names count place)
     (subst (λ (lines : List (List ℕ)). AreFirst lines (index_lines names count pairs)) (lines-next names count pairs c.each.from place c.in-Some.ensures)
     (lines-begin names count pairs (place + 1) (omega (arith, low))))
-    c.add_index.new.self c.add_index.new.output c.add_index.result
-    (subst (λ (text : List ℕ). AddsLine g.K.Sink (text_line text) c.each.lines c.add_index.new.self c.each.output c.add_index.new.output c.add_index.result)
+    c.add_index.new.self c.add_index.result
+    (subst (λ (text : List ℕ). AddsLine g.K.Sink (text_line text) c.each.lines c.add_index.new.self c.add_index.result)
     line c.add_index.ensures) c.in_default-add_index.not-Go
 
-pub returns : goal.returns
-returns g c =
+pub returns-clause-gives : goal.returns-clause-gives
+returns-clause-gives g c =
     let names = c.args.names.now.names in
     let count = c.args.count in
     let pairs = c.args.pairs.now in
-    subst (λ (lines : List (List ℕ)). Gives g.K.Sink (marked_text c.args.mark.now (Told lines end_text)) c.args.output.now c.finish.new.output c.finish.result)
+    subst (λ (lines : List (List ℕ)). Gives g.K.Sink (marked_text c.args.lines.now.prefix.now (Told lines end_text)) c.args.lines.now.output.now
+    c.finish.new.self.output.now c.finish.result)
     (sym (lines-over names count pairs c.each.from c.each.invariant.low (rw c.in_default.is at c.next_place.ensures)))
-    (lines-last c.each.invariant.has (text_line end_text) c.finish.new.output c.finish.result (rw c.end_of_results.ensures at c.finish.ensures))
+    (lines-last c.each.invariant.has (text_line end_text) c.finish.new.self.output.now c.finish.result (rw c.end_of_results.ensures at c.finish.ensures.gives))
+
+pub returns-in_default-add_index-clause-same_sink : goal.returns-in_default-add_index-clause-same_sink
+returns-in_default-add_index-clause-same_sink g c = c.add_index.ensures.same_sink ∙ c.each.invariant.has.same_sink
+
+pub returns-clause-same_sink : goal.returns-clause-same_sink
+returns-clause-same_sink g c = c.finish.ensures.same_sink ∙ c.each.invariant.has.same_sink

@@ -5,7 +5,7 @@ use Rattle.graph_session.proofs.questions.index_lists.give_pairs.Given as goal
 
 abbrev pub invariant-each : goal.invariant-each
 invariant-each g l = record {
-  has : HasLines g.K.Sink l.mark l.initial.output l.output l.lines (lines_below l.names.names l.count l.pairs l.from);
+  has : HasLines g.K.Sink l.fn.lines l.lines (lines_below l.names.names l.count l.pairs l.from);
   low : l.from ≤ l.count * l.count;
 }
 

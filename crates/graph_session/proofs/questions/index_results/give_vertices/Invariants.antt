@@ -5,4 +5,4 @@ use Rattle.graph_session.proofs.WalkReplies.{lines_to}
 use Rattle.graph_session.proofs.questions.index_results.give_vertices.Given as goal
 
 abbrev pub invariant-loop-id : goal.invariant-loop-id
-invariant-loop-id g l = HasLines g.K.Sink l.mark l.initial.output l.output l.lines (lines_to vertex_line [] l.nodes l.id-index)
+invariant-loop-id g l = HasLines g.K.Sink l.fn.lines l.lines (lines_to vertex_line [] l.nodes l.id-index)

@@ -15,4 +15,4 @@ returns-clause-gives g c =
     asks-told asks-names (is_read-none g.R.Reads g.met.R.Reads.stays_onward c.args.space.now) (listed (map name_text (take count names)))
     (take count names, refl) refl (λ told store. tt) (λ told store. tt)
     (λ told store. ap (λ (own : List (List ℕ)). listed (map name_text own)) (names-first s.records s.shape names store count (c.name_count.ensures.is store))
-    ∙ ap listed (name-lines (names_of s.records))) c.give_first.ensures
+    ∙ ap listed (name-lines (names_of s.records))) c.give_first.ensures.gives

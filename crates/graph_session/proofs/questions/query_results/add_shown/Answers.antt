@@ -11,8 +11,8 @@ use Rattle.graph_session.proofs.questions.query_results.add_shown.Goals as goal
 
 pub returns-in_default-clause-added : goal.returns-in_default-clause-added
 returns-in_default-clause-added g c =
-    subst (λ (maps : Option (List (List ℕ))). AddsShown g.R.Reads g.K.Sink c.args.names.now.names maps c.args.item.now c.args.space.now c.args.lines.now
-    c.add_result.new.self c.args.output.now c.add_result.new.output c.add_result.result) (sym c.in_default.is)
+    subst (λ (maps : Option (List (List ℕ))). AddsShown g.R.Reads g.K.Sink c.args.context.names.now.names maps c.args.item.now c.args.space.now c.args.lines.now
+    c.add_result.new.self c.add_result.result) (sym c.in_default.is)
     (record { line = item_line c.args.item.now; form = refl; shown = λ told store. refl; adds = c.add_result.ensures })
 
 pub returns-in_default-clause-cost : goal.returns-in_default-clause-cost
@@ -25,8 +25,7 @@ returns-in_err-map-clause-stopped g c =
     let met = c.in_err-map.ensures in
     let p = err_from_is_err_and c.from_residual.result c.from_residual.ensures.1 in
     rw (p.1, p.2) (record {
-      held = refl;
-      output = refl;
+      same = refl;
       disk = λ is. met.cause.disk (ap Err is);
       blames = λ told. met.damaged told;
     })
@@ -34,8 +33,8 @@ returns-in_err-map-clause-stopped g c =
 pub returns-clause-added : goal.returns-clause-added
 returns-clause-added g c =
     let map = c.in_ok-map.map in
-    subst (λ (maps : Option (List (List ℕ))). AddsShown g.R.Reads g.K.Sink c.args.names.now.names maps c.args.item.now c.args.space.now c.args.lines.now
-    c.add.new.self c.args.output.now c.add.new.output c.add.result) (sym c.in-Some.is)
+    subst (λ (maps : Option (List (List ℕ))). AddsShown g.R.Reads g.K.Sink c.args.context.names.now.names maps c.args.item.now c.args.space.now c.args.lines.now
+    c.add.new.self c.add.result) (sym c.in-Some.is)
     (record {
       line = map_line (c.args.item.now, map);
       form = (map, refl);

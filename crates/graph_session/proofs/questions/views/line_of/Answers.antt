@@ -2,7 +2,6 @@ use Rattle.std.proofs.Common.{◌∙◌, sym, subst}
 use Rattle.store_rules.specs.Graph.{graph_of}
 use Rattle.graph_session.specs.Views.{IsViewRefusal}
 use Rattle.graph_session.specs.declared.answer.Answer.{Answer}
-use Rattle.graph_session.proofs.Viewing.{read-refusal}
 use Rattle.graph_session.proofs.questions.views.line_of.Goals as goal
 
 pub returns-in-Ok-clause-makes : goal.returns-in-Ok-clause-makes
@@ -16,5 +15,5 @@ returns-in-Ok-clause-makes g c = record {
 pub returns-clause-refused : goal.returns-clause-refused
 returns-clause-refused g c = λ told store.
     let s = g.R.Reads.state c.args.space.now in
-    subst (λ (answer : Answer). IsViewRefusal (graph_of s.records) c.args.target.now answer) (sym c.answer_of_read.ensures)
-    (read-refusal (graph_of s.records) c.args.target.now c.in-Err.fault)
+    subst (λ (answer : Answer). IsViewRefusal (graph_of s.records) c.args.target.now answer) (sym c.from.ensures)
+    tt

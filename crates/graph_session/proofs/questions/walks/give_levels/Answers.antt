@@ -10,20 +10,21 @@ use Rattle.graph_session.proofs.questions.walks.give_levels.Goals as goal
 asks : (from to : ℕ) (direction : Direction) (label : Option (List ℕ)) → AsksElements (commands.Levels from to direction label)
 asks from to direction label = record { question = tt; some = tt; reading = listed []; formed = ([], refl) }
 
-pub returns-in-Ok : goal.returns-in-Ok
-returns-in-Ok g c =
+pub returns-in-Ok-clause-gives : goal.returns-in-Ok-clause-gives
+returns-in-Ok-clause-gives g c =
     let met = c.in-Ok.ensures in
     let walk = c.in-Ok.answer.walk in
     let levels = c.in-Ok.answer.levels in
-    gives-told (asks c.args.from c.args.to c.args.direction c.args.label.now) met.read (listed (map level_text levels)) (levels, refl) refl
+    gives-told (asks c.args.route.from c.args.route.to c.args.route.direction c.args.route.label.now) met.read
+    (listed (map level_text levels)) (levels, refl) refl
     (λ told store. met.missing told store)
-    (λ told store. (walk, levels, met.found told store, refl)) (rw c.as_slice.ensures at c.give_node_levels.ensures)
+    (λ told store. (walk, levels, met.found told store, refl)) (rw c.as_slice.ensures at c.give_node_levels.ensures.gives)
 
-pub returns-in-Err : goal.returns-in-Err
-returns-in-Err g c =
+pub returns-in-Err-clause-gives : goal.returns-in-Err-clause-gives
+returns-in-Err-clause-gives g c =
     let met = c.in-Err.ensures in
     let fault = c.in-Err.fault in
     let a = c.args in
-    gives-unknown (asks a.from a.to a.direction a.label.now) met.read tt fault (λ disk. met.cause.disk (ap Err disk))
-    (λ told store. end-missing Answer fault a.from a.to (graph_of (g.R.Reads.state c.args.space.now).records) (met.missing told store))
-    (λ told. end-blamed (g.R.Reads.state a.space.now) a.from a.to fault (met.damaged told)) (rw c.answer_of.ensures at c.give_answer.ensures)
+    gives-unknown (asks a.route.from a.route.to a.route.direction a.route.label.now) met.read tt fault (λ disk. met.cause.disk (ap Err disk))
+    (λ told store. end-missing Answer fault a.route.from a.route.to (graph_of (g.R.Reads.state c.args.space.now).records) (met.missing told store))
+    (λ told. end-blamed (g.R.Reads.state a.space.now) a.route.from a.route.to fault (met.damaged told)) (rw c.from.ensures at c.give_answer.ensures.gives)

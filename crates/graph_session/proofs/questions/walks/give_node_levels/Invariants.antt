@@ -5,4 +5,4 @@ use Rattle.graph_session.proofs.WalkReplies.{lines_to}
 use Rattle.graph_session.proofs.questions.walks.give_node_levels.Given as goal
 
 abbrev pub invariant-loop-level : goal.invariant-loop-level
-invariant-loop-level g l = HasLines g.K.Sink l.mark l.initial.output l.output l.lines (lines_to level_text [] l.levels l.level-index)
+invariant-loop-level g l = HasLines g.K.Sink l.fn.lines l.lines (lines_to level_text [] l.levels l.level-index)

@@ -3,4 +3,4 @@ use Rattle.graph_session.proofs.WalkReplies.{edge_count_lines, lines_to, node_li
 use Rattle.graph_session.proofs.questions.walks.give_nodes.Given as goal
 
 abbrev pub invariant-loop-id : goal.invariant-loop-id
-invariant-loop-id g l = HasLines g.K.Sink l.mark l.fn.output l.output l.lines (lines_to node_line (edge_count_lines l.walk) l.walk l.id-index)
+invariant-loop-id g l = HasLines g.K.Sink l.fn.lines l.lines (lines_to node_line (edge_count_lines l.walk) l.walk l.id-index)

@@ -10,19 +10,20 @@ use Rattle.graph_session.proofs.questions.walks.give_walk.Goals as goal
 asks : (from to : ℕ) (direction : Direction) (label : Option (List ℕ)) → AsksElements (commands.Path from to direction label)
 asks from to direction label = record { question = tt; some = tt; reading = one_line no_path_text; formed = ([], refl) }
 
-pub returns-in-Ok : goal.returns-in-Ok
-returns-in-Ok g c =
+pub returns-in-Ok-clause-gives : goal.returns-in-Ok-clause-gives
+returns-in-Ok-clause-gives g c =
     let met = c.in-Ok.ensures in
     let walk = c.in-Ok.walk in
-    gives-told (asks c.args.from c.args.to c.args.direction c.args.label.now) met.read (walk_reading walk) (walk, refl) (walk-counted walk)
+    gives-told (asks c.args.route.from c.args.route.to c.args.route.direction c.args.route.label.now) met.read
+    (walk_reading walk) (walk, refl) (walk-counted walk)
     (λ told store. met.missing told store)
-    (λ told store. (walk, met.found told store, refl)) (rw c.as_slice.ensures at c.give_nodes.ensures)
+    (λ told store. (walk, met.found told store, refl)) (rw c.as_slice.ensures at c.give_nodes.ensures.gives)
 
-pub returns-in-Err : goal.returns-in-Err
-returns-in-Err g c =
+pub returns-in-Err-clause-gives : goal.returns-in-Err-clause-gives
+returns-in-Err-clause-gives g c =
     let met = c.in-Err.ensures in
     let fault = c.in-Err.fault in
     let a = c.args in
-    gives-unknown (asks a.from a.to a.direction a.label.now) met.read tt fault (λ disk. met.cause.disk (ap Err disk))
-    (λ told store. end-missing (List ℕ) fault a.from a.to (graph_of (g.R.Reads.state c.args.space.now).records) (met.missing told store))
-    (λ told. end-blamed (g.R.Reads.state a.space.now) a.from a.to fault (met.damaged told)) (rw c.answer_of.ensures at c.give_answer.ensures)
+    gives-unknown (asks a.route.from a.route.to a.route.direction a.route.label.now) met.read tt fault (λ disk. met.cause.disk (ap Err disk))
+    (λ told store. end-missing (List ℕ) fault a.route.from a.route.to (graph_of (g.R.Reads.state c.args.space.now).records) (met.missing told store))
+    (λ told. end-blamed (g.R.Reads.state a.space.now) a.route.from a.route.to fault (met.damaged told)) (rw c.from.ensures at c.give_answer.ensures.gives)

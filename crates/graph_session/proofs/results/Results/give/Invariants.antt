@@ -5,4 +5,4 @@ use Rattle.graph_session.proofs.WalkReplies.{lines_to}
 use Rattle.graph_session.proofs.results.Results.give.Given as goal
 
 abbrev pub invariant-loop-item : goal.invariant-loop-item
-invariant-loop-item g l = HasLines g.K.Sink l.mark l.fn.output l.output l.lines (lines_to item_line [] l.self.items.items l.item-index)
+invariant-loop-item g l = HasLines g.K.Sink l.fn.lines l.lines (lines_to item_line [] l.self.items.items l.item-index)

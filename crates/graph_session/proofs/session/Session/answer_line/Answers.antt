@@ -13,10 +13,10 @@ use Rattle.graph_session.proofs.SessionNumbers.{session-low}
 use Rattle.graph_session.proofs.Taps.{fault-unconfirmed, takes-nothing, taps-refused}
 use Rattle.graph_session.proofs.session.Session.answer_line.Goals as goal
 
--- the mark is that of the session that the line names
-marked : (line : List ℕ) {bytes mark : List ℕ} {named : Option ℕ} → named ≡ session_named line → mark ≡ mark_text named → bytes ≡ mark
+-- the prefix is that of the session that the line names
+prefixed : (line : List ℕ) {bytes prefix : List ℕ} {named : Option ℕ} → named ≡ session_named line → prefix ≡ mark_text named → bytes ≡ prefix
     → bytes ≡ mark_text (session_named line)
-marked line by_name text same = same ∙ text ∙ ap mark_text by_name
+prefixed line by_name text same = same ∙ text ∙ ap mark_text by_name
 
 pub answer-requires-clause-session : goal.answer-requires-clause-session
 answer-requires-clause-session g c = subst (λ (n : ℕ). n ≤ 7) (sym c.in-Ok.ensures.session) (session-low c.args.line.now)
@@ -25,7 +25,7 @@ pub returns-in-Ok-clause-answers : goal.returns-in-Ok-clause-answers
 returns-in-Ok-clause-answers g c = c.answer.ensures.answers c.args.line.now (record {
   only = record { spelled = c.in-Ok.ensures.spelled; only = c.in-Ok.ensures.only; no_fault = c.in-Ok.ensures.no_fault };
   session_is = sym c.in-Ok.ensures.session;
-  mark_is = sym (marked c.args.line.now c.named_session.ensures c.mark_of-mark.ensures c.as_bytes.ensures);
+  prefix_is = sym (prefixed c.args.line.now c.named_session.ensures c.mark_of-prefix.ensures c.as_bytes.ensures);
 })
 
 pub returns-in-Ok-clause-no_draft : goal.returns-in-Ok-clause-no_draft
@@ -42,9 +42,9 @@ returns-in-Err-clause-answers g c =
     taps-refused c.args.tap.now c.args.tap.now (takes-nothing c.args.tap.now c.requires.room) (fault-unconfirmed c.in-Err.fault)
     (fault-with g.D.Disk g.met.D.Disk.only_now g.K.Sink c.args.line.now c.in-Err.fault c.in-Err.ensures.none (λ e. c.in-Err.ensures.memory (ap Err e))
     c.in-Err.ensures.fault
-    (subst (λ (mark : List ℕ). Gives g.K.Sink (marked_text mark (reply_of (told_of c.in-Err.fault))) c.args.output.now c.give_answer.new.output
-    c.give_answer.result)
-    (marked c.args.line.now c.named_session.ensures c.mark_of-mark.ensures c.as_bytes-in-Err.ensures) (rw c.answer_of.ensures at c.give_answer.ensures)))
+    (subst (λ (prefix : List ℕ). Gives g.K.Sink (marked_text prefix (reply_of (told_of c.in-Err.fault))) c.args.output.now c.give_reply.new.output
+    c.give_reply.result)
+    (prefixed c.args.line.now c.named_session.ensures c.mark_of-prefix.ensures c.as_bytes-in-Err.ensures) (rw c.from.ensures at c.give_reply.ensures)))
 
 pub returns-in-Err-clause-careful : goal.returns-in-Err-clause-careful
 returns-in-Err-clause-careful g c = λ spells. absurd (spells-none c.args.line.now c.in-Err.fault c.in-Err.ensures.none (λ e. c.in-Err.ensures.memory (ap Err e))

@@ -54,5 +54,5 @@ returns-in-Err-clause-drafts g c =
           (met.lone told target drops one);
     }))
     (λ e. Rose-from (g.D.Disk.faults old.store.base.disk.now) (g.D.Disk.faults mid.store.base.disk.now) (g.D.Disk.faults left.base.disk.now) read.only.later
-    (met.cause.disk (ap Err e))) c.answer_of.result
-    c.answer_of.ensures
+    (met.cause.disk (ap Err e))) c.from.result
+    c.from.ensures

@@ -18,6 +18,7 @@ use Rattle.traversal_run.specs.FoundNodes.{IsSourceRefusal}
 use Rattle.traversal_run.specs.Reading.{IsNamedStore}
 use Rattle.rec_bytes.specs.Space.{State}
 use Rattle.txn_core.specs.Store.{state_of}
+use Rattle.rec_bytes.specs.declared.fault.Fault.TheVariants as read_faults
 use Rattle.graph_session.specs.Drafting.{IsStopped}
 use Rattle.graph_session.specs.IndexResults.{answer_for}
 use Rattle.graph_session.specs.declared.answer.Answer.{Answer}
@@ -42,8 +43,9 @@ returns-in-Ok-clause-there g c = λ told has.
     (c.in-Ok.ensures.there told (named (state_of c.args.self.now.store) c.args.self.now.names.names has))
 
 -- the answer of a reading part that was not read to its end
-stops : (P : Answer → Type 0) (fault : LookupFault) → (fault ≡ faults.NoIndex → P (answers.Refused refusals.NoIndex)) → P answers.NoMemory
-    → (fault ≡ faults.Disk → P answers.DiskFailed) → ((damage : Damage) → fault ≡ faults.Damaged damage → P (answers.Damaged damage)) → P (answer_for fault)
+stops : (P : Answer → Type 0) (fault : LookupFault) → (fault ≡ faults.NoIndex → P (answers.Refused refusals.NoIndex))
+    → P (answers.Fault read_faults.Memory) → (fault ≡ faults.Disk → P (answers.Fault read_faults.Disk))
+    → ((damage : Damage) → fault ≡ faults.Damaged damage → P (answers.Fault (read_faults.Damaged damage))) → P (answer_for fault)
 stops P faults.NoIndex refused memory disk damaged = refused refl
 stops P faults.Memory refused memory disk damaged = memory
 stops P faults.Disk refused memory disk damaged = disk refl
@@ -55,7 +57,7 @@ returns-in-Err-clause-stopped g c = λ mutation.
     let s = state_of old.store in
     let reading = c.args.reading.now in
     let met = c.in-Err.ensures in
-    subst (IsStopped (commands.Mutate reading mutation) old c.items_of.new.space.base.disk.now) (sym c.answer_of_lookup.ensures)
+    subst (IsStopped (commands.Mutate reading mutation) old c.items_of.new.space.base.disk.now) (sym c.from.ensures)
     (stops (IsStopped (commands.Mutate reading mutation) old c.items_of.new.space.base.disk.now) c.in-Err.fault
     (λ is told has.
     let lacks = subst (IsSourceRefusal (graph_in s) c.in-Some.query.source) is (met.refused told (named s old.names.names has)) in

@@ -18,7 +18,7 @@ pub returns-in-Some-clause-answers : goal.returns-in-Some-clause-answers
 returns-in-Some-clause-answers g c = λ line parsed.
     let question = c.args.question in
     answers-refuses g.D.Disk g.met.D.Disk.only_now g.K.Sink c.requires.reader parsed (question-loud question) (shared_view c.args.self.now)
-    c.in-Some.why (c.in-Some.ensures.refused (question_command question) (is_question question)) c.give_answer.ensures
+    c.in-Some.why (c.in-Some.ensures.refused (question_command question) (is_question question)) c.give_reply.ensures
 
 pub returns-clause-answers : goal.returns-clause-answers
 returns-clause-answers g c = λ line parsed.

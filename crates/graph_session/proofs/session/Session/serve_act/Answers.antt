@@ -16,7 +16,7 @@ returns-then-session-ne-WRITER-clause-answers g c = λ line parsed.
     let seven : IsReader c.args.session = record { first = omega arith; last = c.requires.session } in
     taps-nothing was was (takes-nothing was c.requires.room) (λ reply ends. c.if-session-ne-WRITER.true (sym parsed.session_is ∙ ends.0))
     (answers-refuses g.D.Disk g.met.D.Disk.only_now g.K.Sink seven parsed (act-loud c.args.act) (shared_view c.args.self.now) refusals.ReadOnly
-    (inl (act-unread c.args.act, refl)) c.give_answer.ensures)
+    (inl (act-unread c.args.act, refl)) c.give_reply.ensures)
 
 pub returns-then-refuses-clause-answers : goal.returns-then-refuses-clause-answers
 returns-then-refuses-clause-answers g c = λ line parsed.
@@ -24,7 +24,7 @@ returns-then-refuses-clause-answers g c = λ line parsed.
     let refused = c.refuses.ensures.yes c.if-refuses.true in
     taps-refused was was (takes-nothing was c.requires.room) (λ confirms. confirms)
     (failed-with g.D.Disk g.met.D.Disk.only_now g.K.Sink parsed c.if-session-ne-WRITER.false (act-loud c.args.act) refused.0 (act-apart c.args.act)
-    (λ again. refused.1 (act-reopens c.args.act again)) c.give_answer-then-refuses.ensures)
+    (λ again. refused.1 (act-reopens c.args.act again)) c.give_reply-then-refuses.ensures)
 
 pub returns-clause-answers : goal.returns-clause-answers
 returns-clause-answers g c = λ line parsed.
@@ -32,4 +32,4 @@ returns-clause-answers g c = λ line parsed.
     taps-settled parsed.only (parsed.session_is ∙ c.if-session-ne-WRITER.false) c.args.tap.now c.settle-answer.new.tap done.taps
     (settled-with parsed (reply_of c.settle-answer.result) c.if-session-ne-WRITER.false (act-loud c.args.act) (act-apart c.args.act)
     (act-served (view c.args.self.now).console c.args.act (c.refuses.ensures.no c.if-refuses.false)) done.settles done.keeps
-    (λ told live asks. absurd (act-unasked c.args.act asks)) c.give_answer-2.ensures)
+    (λ told live asks. absurd (act-unasked c.args.act asks)) c.give_reply-2.ensures)

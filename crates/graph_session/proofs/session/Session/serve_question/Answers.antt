@@ -20,33 +20,33 @@ pub returns-in-Failed-clause-answers : goal.returns-in-Failed-clause-answers
 returns-in-Failed-clause-answers g c = λ line parsed.
     let question = c.args.question in
     (failed-with g.D.Disk g.met.D.Disk.only_now g.K.Sink parsed c.if-session-ne-WRITER.false (question-loud question) c.in-Failed.is (question-apart question)
-    (question-reopens question) c.give_answer.ensures).0
+    (question-reopens question) c.give_reply.ensures).0
 
 pub returns-in-Live-clause-answers : goal.returns-in-Live-clause-answers
 returns-in-Live-clause-answers g c = λ line parsed.
     let question = c.args.question in
     let command = question_command question in
     let asks = is_question question in
-    let given = c.answer_question.ensures in
+    let given = c.reply_question.ensures in
     let s = c.args.self.now in
     let live = c.in-Live.is in
     (settled-with parsed given.reply c.if-session-ne-WRITER.false (question-loud question) (question-apart question) (inl live)
     (record {
       settles = λ known of state alone served at.
           settles-asked at live alone asks
-          (stays-known known (stays-read s.store c.answer_question.new.space given.read.onward given.read.same at.no_draft s.health s.weight s.names.names))
+          (stays-known known (stays-read s.store c.reply_question.new.space given.read.onward given.read.same at.no_draft s.health s.weight s.names.names))
           given (λ told. told_of known g.D.Disk told)
           (drafted-none s.store at.no_draft) refl (λ rose. rose) (λ same. ap (λ (store : Store _ _). seen_as store s.health s.weight s.names.names) same);
       may = λ none.
-          may-read g.D.Disk (view s) given.reply (seen_as c.answer_question.new.space s.health s.weight s.names.names) command asks (
+          may-read g.D.Disk (view s) given.reply (seen_as c.reply_question.new.space s.health s.weight s.names.names) command asks (
             given.form,
             given.told,
-            stays-read s.store c.answer_question.new.space given.read.onward given.read.same none s.health s.weight s.names.names,
+            stays-read s.store c.reply_question.new.space given.read.onward given.read.same none s.health s.weight s.names.names,
             λ spared. ap (λ (store : Store _ _). seen_as store s.health s.weight s.names.names) (given.idle spared),
           );
       onward = record { disk_later = given.read.later };
     })
-    (keeps-read (shared_view s) (record { session = seen_as c.answer_question.new.space s.health s.weight s.names.names; held = s.snaps })
+    (keeps-read (shared_view s) (record { session = seen_as c.reply_question.new.space s.health s.weight s.names.names; held = s.snaps })
     asks refl given.read.onward.in_transaction (ap (λ (held : Held). held.pairs) given.read.onward.own) refl)
     (λ told _ _ records seen.
     let is : records ≡ seen_records (view s).console = subst (λ (session : ℕ). SeesRecords (shared_view s) session records) c.if-session-ne-WRITER.false seen in

@@ -1,5 +1,5 @@
 use Rattle.graph_session.proofs.Streams.{adds-cut, adds-more}
-use Rattle.graph_session.proofs.line_buffer.gather_marked.Goals as goal
+use Rattle.graph_session.proofs.line_buffer.gather_prefixed.Goals as goal
 
 pub returns-in-Go : goal.returns-in-Go
 returns-in-Go g c = adds-more (rw c.in-Go.is at c.gather.ensures) c.gather-in-Go.result c.gather-in-Go.ensures
