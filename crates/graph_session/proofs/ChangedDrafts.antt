@@ -1,5 +1,5 @@
 -- A draft that has the changed records alone, and what is committed with such a one.
-use Rattle.std.proofs.Common.{◌≡◌, ◌↔◌, ◌∙◌, ℕ, Option, None, Some, Ok, Err, Result, OnOk, List, [], true, is_some, inl, inr, refl, sym, ap, subst}
+use Rattle.std.proofs.Common.{◌≡◌, ◌↔◌, ◌∙◌, ℕ, Option, None, Some, Ok, Err, Result, List, [], true, is_some, inl, inr, refl, sym, ap, subst}
 use Rattle.disk_model.specs.declared.disk.Disk.{Ghosts}
 use Rattle.plain_graph.specs.LineChanges.{LineChanges}
 use Rattle.plain_graph.specs.Reply.{Reply}
@@ -20,7 +20,7 @@ use Rattle.txn_core.proofs.Shipped.{merged-none}
 use Rattle.txn_core.proofs.StoreRecords.{working-read}
 use Rattle.change_parts.specs.Store.{graph_in}
 use Rattle.graph_session.specs.ChangeLeft.{LeavesRecords}
-use Rattle.graph_session.specs.Drafting.{Drafts, DropsUnchanged, HasOnlyChanged, IsStopped, KeepsOnlyChanged, MakesLine, OnlyDrafts}
+use Rattle.graph_session.specs.Drafting.{Drafts, DraftsChanged, DropsUnchanged, IsStopped, KeepsOnlyChanged, MakesLine, OnlyDrafts}
 use Rattle.graph_session.specs.SnapshotEffects.{DifferJustAt}
 use Rattle.graph_session.specs.declared.answer.Answer.{Answer}
 use Rattle.graph_session.specs.declared.changing.Drafted.{Drafted}
@@ -50,8 +50,8 @@ module _ {D : Type 0} {g : Ghosts D} {mid new : Session D g} (more : OnlyDrafts 
       ap (λ (r : Key → Rec). laid_over r new.store.draft.pairs) (working-read mid.store.base new.store.base more.base) ∙ kept.records.read told
 
   -- its records are the changed ones
-  pub only-changed : (made : Drafted) (result : Result Drafted Answer) → DropsUnchanged made mid new result → OnOk result (HasOnlyChanged new)
-  only-changed made (Ok also) (is, kept) = record {
+  pub only-changed : (made : Drafted) (result : Result Drafted Answer) → DropsUnchanged made mid new result → DraftsChanged result new
+  only-changed made (Ok also) (is, kept) = λ light. record {
     rising = kept.rising;
     changed = λ told.
         subst (λ (r : Key → Rec). AreChanged r new.store.draft.pairs) (sym (working-read mid.store.base new.store.base more.base)) (kept.records.changed told);

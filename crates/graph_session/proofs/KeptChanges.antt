@@ -1,5 +1,5 @@
 -- What a change leaves of the old records that are kept for snapshots.
-use Rattle.std.proofs.Common.{◌≡◌, ◌⊎◌, ◌∙◌, ℕ, ◌+◌, ◌≤◌, true, false, Ok, Err, Result, OnOk, is_some, [], length, inl, inr, true≢false}
+use Rattle.std.proofs.Common.{◌≡◌, ◌⊎◌, ◌∙◌, ℕ, ◌+◌, ◌≤◌, true, false, Ok, Err, Result, is_some, [], length, inl, inr, true≢false}
 use Rattle.std.proofs.Common.{refl, sym, ap, subst, arith}
 use Rattle.disk_model.specs.declared.disk.Disk.{Ghosts}
 use Rattle.plain_graph.specs.Changes.{IsChange, most_weight, start_weight}
@@ -23,7 +23,7 @@ use Rattle.txn_core.specs.Store.{committed, drafted, state_of, working}
 use Rattle.txn_core.proofs.StoreRecords.{working-none}
 use Rattle.rec_bytes.specs.declared.fault.Fault.TheVariants as faults
 use Rattle.graph_session.specs.Answering.{reply_of}
-use Rattle.graph_session.specs.Drafting.{BeginsChange, Drafts, EndsChange, EndsCommit, Finishes, FinishesAlone}
+use Rattle.graph_session.specs.Drafting.{BeginsChange, Drafts, DraftsChanged, EndsChange, EndsCommit, Finishes, FinishesAlone}
 use Rattle.graph_session.specs.Drafting.{HasOnlyChanged, HasStore, IsStopped, IsUnkeptAlone, OnlyDrafts, TriesCommit}
 use Rattle.graph_session.specs.MayStep.{TellsMade}
 use Rattle.graph_session.specs.Session.{shared_view, view}
@@ -221,9 +221,9 @@ module _ {D : Type 0} {g : Ghosts D} {command : Command} (change : IsChange comm
         closes (inr (is, inr doubts)) = doubts.closes.in_transaction
 
     pub keeps-finish_alone : (count : ℕ) → count ≡ length old.names.names → (result : Result Drafted Answer) (answer : Answer) → Drafts command begun mid result
-        → OnOk result (HasOnlyChanged mid) → FinishesAlone result count mid new answer
+        → DraftsChanged result mid → FinishesAlone result count mid new answer
         → KeepsOlds g command (shared_view old) (reply_of answer) (shared_view new)
-    keeps-finish_alone count counts (Ok made) answer drafts changed (inl (light, tries)) = keeps-tried made answer light drafts changed tries
+    keeps-finish_alone count counts (Ok made) answer drafts changed (inl (light, tries)) = keeps-tried made answer light drafts (changed light) tries
     keeps-finish_alone count counts (Ok made) answer drafts changed (inr (unkept, drops)) = record {
       held = keeps-kind g (shared_view old) (reply_of answer) (shared_view new) command change
           (inl (
@@ -251,7 +251,7 @@ module _ {D : Type 0} {g : Ghosts D} {command : Command} (change : IsChange comm
     {mid then : Session D g} (new : Session D g) (begun : Begun) where
   -- what is drafted keeps the old records
   pub keeps-change : BeginsChange old mid begun → OnlyDrafts mid then → (drafted : Result Drafted Answer) → Drafts command mid then drafted
-      → (begun.alone ≡ true → OnOk drafted (HasOnlyChanged then)) → (answer : Answer) → EndsChange begun drafted then new answer
+      → (begun.alone ≡ true → DraftsChanged drafted then) → (answer : Answer) → EndsChange begun drafted then new answer
       → KeepsOlds g command (shared_view old) (reply_of answer) (shared_view new)
   keeps-change (counts, inl (within, opened, same)) only drafted drafts changed answer (inl (is, ends)) =
       keeps-finish change new opened (subst (λ (s : Session D g). OnlyDrafts s then) same only) begun.names drafted answer

@@ -1,5 +1,5 @@
 -- What a line leaves in the set that takes the records of its transaction.
-use Rattle.std.proofs.Common.{◌≡◌, ◌≢◌, ◌∙◌, Bool, true, false, Option, None, Some, List, ℕ, Ok, Err, Result, OnOk, inl, inr, refl, sym, ap, subst, true≢false}
+use Rattle.std.proofs.Common.{◌≡◌, ◌≢◌, ◌∙◌, Bool, true, false, Option, None, Some, List, ℕ, Ok, Err, Result, inl, inr, refl, sym, ap, subst, true≢false}
 use Rattle.disk_model.specs.declared.disk.Disk.{Ghosts as DiskGhosts}
 use Rattle.stream_io.specs.Lines.{InputLine, Whole}
 use Rattle.stream_io.specs.declared.streams.Sink.{Ghosts as SinkGhosts}
@@ -21,7 +21,7 @@ use Rattle.txn_core.proofs.StoreRecords.{committed-beneath, committed-read}
 use Rattle.graph_session.specs.Answer.{AnswersLine, Terminal}
 use Rattle.graph_session.specs.Answering.{reply_of}
 use Rattle.graph_session.specs.Console.{SessionView}
-use Rattle.graph_session.specs.Drafting.{BeginsChange, Drafts, HasOnlyChanged, OnlyDrafts}
+use Rattle.graph_session.specs.Drafting.{BeginsChange, Drafts, DraftsChanged, OnlyDrafts}
 use Rattle.graph_session.specs.Refusals.{SpellsOnly, refusal_of}
 use Rattle.graph_session.specs.Session.{view}
 use Rattle.graph_session.specs.Settling.{told_by, told_of}
@@ -185,7 +185,7 @@ module _ {D : Type 0} {g : DiskGhosts D} (command : Command) (change : IsChange 
     {mid then : Session D g} (new : Session D g) (begun : Begun) where
   -- a change, from its beginning to its end
   pub taps-change : BeginsChange old mid begun → OnlyDrafts mid then → (drafted : Result Drafted Answer) → Drafts command mid then drafted
-      → (begun.alone ≡ true → OnOk drafted (HasOnlyChanged then)) → (answer : Answer) (was tap : Option Held)
+      → (begun.alone ≡ true → DraftsChanged drafted then) → (answer : Answer) (was tap : Option Held)
       → TapsChange g begun drafted (view then) (view new) answer was tap → Takes (TapsCommand g command (view old) (reply_of answer) (view new)) was tap
   taps-change (counts, inl (within, opened, same)) only drafted drafts changed answer was tap (inl (is, none)) =
       takes-weaker was tap (taps-other (inside-apart command change old.store.base.in_transaction opened)) none
@@ -193,7 +193,7 @@ module _ {D : Type 0} {g : DiskGhosts D} (command : Command) (change : IsChange 
   taps-change (counts, inr (alone, begins)) only drafted drafts changed answer was tap (inl (is, none)) = absurd (true≢false (sym alone ∙ is))
   taps-change (counts, inr (alone, begins)) only drafted drafts changed answer was tap (inr (is, taps)) = by drafted drafts (changed alone) taps
     where
-      by : (drafted : Result Drafted Answer) → Drafts command mid then drafted → OnOk drafted (HasOnlyChanged then)
+      by : (drafted : Result Drafted Answer) → Drafts command mid then drafted → DraftsChanged drafted then
           → TapsAlone g drafted (view then) (view new) answer was tap → Takes (TapsCommand g command (view old) (reply_of answer) (view new)) was tap
       by (Ok made) drafts changed (inl (light, inl (told, takes))) =
           takes-weaker was tap (λ pairs tapped.
@@ -202,7 +202,7 @@ module _ {D : Type 0} {g : DiskGhosts D} (command : Command) (change : IsChange 
           (λ commits. absurd (commit-still (subst IsChange commits change)))
           (λ also. subst (WritesAlone g command (view old)) (sym tapped.0)
           (writes-alone change old new live begins.closed begins.idle begins.same begins.own begins.draft begins.names begins.health begins.snaps only made
-          light drafts changed))
+          light drafts (changed light)))
           (tapped-from (view old) (view then) (view new) (committed-read mid.store.base then.store.base only.base ∙ committed-beneath old.store.base
           mid.store.base begins.same) pairs tapped.1)) takes
       by (Ok made) drafts changed (inl (light, inr (told, none))) = takes-weaker was tap

@@ -171,6 +171,11 @@ module _ {D : Type 0} {g : Ghosts D} where
     pub rising : IsOrdered session.store.draft.pairs
     pub changed : g.tells_reads → AreChanged (working session.store) session.store.draft.pairs
 
+  -- So it is of a draft that weighs no more than a change by itself may.
+  abbrev pub DraftsChanged : Result Drafted Answer → Session D g → Type 0
+  DraftsChanged (Ok made) new = start_weight + made.weight ≤ most_weight → HasOnlyChanged new
+  DraftsChanged (Err why) new = Unit {0}
+
   -- The draft was dropped, and the names cut back to so many. The transaction is as it was.
   pub record Discards (count : ℕ) (old new : Session D g) : Type 0 where
     pub beneath : SameBeneath old.store.base new.store.base

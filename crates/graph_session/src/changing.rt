@@ -60,12 +60,12 @@ impl<'d, D: Disk> Session<'d, D> {
       BeginsChange,
       Discards,
       Drafts,
+      DraftsChanged,
       DropsAlone,
       DropsUnchanged,
       EndsChange,
       Finishes,
       FinishesAlone,
-      HasOnlyChanged,
       HasStore,
       IsStopped,
       IsUnkept,
@@ -134,7 +134,7 @@ impl<'d, D: Disk> Session<'d, D> {
         requires { HasForm (change_command change) }
         ensures only { OnlyDrafts self.old self.new }
         ensures drafts { Drafts (change_command change.entry) self.old self.new result }
-        ensures changed { begun.alone ≡ true → OnOk result (HasOnlyChanged self.new) }
+        ensures changed { begun.alone ≡ true → DraftsChanged result self.new }
     {
         if begun.alone {
             self.draft_changed(change)
@@ -143,15 +143,21 @@ impl<'d, D: Disk> Session<'d, D> {
         }
     }
 
-    // The change in the draft, which has the changed records alone.
+    // The change in the draft, which has the changed records alone, unless it weighs more than a
+    // change by itself may.
     fn draft_changed(&mut self, change: Change<'_>) -> Result<Drafted, Answer>
         requires { HasForm (change_command change) }
         ensures only { OnlyDrafts self.old self.new }
         ensures drafts { Drafts (change_command change.entry) self.old self.new result }
-        ensures changed { OnOk result (HasOnlyChanged self.new) }
+        ensures changed { DraftsChanged result self.new }
     {
         match self.draft(change) {
-            Ok(drafted) => self.drop_unchanged(drafted),
+            Ok(drafted) => {
+                if drafted.weight > MOST_WEIGHT - START_WEIGHT {
+                    return Ok(drafted);
+                }
+                self.drop_unchanged(drafted)
+            }
             Err(answer) => Err(answer),
         }
     }
