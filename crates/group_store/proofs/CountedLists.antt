@@ -48,7 +48,7 @@ use Rattle.group_store.specs.Links.IsLinkDamage.{LeadsNowhere, HighLink}
 use Rattle.group_store.specs.Loading.{group_mark}
 use Rattle.group_store.specs.Making.{IsMakeDamage, IsMakeFault, empty_fields, empty_group, led, link_damage}
 use Rattle.group_store.specs.Making.IsMakeDamage.{BadFree, BadLink, BadNode, FullFile, NotDense}
-use Rattle.group_store.specs.Naming.{NamesFound, NamesNoNode}
+use Rattle.group_store.specs.Naming.{NamesNoNode}
 use Rattle.group_store.specs.Spreading.{HasCountedList, cleared}
 use Rattle.group_store.specs.Walking.{IsWalkDamage, group_row_at}
 use Rattle.group_store.specs.Walking.IsWalkDamage.{HighMark, NoList, UnknownGroup}
@@ -295,28 +295,7 @@ pub list_own : (r : Result OwnGroup Fault) (s now end : State) (node : ℕ) → 
 list_own (Err fault) s now end node same list counted = tt
 list_own (Ok own) s now end node same list counted = λ h. (list (list_read s now node same h), counted)
 
--- ---- a node that is named is as it was found
-
-pub found_same : (s t : State) (fault : Fault) → SameButReads s t → NamesFound s t fault
-found_same s t Memory same = tt
-found_same s t Disk same = tt
-found_same s t (Damaged damage) same = λ _. ap (λ (q : State). q.records (key_in damage.file damage.id)) same
-
-pub found_never : (s t : State) (fault : Fault) → NamesNoNode fault → NamesFound s t fault
-found_never s t Memory never = tt
-found_never s t Disk never = tt
-found_never s t (Damaged damage) never = λ e. absurd (never e)
-
-pub found_unwritten : {T : Type 0} (s t : State) (r : Result T Fault) → OnDamage r (SameButReads s t) → IfErr r (NamesFound s t)
-found_unwritten s t (Ok x) same = tt
-found_unwritten s t (Err Memory) same = tt
-found_unwritten s t (Err Disk) same = tt
-found_unwritten s t (Err (Damaged damage)) same = found_same s t (Damaged damage) same
-
-pub found_read : (s z t : State) (fault : Fault) → SameButReads s z → NamesFound z t fault → NamesFound s t fault
-found_read s z t Memory same told = tt
-found_read s z t Disk same told = tt
-found_read s z t (Damaged damage) same told = λ e. told e ∙ ap (λ (q : State). q.records (key_in damage.file damage.id)) same
+-- ---- other faults
 
 -- a relationship that can't be read, or can't be put at the head of a group, is no node
 pub rel_listed : (s : State) (x : ℕ) (fault : RowFault) → rels.IsRelFault s x fault → NamesNoNode (of_row fault)

@@ -42,6 +42,7 @@ use Rattle.group_store.proofs.DenseStays.{dense_moved}
 use Rattle.group_store.proofs.GroupRules.{row_of_group}
 use Rattle.group_store.proofs.LeftBeside.{beside_moved}
 use Rattle.group_store.proofs.Moves.{in_group, pushed_shape}
+use Rattle.group_store.proofs.OwnRecords.{group_says}
 use Rattle.group_store.proofs.Tallies.{apart-tallied, count-tallied, count_high, field-tallied, file-tallied, shape-tallied}
 
 -- ---- rows of relationships
@@ -261,7 +262,7 @@ module _ (m : State) (node rel g : ℕ) (row : RelRow) (groups came : List ℕ) 
 
   -- rows, and what stands where
   pub beside_e : LeavesBeside m.records e.records node
-  beside_e = beside_moved m t e node rel head refl refl refl
+  beside_e = beside_moved m t e node rel head refl (place_range side).0 (group_says m.records node g (chain.only g here)) refl refl
 
   pub rows_e : (x : ℕ) → rel_at e.records x ≡ rel_at m.records x
   rows_e = beside_rels m.records e.records node beside_e

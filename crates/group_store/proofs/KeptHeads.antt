@@ -226,7 +226,7 @@ module _ (r : Rec) (counts : Counts) where
   pub raised_kind : field 1 (raised r counts) format.kind ≡ format.counted
   raised_kind = numbered 1 format.kind (omega arith) ∙ field-with_field_same 1 r format.kind format.counted (omega arith) (omega arith)
 
-  raised_number : (at : ℕ) → 1 ≤ at → at + 4 ≤ 32 → field 4 (raised r counts) at ≡ field 4 r at
+  pub raised_number : (at : ℕ) → 1 ≤ at → at + 4 ≤ 32 → field 4 (raised r counts) at ≡ field 4 r at
   raised_number at low within = numbered 4 at within ∙ field-with_field_other 1 r format.kind format.counted 4 at (omega arith) (inl (omega arith))
 
 alike_raised : (s : State) (g : ℕ) (counts : Counts) → IsAlike s.records (raised_state s g counts).records

@@ -1,7 +1,7 @@
 -- What a change of a node's groups leaves of all other records, whatever the records are.
 use Rattle.std.specs.Prelude.{IfSome, OnOk, nat_eq, not}
-use Rattle.std.proofs.lemmas.Bool.{false≢true}
-use Rattle.std.proofs.Common.{◌≡◌, ◌≢◌, ◌⊎◌, ℕ, ◌+◌, ◌<◌, ◌≤◌, Result, Ok, Err, sym, ap, ◌∙◌, subst, inl, inr, ⊎_elim, arith, refl}
+use Rattle.std.proofs.lemmas.Bool.{and_parts, eqb-true, false≢true}
+use Rattle.std.proofs.Common.{◌≡◌, ◌≢◌, ◌⊎◌, ℕ, ◌+◌, ◌<◌, ◌≤◌, ◌^◌, List, true, false, Result, Ok, Err, sym, ap, ◌∙◌, subst, inl, inr, ⊎_elim, arith, refl}
 use Rattle.rec_bytes.specs.declared.fault.Fault.{Fault}
 use Rattle.rec_bytes.specs.declared.fault.Fault.TheVariants.{Memory, Disk, Damaged}
 use Rattle.rec_bytes.specs.declared.key.Key.{Key}
@@ -13,7 +13,7 @@ use Rattle.rec_bytes.specs.Meta as metas
 use Rattle.rec_bytes.specs.Record.{field, with_field}
 use Rattle.rec_bytes.specs.RecordFiles.{meta_key_of}
 use Rattle.rec_bytes.specs.Space.{SameButReads, State, after_get, after_put, after_set, meta_of, put}
-use Rattle.rec_bytes.proofs.Numbers.{field-with_field_other}
+use Rattle.rec_bytes.proofs.Numbers.{field-lt, field-with_field_other}
 use Rattle.rec_bytes.proofs.Spaces.{meta_in-put_other, put_other, put_same}
 use Rattle.node_store.specs.NodeRecord.{node_key}
 use Rattle.id_freelist.specs.Taking.{taken, taken_id}
@@ -24,11 +24,11 @@ use Rattle.store_rules.proofs.ViewLaws.{group_used, kind_below, kind_low, live_t
 use Rattle.chain_edit.specs.Chains.{next_place, prev_place}
 use Rattle.chain_edit.specs.Links as links
 use Rattle.chain_edit.specs.Pushing.{pushed}
-use Rattle.store_rules.proofs.ChainSteps.{on_test}
-use Rattle.chain_edit.proofs.LinkLaws.{field-set_other, place_high, place_low, set_at}
+use Rattle.store_rules.proofs.ChainSteps.{first_in, on_test}
+use Rattle.chain_edit.proofs.LinkLaws.{elsewhere-set_prev, field-set_other, key_cases, place_high, place_low, set_at}
 use Rattle.group_store.specs.Counting.{one_more, tallied}
 use Rattle.group_store.specs.GroupRecord.{group_key}
-use Rattle.group_store.specs.GroupChain.{IsGroupOf}
+use Rattle.group_store.specs.GroupChain.{IsGroupList, IsGroupOf, is_group_of, next_group}
 use Rattle.group_store.specs.Leaving.{LeavesBeside, LeavesCounted}
 use Rattle.group_store.specs.Links.{backed}
 use Rattle.group_store.specs.Making.{empty_group, led, made}
@@ -38,12 +38,19 @@ use Rattle.group_store.specs.declared.raising.Counts.{Counts}
 use Rattle.group_store.proofs.Clearing.{clear_of, clear_other}
 use Rattle.group_store.proofs.DenseStays.{taken_other}
 use Rattle.group_store.proofs.KeptHeads.{numbered, raised_kind}
-use Rattle.group_store.proofs.Tallies.{file-tallied}
+use Rattle.group_store.proofs.Makes.{kind-empty_group, number-empty_group}
+use Rattle.group_store.proofs.OwnRecords.{group_by, group_says, group_true}
+use Rattle.group_store.proofs.Tallies.{elsewhere-tallied, field-tallied, file-tallied}
 
 -- ---- one change
 
 pub beside_none : (s : Records) (node : ℕ) → LeavesBeside s s node
-beside_none s node = record { others = λ key a b c d. refl; here = λ n at inside one apart. refl; rels = λ x n at inside apart. refl }
+beside_none s node = record {
+  others = λ key a b c d. refl;
+  here = λ n at inside one apart. refl;
+  rels = λ x n at inside apart. refl;
+  groups = λ g apart. refl;
+}
 
 pub beside_read : (s t : State) (node : ℕ) → SameButReads s t → LeavesBeside s.records t.records node
 beside_read s t node same = subst (λ (z : State). LeavesBeside s.records z.records node) (sym same) (beside_none s.records node)
@@ -53,23 +60,29 @@ beside_then s t u node a b = record {
   others = λ key no_rel no_group no_meta ne. b.others key no_rel no_group no_meta ne ∙ a.others key no_rel no_group no_meta ne;
   here = λ n at inside one apart. b.here n at inside one apart ∙ a.here n at inside one apart;
   rels = λ x n at inside apart. b.rels x n at inside apart ∙ a.rels x n at inside apart;
+  groups = λ g no. let later = b.groups g no in later ∙ a.groups g (ap (λ r. is_group_of r node) (sym later) ∙ no);
 }
 
--- no record but groups and their meta record is other
+-- no record but the node's groups and their meta record is other
 beside_groups : (s t : Records) (node : ℕ) → ((key : Key) → key.file ≢ format.groups_file → key ≢ meta_key_of format.groups_file → t key ≡ s key)
-    → LeavesBeside s t node
-beside_groups s t node same = record {
+    → ((g : ℕ) → is_group_of (t (group_key g)) node ≡ false → t (group_key g) ≡ s (group_key g)) → LeavesBeside s t node
+beside_groups s t node same groups = record {
   others = λ key a b c d. same key b c;
   here = λ n at inside one apart. ap (λ r. field n r at) (same (key_in format.nodes_file node) (λ e. omega arith) (λ e. let f = ap (λ (k : Key). k.file)
       e in omega arith));
   rels = λ x n at inside apart. ap (λ r. field n r at) (same (key_in format.relationships_file x) (λ e. omega arith) (λ e. let f = ap (λ (k : Key). k.file)
       e in omega arith));
+  groups = groups;
 }
 
--- a group is written
-pub beside_group : (s : Records) (node : ℕ) (key : Key) (rec : Rec) → key.file ≡ format.groups_file → LeavesBeside s (put s key rec) node
-beside_group s node key rec group = beside_groups s (put s key rec) node
+-- a group of the node is written
+pub beside_group : (s : Records) (node : ℕ) (key : Key) (rec : Rec) → key.file ≡ format.groups_file → is_group_of rec node ≡ true
+    → LeavesBeside s (put s key rec) node
+beside_group s node key rec group own = beside_groups s (put s key rec) node
     (λ q no_group no_meta. put_other s key rec q (λ e. no_group (ap (λ (k : Key). k.file) e ∙ group)))
+    (λ g no. ⊎_elim
+    (λ (e : group_key g ≡ key). absurd (false≢true (sym no ∙ ap (λ r. is_group_of r node) (ap (put s key rec) e ∙ put_same s key rec) ∙ own)))
+    (λ ne. put_other s key rec (group_key g) ne) (key_cases (group_key g) key))
 
 -- the node's record is
 beside_node : (s : Records) (node : ℕ) (rec : Rec) → ((n at : ℕ) → at + n ≤ format.record_bytes → 1 ≤ at → (at + n ≤ format.node_first_link) ⊎
@@ -80,6 +93,7 @@ beside_node s node rec stays = record {
   here = λ n at inside one apart. ap (λ r. field n r at) (put_same s (node_key node) rec) ∙ stays n at inside one apart;
   rels = λ x n at inside apart. ap (λ r. field n r at) (put_other s (node_key node) rec (key_in format.relationships_file x)
       (λ e. let f = ap (λ (k : Key). k.file) e in omega arith));
+  groups = λ g no. put_other s (node_key node) rec (group_key g) (λ e. let f = ap (λ (k : Key). k.file) e in omega arith);
 }
 
 -- a link of a relationship is set
@@ -92,6 +106,8 @@ beside_link s node p to rel low high = record {
   rels = λ x n at inside apart. field-set_other s p to (key_in format.relationships_file x) n at inside
       (λ e. ⊎_elim (λ (k : at + n ≤ format.relationship_source_previous). inl (omega arith)) (λ (k : format.relationship_first_property ≤ at). inr
       (omega arith)) apart);
+  groups = λ g no. put_other s p.key (with_field 4 (s p.key) p.field to) (group_key g)
+      (λ e. let f : format.groups_file ≡ format.relationships_file = ap (λ (k : Key). k.file) e ∙ rel in omega arith);
 }
 
 pub beside_prev : (s : State) (node m x to : ℕ) → LeavesBeside s.records (links.prev_set s m x to).records node
@@ -106,42 +122,86 @@ beside_next s node m x to =
 
 -- ---- a group that is made
 
-beside_led : (u : State) (node first id : ℕ) (rec : Rec) → LeavesBeside u.records (led u node first id rec).records node
+-- the number of a group's record is set, behind its owner
+own_set : (r : Rec) (node place to : ℕ) → 12 ≤ place → is_group_of r node ≡ true → is_group_of (with_field 4 r place to) node ≡ true
+own_set r node place to far own = group_by r (with_field 4 r place to) node
+    (field-with_field_other 4 r place to 1 format.kind (omega arith) (inr (omega arith)))
+    (field-with_field_other 4 r place to 4 format.group_owner (omega arith) (inr (omega arith))) ∙ own
+
+-- the first group, if any, is the node's
+abbrev pub FirstIsOwn : Records → ℕ → ℕ → Type 0
+FirstIsOwn records node first = (first ≡ format.nil) ⊎ (is_group_of (records (group_key first)) node ≡ true)
+
+beside_led : (u : State) (node first id : ℕ) (rec : Rec) → is_group_of rec node ≡ true → FirstIsOwn u.records node first
+    → LeavesBeside u.records (led u node first id rec).records node
 unfolding led backed
-beside_led u node first id rec =
+beside_led u node first id rec own first_own =
     let t = after_put u (group_key id) rec in
     let b = backed t first id in
-    beside_then u.records t.records (led u node first id rec).records node (beside_group u.records node (group_key id) rec refl)
+    beside_then u.records t.records (led u node first id rec).records node (beside_group u.records node (group_key id) rec refl own)
     (beside_then t.records b.records (led u node first id rec).records node
     (on_test (λ (q : State). LeavesBeside t.records q.records node) first format.nil t (after_set t (group_key first) 4 format.group_previous id)
-    (λ _. beside_none t.records node) (λ _. beside_group t.records node (group_key first) _ refl))
+    (λ _. beside_none t.records node) (λ some. beside_group t.records node (group_key first) _ refl (own_set (t.records (group_key first)) node
+    format.group_previous id (omega arith) (own_there some))))
     (beside_node b.records node (with_field 4 (b.records (node_key node)) format.node_first_link id)
     (λ n at inside one apart. sym (ap (λ r. field n r at) (put_same b.records (node_key node) (with_field 4 (b.records (node_key node)) format.node_first_link
     id)))
     ∙ field-set_other b.records (record { key = node_key node; field = format.node_first_link }) id (node_key node) n at inside (λ _. apart))))
+  where
+    own_there : first ≢ format.nil → is_group_of ((after_put u (group_key id) rec).records (group_key first)) node ≡ true
+    own_there some = ⊎_elim
+        (λ (e : group_key first ≡ group_key id). ap (λ r. is_group_of r node) (ap (put u.records (group_key id) rec) e ∙ put_same u.records (group_key id) rec)
+        ∙ own)
+        (λ ne. ap (λ r. is_group_of r node) (put_other u.records (group_key id) rec (group_key first) ne) ∙ ⊎_elim (λ none. absurd (some none)) (λ is. is)
+        first_own)
+        (key_cases (group_key first) (group_key id))
 
-pub beside_made : (s : State) (node label : ℕ) → LeavesBeside s.records (made s node label).records node
+pub beside_made : (s : State) (node label : ℕ) → node < 2 ^ 32 → label < 2 ^ 32 → FirstIsOwn s.records node (first_link s.records node)
+    → LeavesBeside s.records (made s node label).records node
 unfolding made
-beside_made s node label =
+beside_made s node label small_node small_label first_own =
     let first = first_link s.records node in
     let id = taken_id (meta_of s format.groups_file) in
     let u = taken (after_get s) format.groups_file in
+    let small_first = field-lt 4 (rec_at s.records format.nodes_file node) format.node_first_link in
+    let group_same : (g : ℕ) → u.records (group_key g) ≡ s.records (group_key g)
+    = λ g. taken_other (after_get s) (group_key g) (λ e. let f = ap (λ (k : Key). k.file) e in absurd (omega arith)) in
     beside_then s.records u.records (made s node label).records node
-    (beside_groups s.records u.records node (λ key a b. taken_other (after_get s) key b))
-    (beside_led u node first id (empty_group node label first))
+    (beside_groups s.records u.records node (λ key a b. taken_other (after_get s) key b) (λ g no. group_same g))
+    (beside_led u node first id (empty_group node label first) (group_true (empty_group node label first) node
+    (ap is_group_kind (kind-empty_group node label first small_node small_label small_first))
+    (number-empty_group node label first format.group_owner node small_node small_label small_first refl))
+    (⊎_elim (λ none. inl none) (λ is. inr (ap (λ r. is_group_of r node) (group_same first) ∙ is)) first_own))
+
+-- the first group is the node's where its links lead through its groups
+pub first_own : (records : Records) (node : ℕ) (xs : List ℕ) → IsGroupList records node (first_link records node) xs
+    → FirstIsOwn records node (first_link records node)
+first_own records node xs list = ⊎_elim (λ none. inl none) (λ i. inr (group_says records node (first_link records node) (list.only (first_link records node) i)))
+    (first_in (next_group records) (first_link records node) xs list.walk)
 
 -- ---- a group that gets its numbers
 
-pub beside_raised : (s z t : State) (node g : ℕ) (counts : Counts) → SameButReads s z → t ≡ raised_state z g counts → LeavesBeside s.records t.records node
-beside_raised s z t node g counts same is = beside_then s.records z.records t.records node (beside_read s z node same)
+pub beside_raised : (s z t : State) (node g : ℕ) (counts : Counts) → SameButReads s z → t ≡ raised_state z g counts
+    → is_group_of (s.records (group_key g)) node ≡ true → LeavesBeside s.records t.records node
+beside_raised s z t node g counts same is own = beside_then s.records z.records t.records node (beside_read s z node same)
     (subst (λ (q : State). LeavesBeside z.records q.records node) (sym is) (beside_group z.records node (group_key g) (raised (z.records (group_key g)) counts)
-    refl))
+    refl (group_true (raised (z.records (group_key g)) counts) node (ap is_group_kind (raised_kind (z.records (group_key g)) counts))
+    (numbered (z.records (group_key g)) counts 4 format.group_owner (omega arith)
+    ∙ field-with_field_other 1 (z.records (group_key g)) format.kind format.counted 4 format.group_owner (omega arith) (inl (omega arith)) ∙ owner_z))))
+  where
+    own_z : is_group_of (z.records (group_key g)) node ≡ true
+    own_z = ap (λ (q : State). is_group_of (q.records (group_key g)) node) same ∙ own
+
+    owner_z : field 4 (z.records (group_key g)) format.group_owner ≡ node
+    owner_z = eqb-true _ node (and_parts (is_group_kind (field 1 (z.records (group_key g)) format.kind))
+        (nat_eq (field 4 (z.records (group_key g)) format.group_owner) node) own_z).1
 
 -- ---- a relationship that comes into a group
 
-beside_pushed : (s : State) (node : ℕ) (h : Head) (rel : ℕ) → h.key.file ≡ format.groups_file → LeavesBeside s.records (pushed s h node rel).records node
+beside_pushed : (s : State) (node : ℕ) (h : Head) (rel : ℕ) → h.key.file ≡ format.groups_file → 12 ≤ h.field
+    → is_group_of (s.records h.key) node ≡ true → LeavesBeside s.records (pushed s h node rel).records node
 unfolding pushed links.backed
-beside_pushed s node h rel group =
+beside_pushed s node h rel group far own =
     let first = first_of s.records h in
     let b = links.backed (after_get s) node first rel in
     let l = links.next_set b node rel first in
@@ -149,21 +209,39 @@ beside_pushed s node h rel group =
     (on_test (λ (q : State). LeavesBeside s.records q.records node) first format.nil (after_get s) (links.prev_set (after_get s) node first rel)
     (λ _. beside_none s.records node) (λ _. beside_prev (after_get s) node node first rel))
     (beside_then b.records l.records (pushed s h node rel).records node (beside_next b node node rel first) (beside_group l.records node h.key
-    (with_field 4 (s.records h.key) h.field rel) group))
+    (with_field 4 (s.records h.key) h.field rel) group (own_set (s.records h.key) node h.field rel far own)))
 
-beside_tallied : (change : ℕ → ℕ) (s : State) (node : ℕ) (h : Head) → LeavesBeside s.records (tallied change s h).records node
-beside_tallied change s node h = beside_groups s.records (tallied change s h).records node (λ key a b. file-tallied change s h key a)
+own_pushed : (t : State) (node : ℕ) (h : Head) (rel : ℕ) → 12 ≤ h.field → is_group_of (t.records h.key) node ≡ true
+    → is_group_of ((pushed t h node rel).records h.key) node ≡ true
+unfolding pushed
+own_pushed t node h rel far own =
+    let all = links.next_set (links.backed (after_get t) node (first_of t.records h) rel) node rel (first_of t.records h) in
+    ap (λ r. is_group_of r node) (put_same all.records h.key (with_field 4 (t.records h.key) h.field rel)) ∙ own_set (t.records h.key) node h.field rel far own
+
+beside_tallied : (change : ℕ → ℕ) (s : State) (node : ℕ) (h : Head) → is_group_of (s.records h.key) node ≡ true
+    → LeavesBeside s.records (tallied change s h).records node
+beside_tallied change s node h own = beside_groups s.records (tallied change s h).records node (λ key a b. file-tallied change s h key a)
+    (λ g no. ⊎_elim
+    (λ (e : group_key g ≡ h.key). absurd (false≢true (sym no ∙ ap (λ k. is_group_of ((tallied change s h).records k) node) e
+    ∙ group_by (s.records h.key) ((tallied change s h).records h.key) node (field-tallied change s h h.key 1 format.kind (omega arith))
+    (field-tallied change s h h.key 4 format.group_owner (omega arith)) ∙ own)))
+    (λ ne. elsewhere-tallied change s h (group_key g) ne) (key_cases (group_key g) h.key))
 
 pub beside_freed : (m t : State) (node rel : ℕ) → t ≡ links.prev_set m node rel format.nil → LeavesBeside m.records t.records node
 beside_freed m t node rel freed = subst (λ (z : State). LeavesBeside m.records z.records node) (sym freed) (beside_prev m node node rel format.nil)
 
-pub beside_moved : (m t end : State) (node rel : ℕ) (h : Head) → h.key.file ≡ format.groups_file → t ≡ links.prev_set m node rel format.nil
+pub beside_moved : (m t end : State) (node rel : ℕ) (h : Head) → h.key.file ≡ format.groups_file → 20 ≤ h.field
+    → is_group_of (m.records h.key) node ≡ true → t ≡ links.prev_set m node rel format.nil
     → end ≡ tallied one_more (pushed t h node rel) h → LeavesBeside m.records end.records node
-beside_moved m t end node rel h group freed put = beside_then m.records t.records end.records node
+beside_moved m t end node rel h group far own freed put = beside_then m.records t.records end.records node
     (beside_freed m t node rel freed)
     (subst (λ (z : State). LeavesBeside t.records z.records node) (sym put)
-    (beside_then t.records (pushed t h node rel).records (tallied one_more (pushed t h node rel) h).records node (beside_pushed t node h rel group)
-    (beside_tallied one_more (pushed t h node rel) node h)))
+    (beside_then t.records (pushed t h node rel).records (tallied one_more (pushed t h node rel) h).records node (beside_pushed t node h rel group
+    (omega arith) own_t) (beside_tallied one_more (pushed t h node rel) node h (own_pushed t node h rel (omega arith) own_t))))
+  where
+    own_t : is_group_of (t.records h.key) node ≡ true
+    own_t = ap (λ r. is_group_of r node) (ap (λ (q : State). q.records h.key) freed
+        ∙ elsewhere-set_prev m.records node rel format.nil h.key (λ e. omega (arith, e, group))) ∙ own
 
 -- ---- a node that becomes dense
 

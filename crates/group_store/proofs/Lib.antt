@@ -32,6 +32,7 @@ pub mod KeptHeads
 pub mod Leadings
 pub mod Leaves
 pub mod LeftBeside
+pub mod LowHeads
 pub mod MadeHeads
 pub mod MadeRules
 pub mod MakeSteps
@@ -42,6 +43,7 @@ pub mod Openings
 pub mod Opens
 pub mod OtherChains
 pub mod OwnGroups
+pub mod OwnRecords
 pub mod OwnRoom
 pub mod RaisedRecords
 pub mod Raises
@@ -50,6 +52,7 @@ pub mod Seeks
 pub mod SideCounts
 pub mod SparseChains
 pub mod Spreads
+pub mod Strangers
 pub mod Tallies
 pub mod Touches
 pub mod Turns

@@ -1,5 +1,5 @@
 -- Heads of nodes where a group is made, a relationship comes into one, or a node becomes dense, whatever the records are.
-use Rattle.std.proofs.Common.{◌≡◌, ◌≢◌, ℕ, ◌+◌, ◌<◌, ◌≤◌, ◌^◌, Some, sym, ap, ◌∙◌, subst, inl, inr, arith, refl}
+use Rattle.std.proofs.Common.{◌≡◌, ◌≢◌, ◌⊎◌, ℕ, ◌+◌, ◌<◌, ◌≤◌, ◌^◌, Some, sym, ap, ◌∙◌, subst, inl, inr, arith, refl}
 use Rattle.id_freelist.specs.Taking.{IsUndamaged, taken, taken_id}
 use Rattle.node_store.specs.NodeRecord.{node_key}
 use Rattle.rec_bytes.specs.declared.key.Key.{Key}
@@ -10,9 +10,10 @@ use Rattle.rec_bytes.specs.Record.{field}
 use Rattle.rec_bytes.specs.RecordFiles.{meta_key_of}
 use Rattle.rec_bytes.specs.Space.{State, after_get, meta_of}
 use Rattle.rec_bytes.proofs.Spaces.{put_other}
+use Rattle.rec_bytes.specs.Tables.{field_at}
 use Rattle.store_rules.specs.Breaking.{IsHeadOf, IsOwnedBy}
-use Rattle.store_rules.specs.Rules.{Head}
-use Rattle.store_rules.specs.Views.{GroupRow, Records, group_at, group_in, high, kind_at, kind_in, rec_at}
+use Rattle.store_rules.specs.Rules.{Head, first_of}
+use Rattle.store_rules.specs.Views.{GroupRow, Records, group_at, group_in, high, is_group_kind, kind_at, kind_in, rec_at}
 use Rattle.store_rules.proofs.ViewLaws.{kind_by, kind_low, row_some, some_row}
 use Rattle.store_rules.proofs.NumberLaws.{nat_cases}
 use Rattle.std.proofs.Common.{⊎_elim}
@@ -23,15 +24,16 @@ use Rattle.group_store.specs.Counting.{one_more, tallied}
 use Rattle.group_store.specs.GroupChain.{IsDense}
 use Rattle.group_store.specs.GroupRecord.{group_key}
 use Rattle.group_store.specs.Leaving.{KeepsHeads, KeepsOtherHeads}
-use Rattle.group_store.specs.Making.{empty_group, led}
+use Rattle.group_store.specs.Making.{IsEmptyOf, empty_fields, empty_group, led}
 use Rattle.group_store.specs.Sides.{group_head}
 use Rattle.group_store.specs.Spreading.{cleared}
 use Rattle.group_store.specs.declared.side.Side.{Side}
+use Rattle.group_store.specs.declared.side.Side.TheVariants.{Out, In as Into, Loop}
 use Rattle.group_store.proofs.Clearing.{clear_of}
 use Rattle.group_store.proofs.DenseStays.{led_kind, pushed_other, taken_other}
 use Rattle.group_store.proofs.KeptHeads.{alike_by, group_grown, heads_alike, place_first}
 use Rattle.group_store.proofs.Leadings.{pushed_field, taken_marks}
-use Rattle.group_store.proofs.Makes.{group_stays, kind-empty_group, meta_stays, new, number-empty_group, number_here, stays}
+use Rattle.group_store.proofs.Makes.{group_stays, kind-empty_group, meta_stays, new, number-empty_group, number_aside, number_here, stays}
 use Rattle.group_store.proofs.Tallies.{field-tallied, file-tallied}
 
 -- a dense node has the heads of a group in use that it owns
@@ -71,17 +73,28 @@ module _ (now u : State) (node label first id : ℕ) (rec : Rec) (took : u ≡ t
   took_other : (key : Key) → key ≢ meta_key_of format.groups_file → u.records key ≡ now.records key
   took_other key ne = ap (λ (q : State). q.records key) took ∙ taken_other now key ne
 
-  owned_new : IsOwnedBy after.records node id
-  owned_new = record {
-    used = λ e.
-        let m = mark in
-        let low = marks.1 in
-        let counted = number_here u node first id rec 1 format.kind (omega arith) ∙ ap (λ r. field 1 r format.kind) rec_is
-        ∙ kind-empty_group node label first small_node small_label small_first in
-        let none = sym counted ∙ sym (kind_low (high after.records format.groups_file) (rec_at after.records format.groups_file id) id (omega arith)) ∙ e in
-        omega arith;
-    owner = number_here u node first id rec 4 format.group_owner (omega arith) ∙ ap (λ r. field 4 r format.group_owner) rec_is
-        ∙ number-empty_group node label first format.group_owner node small_node small_label small_first refl;
+  kind_new : kind_at after.records format.groups_file id ≡ format.counted
+  kind_new =
+      let m = mark in
+      let low = marks.1 in
+      kind_low (high after.records format.groups_file) (rec_at after.records format.groups_file id) id (omega arith)
+      ∙ number_here u node first id rec 1 format.kind (omega arith) ∙ ap (λ r. field 1 r format.kind) rec_is
+      ∙ kind-empty_group node label first small_node small_label small_first
+
+  value : (at v : ℕ) → at + 4 ≤ 64 → (at + 4 ≤ 12) ⊎ (16 ≤ at) → field_at (empty_fields node label first) 4 at ≡ Some v
+      → field 4 (rec_at after.records format.groups_file id) at ≡ v
+  value at v fits apart is = number_aside u node first id rec 4 at fits apart ∙ ap (λ r. field 4 r at) rec_is
+      ∙ number-empty_group node label first at v small_node small_label small_first is
+
+  none_new : (side : Side) → first_of after.records (group_head id side) ≡ format.nil
+  none_new Out = value format.group_first_out format.nil (omega arith) (inr (omega arith)) refl
+  none_new Into = value format.group_first_in format.nil (omega arith) (inr (omega arith)) refl
+  none_new Loop = value format.group_first_loop format.nil (omega arith) (inr (omega arith)) refl
+
+  empty_new : IsEmptyOf after.records node id
+  empty_new = record {
+    group = record { kind = ap is_group_kind kind_new; owner = value format.group_owner node (omega arith) (inl (omega arith)) refl };
+    none = none_new;
   }
 
   group_new : (g : ℕ) (row : GroupRow) → group_at now.records g ≡ Some row → group_at after.records g ≡ Some row
@@ -122,9 +135,9 @@ module _ (now u : State) (node label first id : ℕ) (rec : Rec) (took : u ≡ t
     groups = group_new;
   })
 
-  owned_led : IsOwnedBy (led u node first id rec).records node id
+  empty_led : IsEmptyOf (led u node first id rec).records node id
   unfolding new
-  owned_led = owned_new
+  empty_led = empty_new
 
   heads_led : KeepsHeads now (led u node first id rec)
   unfolding new
@@ -132,8 +145,8 @@ module _ (now u : State) (node label first id : ℕ) (rec : Rec) (took : u ≡ t
 
   -- by the space before it and after it
   module _ (s end : State) (read : now ≡ after_get s) (is : end ≡ led u node first id rec) where
-    pub owned_made : IsOwnedBy end.records node id
-    owned_made = subst (λ (t : State). IsOwnedBy t.records node id) (sym is) owned_led
+    pub empty_made : IsEmptyOf end.records node id
+    empty_made = subst (λ (t : State). IsEmptyOf t.records node id) (sym is) empty_led
 
     pub heads_made : KeepsHeads s end
     heads_made = subst (λ (t : State). KeepsHeads s t) (sym is) (subst (λ (z : State). KeepsHeads z (led u node first id rec)) read heads_led)

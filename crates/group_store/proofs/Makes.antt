@@ -104,10 +104,14 @@ module _ (u : State) (node first id : ℕ) (rec : Rec) where
   pub group_here : id ≢ first → rec_at new.records 3 id ≡ rec
   group_here ne = new_other (group_key id) (no_node id) ∙ other_back (group_key id) (λ e. ne (same_group id first e)) ∙ t_same
 
-  -- its kind, type and owner, whichever group stood first
+  -- all of it but the link to the group before, whichever group stood first
+  pub number_aside : (n at : ℕ) → at + n ≤ 64 → (at + n ≤ 12) ⊎ (16 ≤ at) → field n (rec_at new.records 3 id) at ≡ field n rec at
+  number_aside n at fits apart = ap (λ r. field n r at) (new_other (group_key id) (no_node id))
+      ∙ field_back (group_key id) n at fits (λ _. apart) ∙ ap (λ r. field n r at) t_same
+
+  -- its kind, type and owner
   pub number_here : (n at : ℕ) → at + n ≤ 12 → field n (rec_at new.records 3 id) at ≡ field n rec at
-  number_here n at low = ap (λ r. field n r at) (new_other (group_key id) (no_node id))
-      ∙ field_back (group_key id) n at (omega arith) (λ _. inl low) ∙ ap (λ r. field n r at) t_same
+  number_here n at low = number_aside n at (omega arith) (inl low)
 
   pub back_link : first ≢ format.nil → id < 2 ^ 32 → previous_group new.records first ≡ id
   unfolding b backed

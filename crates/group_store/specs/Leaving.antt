@@ -1,5 +1,5 @@
 -- What a change of a node's groups leaves of all other records.
-use Rattle.std.specs.Prelude.{◌≡◌, ◌≢◌, ◌⊎◌, ℕ, ◌+◌, ◌≤◌, List, Some}
+use Rattle.std.specs.Prelude.{◌≡◌, ◌≢◌, ◌⊎◌, ℕ, ◌+◌, ◌<◌, ◌≤◌, false, List, Some}
 use Rattle.rec_bytes.specs.declared.key.Key.{Key}
 use Rattle.rec_bytes.specs.declared.record.Rec.{Rec}
 use Rattle.rec_bytes.specs.Format as format
@@ -8,10 +8,12 @@ use Rattle.rec_bytes.specs.RecordFiles.{meta_key_of}
 use Rattle.rec_bytes.specs.Space.{State}
 use Rattle.store_rules.specs.Breaking.{IsHeadOf}
 use Rattle.store_rules.specs.Chains.{In, place_of}
-use Rattle.store_rules.specs.Rules.{Head}
-use Rattle.store_rules.specs.Views.{GroupRow, Records, group_at, is_group_kind, is_live, kind_at}
-use Rattle.store_rules.specs.Views.{rec_at}
+use Rattle.store_rules.specs.Rules.{Head, first_of}
+use Rattle.store_rules.specs.Views.{GroupRow, Records, group_at, high, is_group_kind, is_live}
+use Rattle.store_rules.specs.Views.{kind_at, rec_at}
 use Rattle.node_store.specs.NodeRecord.{node_key}
+use Rattle.group_store.specs.GroupChain.{is_group_of}
+use Rattle.group_store.specs.GroupRecord.{group_key}
 
 -- the record names the node as its source or its target
 abbrev pub IsEndIn : Rec → ℕ → Type 0
@@ -47,7 +49,8 @@ pub record LeavesOthers (s t : State) (node : ℕ) : Type 0 where
       ≡ field n (rec_at s.records format.groups_file g) at
 
 -- Whatever the records are: of the node only its kind and its first link are other, and of
--- relationships only links. Besides, groups may be, and their meta record.
+-- relationships only links. Besides, groups that are the node's then may be, and the meta record of
+-- the groups.
 pub record LeavesBeside (s t : Records) (node : ℕ) : Type 0 where
   pub others : (key : Key) → key.file ≢ format.relationships_file
       → key.file ≢ format.groups_file → key ≢ meta_key_of format.groups_file
@@ -61,6 +64,8 @@ pub record LeavesBeside (s t : Records) (node : ℕ) : Type 0 where
       ⊎ (format.relationship_first_property ≤ at)
       → field n (rec_at t format.relationships_file x) at
       ≡ field n (rec_at s format.relationships_file x) at
+  pub groups : (g : ℕ) → is_group_of (t (group_key g)) node ≡ false
+      → t (group_key g) ≡ s (group_key g)
 
 -- Whatever the records are: of relationships only these are other, and of them only the two links
 -- that a chain of the node uses. Of groups only those are.
@@ -85,6 +90,15 @@ pub record LeavesCounted (s t : Records) : Type 0 where
   pub used : (g : ℕ) → is_group_kind (kind_at t format.groups_file g)
       ≡ is_group_kind (kind_at s format.groups_file g)
   pub live : (g : ℕ) → is_live t format.groups_file g ≡ is_live s format.groups_file g
+
+-- the link is none, or it leads to a relationship that was given out
+abbrev pub IsLowLink : Records → ℕ → Type 0
+IsLowLink records x = (x ≡ format.nil) ⊎ (x < high records format.relationships_file)
+
+-- The record of the head is as it was, or its chain begins at a relationship that was given out, or
+-- is empty.
+abbrev pub KeepsOrLeads : Records → Records → Head → Type 0
+KeepsOrLeads s t head = (t head.key ≡ s head.key) ⊎ IsLowLink t (first_of t head)
 
 -- Each node has the heads that it had.
 abbrev pub KeepsHeads : State → State → Type 0

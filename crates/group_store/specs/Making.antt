@@ -14,14 +14,17 @@ use Rattle.rec_bytes.specs.Record.{field, zeros}
 use Rattle.rec_bytes.specs.RecordFiles.{meta_key_of}
 use Rattle.rec_bytes.specs.Space.{State, after_get, after_put, after_set, meta_in, meta_of}
 use Rattle.rec_bytes.specs.Tables.{Fields, with_fields}
+use Rattle.store_rules.specs.Rules as rules
 use Rattle.store_rules.specs.Views.{Records, first_link, high, rec_at}
 use Rattle.rec_bytes.specs.declared.fault.Fault.{Fault}
 use Rattle.rec_bytes.specs.declared.fault.Fault.TheVariants.{Memory, Disk, Damaged}
 use Rattle.group_store.specs.declared.group_row.GroupRow.{GroupRow}
-use Rattle.group_store.specs.GroupChain.{IsDense, IsGroupChain, LacksType}
+use Rattle.group_store.specs.GroupChain.{IsDense, IsGroupChain, IsGroupOf, LacksType}
 use Rattle.group_store.specs.Faults.{full_damage}
 use Rattle.group_store.specs.GroupRecord.{group_key}
 use Rattle.group_store.specs.Links.{IsLinkDamage, backed}
+use Rattle.group_store.specs.Sides.{group_head}
+use Rattle.group_store.specs.declared.side.Side.{Side}
 use Rattle.group_store.specs.Walking.{chain_damage, group_row_at}
 
 -- the numbers of an empty group's record, with the group after it, each with its place and width
@@ -88,6 +91,21 @@ pub record HasMade (old new : Records) (node label : ℕ) (row : GroupRow) (free
   pub numbers : (g n at : ℕ) → at + n ≤ format.record_bytes → g ≢ row.id
       → (g ≡ first_link old node → (at + n ≤ format.group_previous) ⊎ (format.group_next ≤ at))
       → field n (rec_at new format.groups_file g) at ≡ field n (rec_at old format.groups_file g) at
+
+-- each chain of the group is empty
+abbrev pub HasNoRels : Records → ℕ → Type 0
+HasNoRels records g =
+    (side : Side) → rules.first_of records (group_head g side) ≡ format.nil
+
+-- a group of the node with empty chains
+pub record IsEmptyOf (records : Records) (node g : ℕ) : Type 0 where
+  pub group : IsGroupOf records node g
+  pub none : HasNoRels records g
+
+-- A group of the node, which is as it was or has empty chains.
+pub record IsOwnGroup (old new : Records) (node g : ℕ) : Type 0 where
+  pub group : IsGroupOf new node g
+  pub kept : (new (group_key g) ≡ old (group_key g)) ⊎ HasNoRels new g
 
 -- the first link of a node leads nowhere
 abbrev pub link_damage : ℕ → Damage

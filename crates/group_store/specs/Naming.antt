@@ -1,5 +1,5 @@
 -- Which records are called damaged where a head of a node is found or made.
-use Rattle.std.specs.Prelude.{◌≡◌, ◌≢◌, ◌⊎◌, ℕ}
+use Rattle.std.specs.Prelude.{◌≡◌, ◌≢◌, ◌⊎◌, ℕ, false}
 use Rattle.rec_bytes.specs.declared.damage.Damage.{Damage}
 use Rattle.rec_bytes.specs.declared.fault.Fault.{Fault}
 use Rattle.rec_bytes.specs.declared.fault.Fault.TheVariants.{Memory, Disk, Damaged}
@@ -7,7 +7,10 @@ use Rattle.rec_bytes.specs.Format as format
 use Rattle.rec_bytes.specs.Space.{State}
 use Rattle.id_freelist.specs.ListDamage.{IsListDamage}
 use Rattle.row_store.specs.Loading.{IsRowDamage}
-use Rattle.store_rules.specs.Views.{key_in}
+use Rattle.store_rules.specs.Views.{Records, key_in}
+use Rattle.group_store.specs.GroupChain.{is_group_of}
+use Rattle.group_store.specs.GroupRecord.{group_key}
+use Rattle.group_store.specs.Loading.{HasNoKind}
 use Rattle.group_store.specs.Opening.{IsFullDamage}
 
 -- the record is a group, or the meta record of the groups
@@ -46,12 +49,45 @@ NamesNoNode Memory = Unit {0}
 NamesNoNode Disk = Unit {0}
 NamesNoNode (Damaged damage) = damage.file ≢ format.nodes_file
 
--- a node that it names is as it was found
-abbrev pub NamesFound : State → State → Fault → Type 0
-NamesFound s t Memory = Unit {0}
-NamesFound s t Disk = Unit {0}
-NamesFound s t (Damaged damage) = damage.file ≡ format.nodes_file
-    → t.records (key_in damage.file damage.id) ≡ s.records (key_in damage.file damage.id)
+-- the record that is named is as it was found
+abbrev pub IsAsBefore : State → State → Damage → Type 0
+IsAsBefore s t damage =
+    t.records (key_in damage.file damage.id) ≡ s.records (key_in damage.file damage.id)
+
+-- the record is no group of a node but this one
+abbrev pub IsNoOther : Records → ℕ → ℕ → Type 0
+IsNoOther records node g =
+    (n : ℕ) → n ≢ node → is_group_of (records (group_key g)) n ≡ false
+
+-- Where a fault names a group, this was wrong with the free list of the groups. Or the record is of
+-- no kind that groups have, and as it was found.
+abbrev pub NamesNoGroup : State → State → Fault → Type 0
+NamesNoGroup s t Memory = Unit {0}
+NamesNoGroup s t Disk = Unit {0}
+NamesNoGroup s t (Damaged damage) = damage.file ≡ format.groups_file
+    → IsListDamage s.records s.shape format.groups_file damage
+    ⊎ (HasNoKind s.records damage.id × IsAsBefore s t damage)
+
+-- Where it names a group, this was wrong with their free list, or it is no other node's.
+abbrev pub NamesNoOther : State → ℕ → Fault → Type 0
+NamesNoOther s node Memory = Unit {0}
+NamesNoOther s node Disk = Unit {0}
+NamesNoOther s node (Damaged damage) = damage.file ≡ format.groups_file
+    → IsListDamage s.records s.shape format.groups_file damage
+    ⊎ IsNoOther s.records node damage.id
+
+-- A node or a group that a fault names is as it was found, and the group is no other node's. Or this
+-- was wrong with the free list of the groups before.
+pub record IsFoundAt (s t : State) (node : ℕ) (damage : Damage) : Type 0 where
+  pub nodes : damage.file ≡ format.nodes_file → IsAsBefore s t damage
+  pub groups : damage.file ≡ format.groups_file
+      → IsListDamage s.records s.shape format.groups_file damage
+      ⊎ (IsAsBefore s t damage × IsNoOther s.records node damage.id)
+
+abbrev pub NamesFound : State → State → ℕ → Fault → Type 0
+NamesFound s t node Memory = Unit {0}
+NamesFound s t node Disk = Unit {0}
+NamesFound s t node (Damaged damage) = IsFoundAt s t node damage
 
 -- it is the meta record of the groups
 abbrev pub IsOfGroupMeta : Damage → Type 0

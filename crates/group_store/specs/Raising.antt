@@ -9,8 +9,8 @@ use Rattle.rec_bytes.specs.Record.{with_field}
 use Rattle.rec_bytes.specs.Space.{State, after_get, after_put}
 use Rattle.store_rules.specs.Breaking.{IsOnChain}
 use Rattle.store_rules.specs.Ends.{Regroups}
-use Rattle.store_rules.specs.Rules.{KeepsRules}
-use Rattle.store_rules.specs.Views.{group_at, kind_at}
+use Rattle.store_rules.specs.Rules.{KeepsRules, first_of}
+use Rattle.store_rules.specs.Views.{Records, group_at, kind_at}
 use Rattle.chain_edit.specs.declared.members.Members.{Members}
 use Rattle.chain_edit.specs.Walking.{IsSoundWalk, chain_damage}
 use Rattle.rel_store.specs.Loading.{mark_damage}
@@ -20,7 +20,8 @@ use Rattle.group_store.specs.declared.side.Side.{Side}
 use Rattle.group_store.specs.declared.side.Side.TheVariants.{Out, In, Loop}
 use Rattle.group_store.specs.GroupChain.{IsDense, IsGroupOf}
 use Rattle.group_store.specs.GroupRecord.{group_key}
-use Rattle.group_store.specs.Leaving.{LeavesOthers}
+use Rattle.group_store.specs.Leaving.{IsLowLink, LeavesOthers}
+use Rattle.group_store.specs.Sides.{group_head}
 use Rattle.group_store.specs.Walking.{group_row_at}
 
 -- the first link of a side's chain, as the group's row says it
@@ -81,6 +82,10 @@ pub record HasRaised (s t : State) (node g most : ℕ) (empty : List ℕ) : Type
   pub groups : (k : ℕ) → group_at t.records k ≡ group_at s.records k
   pub regroups : Regroups s t node
   pub leaves : LeavesOthers s t node
+
+-- each chain of the group begins at a relationship that was given out, or is empty
+abbrev pub LeadsLow : Records → ℕ → Type 0
+LeadsLow records g = (side : Side) → IsLowLink records (first_of records (group_head g side))
 
 -- the degree of the node isn't that of its relationships
 abbrev pub degree_damage : ℕ → Damage

@@ -8,7 +8,7 @@ use Rattle.node_store.specs.NodeRecord.{node_key}
 use Rattle.group_store.specs.declared.side.Side.{Side}
 use Rattle.group_store.specs.Counting.{count_place}
 use Rattle.group_store.specs.GroupChain.{IsDense, IsGroupChain, group_field, next_group, type_of}
-use Rattle.group_store.specs.Leaving.{LeavesOthers}
+use Rattle.group_store.specs.Leaving.{IsLowLink, KeepsOrLeads, LeavesOthers}
 use Rattle.group_store.specs.Opening.{IsAt}
 use Rattle.group_store.specs.Sides.{group_head, place_of}
 use Rattle.id_freelist.specs.Taking.{CanTake}
@@ -193,6 +193,20 @@ pub record HasCountedList (records : Records) (node : ℕ) : Type 0 where
   pub counted : (g : ℕ) → In g members
       → kind_at records format.groups_file g ≡ format.counted
   pub owner : (g : ℕ) → In g members → group_field records format.group_owner g ≡ node
+
+-- So they do. Their chains are empty, or begin at relationships that were given out.
+pub record HasSpreadList (records : Records) (node : ℕ) : Type 0 where
+  pub list : HasCountedList records node
+  pub came : List ℕ
+  pub groups : List ℕ
+  pub leads : LeadsAmong records node came groups
+  pub low : (x : ℕ) → In x came → IsLowLink records x
+
+-- The head is of a group of the dense node that is as it was, or its chain begins at a relationship
+-- that was given out, or is empty. Where the node had such a list before, its chain does.
+pub record OpensHead (s t : Records) (node : ℕ) (head : Head) : Type 0 where
+  pub dense : IsDense s node → KeepsOrLeads s t head
+  pub spread : HasSpreadList s node → IsLowLink t (first_of t head)
 
 -- A group can be made of each of the free identifiers, one after another: all others below the mark
 -- are counted.

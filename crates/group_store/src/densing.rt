@@ -11,7 +11,6 @@ ghost use Rattle.rec_bytes.specs.Space.{HasCause, SameButReads, WritesOnly, meta
 ghost use Rattle.rel_store.specs.Loading as rels;
 ghost use Rattle.rel_store.specs.RelRecord.{rel_key};
 ghost use Rattle.store_rules.specs.Ends.{Regroups};
-ghost use Rattle.store_rules.specs.Breaking.{IsOwnedBy};
 ghost use Rattle.store_rules.specs.Chains.{In, IsWalk};
 ghost use Rattle.store_rules.specs.Views.{degree, rec_at, rel_at};
 ghost use Rattle.store_rules.specs.Writes.{WritesBeside};
@@ -25,14 +24,16 @@ ghost use Rattle.group_store.specs.GroupChain.{IsDense, IsGroupChain};
 ghost use Rattle.rec_bytes.specs.Fault.{HasFaultCause, NotDamaged, OnDamage};
 ghost use Rattle.group_store.specs.GroupRecord.{group_key};
 ghost use Rattle.group_store.specs.Leaving.{KeepsHeads, KeepsOtherHeads, LeavesBeside};
-ghost use Rattle.group_store.specs.Leaving.{LeavesOthers};
+ghost use Rattle.group_store.specs.Leaving.{IsLowLink, LeavesOthers};
+ghost use Rattle.group_store.specs.Making.{IsOwnGroup};
 ghost use Rattle.group_store.specs.Moving.{ComesIn, GrowsBy, HasAdded, HasFound, IsOwnTurn};
 ghost use Rattle.group_store.specs.Moving.{turn_keys};
-ghost use Rattle.group_store.specs.Naming.{NamesAt, NamesFound, NamesMeta, NamesNoNode};
+ghost use Rattle.group_store.specs.Naming.{NamesAt, NamesFound, NamesMeta, NamesNoGroup};
+ghost use Rattle.group_store.specs.Naming.{NamesNoNode};
 ghost use Rattle.group_store.specs.Opening.{IsOpenFault};
 ghost use Rattle.group_store.specs.Raising.{IsGroupAt};
 ghost use Rattle.group_store.specs.Spreading.{CanTakeEach, HasCountedList, HasEndRoom};
-ghost use Rattle.group_store.specs.Spreading.{HasOpened, IsSpread};
+ghost use Rattle.group_store.specs.Spreading.{HasOpened, HasSpreadList, IsSpread};
 ghost use Rattle.group_store.specs.Spreading.{IsSpreading, KeepsBut, LeadsAmong, cleared};
 ghost use Rattle.group_store.specs.Walking.{group_row_at};
 
@@ -81,8 +82,8 @@ pub fn make_dense<S: Space>(space: &mut S, node: u32, threshold: u32) -> Result<
     ensures lists { S.tells → OnOk result
         (HarmsNoList (S.state space.old) (S.state space.new) groups_file) }
     ensures named { S.tells
-        → IfErr result (NamesFound (S.state space.old) (S.state space.new)) }
-    ensures list { S.tells → OnOk result (HasCountedList (S.state space.new).records node) }
+        → IfErr result (NamesFound (S.state space.old) (S.state space.new) node) }
+    ensures list { S.tells → OnOk result (HasSpreadList (S.state space.new).records node) }
     ensures dense { S.tells → OnOk result (IsDense (S.state space.new).records node) }
     ensures heads { S.tells
         → OnOk result (KeepsOtherHeads (S.state space.old) (S.state space.new) node) }
@@ -190,6 +191,10 @@ fn move_one<S: Space>(space: &mut S, node: u32, rel: u32) -> Result<Turn, Fault>
     ensures listed { S.tells → IsDense (S.state space.old).records node
         → HasCountedList (S.state space.old).records node
         → rel_at (S.state space.old).records rel ≢ None → IfErr result NamesNoNode }
+    ensures groups { S.tells → (came groups : List ℕ)
+        → LeadsAmong (S.state space.old).records node came groups
+        → ((x : ℕ) → In x came → IsLowLink (S.state space.old).records x)
+        → IfErr result (NamesNoGroup (S.state space.old) (S.state space.new)) }
     ensures list { S.tells → OnOk result (IsDense (S.state space.old).records node
         → HasCountedList (S.state space.old).records node
         → HasCountedList (S.state space.new).records node) }
@@ -270,12 +275,14 @@ pub(crate) fn own_group<S: Space>(space: &mut S, node: u32, label: u32) -> Resul
         (HarmsNoList (S.state space.old) (S.state space.new) groups_file) }
     ensures listed { S.tells → IsDense (S.state space.old).records node
         → HasCountedList (S.state space.old).records node → IfErr result NamesNoNode }
+    ensures groups { S.tells
+        → IfErr result (NamesNoGroup (S.state space.old) (S.state space.new)) }
     ensures list { S.tells → IfOk result (λ own. HasCountedList (S.state space.old).records node
         → HasCountedList (S.state space.new).records node × (own.row.counted ≡ true)) }
     ensures dense { S.tells → IsDense (S.state space.old).records node
         → OnOk result (IsDense (S.state space.new).records node) }
     ensures owns { S.tells → IfOk result (λ own.
-        IsOwnedBy (S.state space.new).records node own.row.id) }
+        IsOwnGroup (S.state space.old).records (S.state space.new).records node own.row.id) }
     ensures heads { S.tells
         → OnOk result (KeepsHeads (S.state space.old) (S.state space.new)) }
     ensures beside { S.tells → OnOk result

@@ -1,5 +1,5 @@
 ghost use Rattle.std.specs.Prelude.{◌≡◌, ◌≢◌, ◌∷◌, [], ◌++◌, ℕ, List, true, IfErr, IfOk};
-ghost use Rattle.std.specs.Prelude.{IsErr, OnOk};
+ghost use Rattle.std.specs.Prelude.{IsErr, OnOk, Some};
 ghost use Rattle.id_freelist.specs.ListDamage.{HarmsNoList};
 ghost use Rattle.id_freelist.specs.Taking.{room};
 ghost use Rattle.node_store.specs.Loading.{IsReadable};
@@ -8,15 +8,14 @@ ghost use Rattle.rec_bytes.specs.Format.{groups_file};
 ghost use Rattle.rec_bytes.specs.Key.{IsKey};
 ghost use Rattle.rec_bytes.specs.RecordFiles.{meta_key_of};
 ghost use Rattle.rec_bytes.specs.Space.{HasCause, SameButReads, WritesOnly, meta_of};
-ghost use Rattle.store_rules.specs.Breaking.{IsOwnedBy};
-ghost use Rattle.store_rules.specs.Views.{first_link};
 ghost use Rattle.group_store.specs.GroupChain.{IsDense, LacksGroup};
 ghost use Rattle.rec_bytes.specs.Fault.{HasFaultCause, NotDamaged, OnDamage};
 ghost use Rattle.group_store.specs.Faults.{of_take};
+ghost use Rattle.group_store.specs.FirstGroup.{IsFirst};
 ghost use Rattle.group_store.specs.GroupRecord.{group_key};
 ghost use Rattle.group_store.specs.Leaving.{KeepsHeads};
-ghost use Rattle.group_store.specs.Making.{CanMake, HasMade, IsMakeFault, empty_group, empty_row};
-ghost use Rattle.group_store.specs.Making.{led, made};
+ghost use Rattle.group_store.specs.Making.{CanMake, HasMade, IsEmptyOf, IsMakeFault, empty_group};
+ghost use Rattle.group_store.specs.Making.{empty_row, led, made};
 ghost use Rattle.group_store.specs.Opening.{IsOpenFault};
 ghost use Rattle.group_store.specs.Spreading.{HasCountedList, HasOpened, KeepsBut, LeadsAmong};
 
@@ -106,11 +105,11 @@ pub(crate) fn make_own<S: Space>(space: &mut S, node: u32, label: u32) -> Result
         × HasOpened (S.state space.old) (S.state space.new) node label own.row.id rest) }
     ensures shape { S.tells → (S.state space.new).shape ≡ (S.state space.old).shape }
     ensures owns { S.tells → IfOk result (λ own.
-        IsOwnedBy (S.state space.new).records node own.row.id) }
+        IsEmptyOf (S.state space.new).records node own.row.id) }
     ensures heads { S.tells
         → OnOk result (KeepsHeads (S.state space.old) (S.state space.new)) }
     ensures first { S.tells
-        → IfOk result (λ own. own.first ≡ first_link (S.state space.old).records node) }
+        → IfOk result (λ own. IsFirst (S.state space.old).records node (Some own.first)) }
     ensures leads { S.tells → IfOk result (λ own. (came groups : List ℕ)
         → LeadsAmong (S.state space.old).records node came groups
         → LeadsAmong (S.state space.new).records node came (groups ++ own.row.id ∷ [])) }

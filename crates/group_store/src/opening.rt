@@ -20,9 +20,10 @@ ghost use Rattle.group_store.specs.FirstGroup.{IsNodeFault};
 ghost use Rattle.group_store.specs.GroupChain.{IsDense};
 ghost use Rattle.group_store.specs.GroupRecord.{group_key};
 ghost use Rattle.group_store.specs.Leaving.{KeepsHeads, KeepsOtherHeads, LeavesBeside};
-ghost use Rattle.group_store.specs.Leaving.{LeavesCounted};
-ghost use Rattle.group_store.specs.Naming.{NamesAt, NamesFound, NamesMeta, NamesNoNode};
-ghost use Rattle.group_store.specs.Spreading.{HasCountedList};
+ghost use Rattle.group_store.specs.Leaving.{KeepsOrLeads, LeavesCounted};
+ghost use Rattle.group_store.specs.Naming.{NamesAt, NamesFound, NamesMeta, NamesNoGroup};
+ghost use Rattle.group_store.specs.Naming.{NamesNoNode, NamesNoOther};
+ghost use Rattle.group_store.specs.Spreading.{HasCountedList, HasSpreadList, OpensHead};
 ghost use Rattle.rec_bytes.specs.Fault.{HasFaultCause, NotDamaged, OnDamage};
 ghost use Rattle.group_store.specs.Opening.{
   CanOpen,
@@ -144,6 +145,12 @@ fn open_group<S: Space>(space: &mut S, node: u32, label: u32, side: Side) -> Res
         (HarmsNoList (S.state space.old) (S.state space.new) groups_file) }
     ensures listed { S.tells → IsDense (S.state space.old).records node
         → HasCountedList (S.state space.old).records node → IfErr result NamesNoNode }
+    ensures groups { S.tells → HasSpreadList (S.state space.old).records node
+        → IfErr result (NamesNoGroup (S.state space.old) (S.state space.new)) }
+    ensures others { S.tells → IsDense (S.state space.old).records node
+        → IfErr result (NamesNoOther (S.state space.old) node) }
+    ensures reaches { S.tells → IfOk result (λ head.
+        OpensHead (S.state space.old).records (S.state space.new).records node (head_of head)) }
     ensures unwritten { S.tells → IsDense (S.state space.old).records node
         → OnDamage result (SameButReads (S.state space.old) (S.state space.new)) }
     ensures owns { S.tells → IsDense (S.state space.old).records node
@@ -204,7 +211,9 @@ pub fn open_chain<S: Space>(
     ensures lists { S.tells → OnOk result
         (HarmsNoList (S.state space.old) (S.state space.new) groups_file) }
     ensures named { S.tells
-        → IfErr result (NamesFound (S.state space.old) (S.state space.new)) }
+        → IfErr result (NamesFound (S.state space.old) (S.state space.new) node) }
+    ensures reaches { S.tells → IfOk result (λ head.
+        KeepsOrLeads (S.state space.old).records (S.state space.new).records (head_of head)) }
     // where the head is the node's nothing is written
     ensures bare { S.tells → IfOk result (λ head. head.key ≡ node_key node
         → SameButReads (S.state space.old) (S.state space.new)) }

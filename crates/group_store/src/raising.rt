@@ -1,7 +1,8 @@
 //! Groups that get the numbers of the relationships in their chains. A group that was made before
 //! there were such numbers lacks them until a change of one of its chains.
 
-ghost use Rattle.std.specs.Prelude.{◌≡◌, ◌≢◌, ◌≤◌, ◌∷◌, [], ℕ, List, true, IfErr, IfOk, IsOk, OnOk};
+ghost use Rattle.std.specs.Prelude.{◌≡◌, ◌≢◌, ◌⊎◌, ◌≤◌, ◌∷◌, [], ℕ, List, true, IfErr, IfOk};
+ghost use Rattle.std.specs.Prelude.{IsOk, OnOk};
 ghost use Rattle.rec_bytes.specs.Fault.{HasFaultCause, NotDamaged, OnDamage};
 ghost use Rattle.rec_bytes.specs.Format.{free_kind, groups_file};
 ghost use Rattle.rec_bytes.specs.Key.{IsKey};
@@ -12,6 +13,7 @@ ghost use Rattle.id_freelist.specs.ListDamage.{HarmsNoList};
 ghost use Rattle.store_rules.specs.Views.{degree, kind_at};
 ghost use Rattle.chain_edit.specs.Breaks.{IsBreakFault};
 ghost use Rattle.chain_edit.specs.Length.{HasCounted, IsMemberChain};
+ghost use Rattle.group_store.specs.GroupChain.{is_group_of};
 ghost use Rattle.group_store.specs.GroupRecord.{group_key};
 ghost use Rattle.group_store.specs.Leaving.{KeepsHeads, LeavesBeside, LeavesCounted};
 ghost use Rattle.group_store.specs.Raising.{
@@ -20,6 +22,7 @@ ghost use Rattle.group_store.specs.Raising.{
   HasRaised,
   IsCountFault,
   IsGroupAt,
+  LeadsLow,
   degree_damage,
   first_in,
   members_of,
@@ -57,11 +60,17 @@ pub(crate) fn count_group<S: Space>(space: &mut S, node: u32, row: &GroupRow) ->
         → IfErr result (IsBreakFault (S.state space.old)) }
     ensures names { S.tells → IfErr result (IsCountFault node row.now.id) }
     ensures counted { row.now.counted ≡ true → IsOk result }
+    ensures kept { row.now.counted ≡ true
+        → SameButReads (S.state space.old) (S.state space.new) }
+    ensures low { S.tells → IsGroupAt (S.state space.old) node row.now
+        → OnOk result ((row.now.counted ≡ true)
+        ⊎ LeadsLow (S.state space.new).records row.now.id) }
     ensures unwritten { OnDamage result (SameButReads (S.state space.old) (S.state space.new)) }
     ensures heads { S.tells
         → OnOk result (KeepsHeads (S.state space.old) (S.state space.new)) }
-    ensures beside { S.tells → OnOk result
-        (LeavesBeside (S.state space.old).records
+    ensures beside { S.tells
+        → is_group_of ((S.state space.old).records (group_key row.now.id)) node ≡ true
+        → OnOk result (LeavesBeside (S.state space.old).records
         (S.state space.new).records node) }
     ensures lists { S.tells
         → kind_at (S.state space.old).records groups_file row.now.id ≢ free_kind

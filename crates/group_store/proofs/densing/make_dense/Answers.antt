@@ -39,7 +39,9 @@ use Rattle.group_store.proofs.MadeHeads.{heads_cleared, others_then}
 use Rattle.rec_bytes.proofs.Causes.{never_ok}
 use Rattle.chain_edit.proofs.Causes.{space_has}
 use Rattle.rec_bytes.specs.declared.fault.Fault.TheVariants.{Damaged}
-use Rattle.group_store.proofs.CountedLists.{found_never, found_same, list_cleared}
+use Rattle.group_store.proofs.CountedLists.{list_cleared}
+use Rattle.group_store.proofs.LowHeads.{low_next, low_none}
+use Rattle.group_store.proofs.Strangers.{found_apart, found_dense, node_apart, node_fault_apart, sparse_apart}
 use Rattle.rec_bytes.specs.Format.{groups_file}
 use Rattle.id_freelist.proofs.ListSteps.{harms_none_then, reads_harm_none}
 use Rattle.group_store.proofs.GroupMetas.{cleared_harms_none, metas_node, metas_then, node_fault_metas, sparse_metas}
@@ -74,6 +76,7 @@ loop-init g c =
       lists = λ tells. harms_none_then s v t groups_file (reads_harm_none s v groups_file same) (cleared_harms_none v t c.args.node
           (c.in_ok-clear.ensures.ok tells));
       list = λ tells. list_cleared v t c.args.node (c.in_ok-clear.ensures.ok tells);
+      low = λ tells. low_none t.records c.new-moved.result.relationships.items moved.relationships;
       beside = λ tells. beside_then s.records v.records t.records c.args.node (beside_read s v c.args.node same)
           (beside_cleared v t c.args.node (c.in_ok-clear.ensures.ok tells));
       heads = λ tells h n ne o. heads_cleared v t c.args.node (c.in_ok-clear.ensures.ok tells) h n ne (heads_same s v same h n o);
@@ -111,6 +114,9 @@ loop-preserved g c =
       dense = λ tells. c.in_ok-turn.ensures.dense tells (was.dense tells);
       lists = λ tells. harms_none_then s now end groups_file (was.lists tells) (c.in_ok-turn.ensures.lists tells);
       list = λ tells. c.in_ok-turn.ensures.list tells (was.dense tells) (was.list tells);
+      low = λ tells. low_next now.records end.records c.args.node c.loop.at came xs (c.in_ok-turn.ensures.beside tells) c.note.ensures.relationships
+          (λ none. rest_live s now c.args.node c.loop.at c.loop.counter c.if-at.false (was.rest tells)
+          (sym (beside_rels s.records now.records c.args.node (was.beside tells) c.loop.at) ∙ none)) (was.low tells);
       beside = λ tells. beside_then s.records now.records end.records c.args.node (was.beside tells) (c.in_ok-turn.ensures.beside tells);
       heads = λ tells. others_then s now end c.args.node (was.heads tells) (c.in_ok-turn.ensures.heads tells);
       writes = come_next s now end c.args.node c.loop.at turn came groups xs ys was.writes c.in_ok-turn.ensures.wrote
@@ -831,41 +837,50 @@ pub returns-then-at-2-clause-names : goal.returns-then-at-2-clause-names
 returns-then-at-2-clause-names g c = λ tells. at_node (g.S.Reads.state c.args.space.now) c.args.node c.rels_damage-then-at-2.result 3
     c.rels_damage-then-at-2.ensures
 
--- ---- a node that is named is as it was found
+-- ---- a node or a group that is named is as it was found
 
 pub returns-in_err-row-clause-named : goal.returns-in_err-row-clause-named
 returns-in_err-row-clause-named g c = λ tells.
     let s = g.S.Reads.state c.args.space.now in
     let l = g.S.Reads.state c.load.new.space in
     let p = err_from_is_err_and c.from_residual.result c.from_residual.ensures.1 in
-    rw (p.1, p.2) (found_same s l (of_row c.in_err-row.field-0.0) (only_loads_node s l c.args.node c.load.ensures.state))
+    rw (p.1, p.2) (found_apart s l c.args.node (of_row c.in_err-row.field-0.0) (only_loads_node s l c.args.node c.load.ensures.state)
+    (node_fault_apart s l s c.args.node (of_row c.in_err-row.field-0.0) (node_fault s c.args.node c.in_err-row.field-0.0 (c.in_err-row.ensures.damaged tells))))
 
 pub returns-in_default-clause-named : goal.returns-in_default-clause-named
 returns-in_default-clause-named g c = λ tells.
     let s = g.S.Reads.state c.args.space.now in
     let l = g.S.Reads.state c.load.new.space in
-    found_same s l (Damaged c.chain_damage.result) (only_loads_node s l c.args.node c.load.ensures.state)
+    found_apart s l c.args.node (Damaged c.chain_damage.result) (only_loads_node s l c.args.node c.load.ensures.state)
+    (node_apart s l c.chain_damage.result c.args.node 4 c.chain_damage.ensures)
 
 pub returns-then-row-clause-named : goal.returns-then-row-clause-named
 returns-then-row-clause-named g c = λ tells.
     let s = g.S.Reads.state c.args.space.now in
     let l = g.S.Reads.state c.load.new.space in
-    found_same s l (Damaged c.chain_damage-then-row.result) (only_loads_node s l c.args.node c.load.ensures.state)
+    found_apart s l c.args.node (Damaged c.chain_damage-then-row.result) (only_loads_node s l c.args.node c.load.ensures.state)
+    (node_apart s l c.chain_damage-then-row.result c.args.node 4 c.chain_damage-then-row.ensures)
 
 pub returns-then-row-threshold-clause-named : goal.returns-then-row-threshold-clause-named
 returns-then-row-threshold-clause-named g c = λ tells.
     let s = g.S.Reads.state c.args.space.now in
     let l = g.S.Reads.state c.load.new.space in
-    found_same s l (Damaged c.degree_damage.result) (only_loads_node s l c.args.node c.load.ensures.state)
+    found_apart s l c.args.node (Damaged c.degree_damage.result) (only_loads_node s l c.args.node c.load.ensures.state)
+    (node_apart s l c.degree_damage.result c.args.node 7 c.degree_damage.ensures)
 
 pub returns-in_err-test_chain-clause-named : goal.returns-in_err-test_chain-clause-named
 returns-in_err-test_chain-clause-named g c = λ tells.
     let s = g.S.Reads.state c.args.space.now in
     let l = g.S.Reads.state c.load.new.space in
     let v = g.S.Reads.state c.test_chain.new.space in
+    let same = only_loads_node s l c.args.node c.load.ensures.state in
+    let found = sym c.in-Some.is ∙ c.in_ok-row.ensures.found tells in
     let fault = c.in_err-test_chain.field-0.0 in
     let p = err_from_is_err_and c.from_residual-in_err-test_chain.result c.from_residual-in_err-test_chain.ensures.1 in
-    rw (p.1, p.2) (found_same s v fault (same_twice s l v (only_loads_node s l c.args.node c.load.ensures.state) c.test_chain.ensures.state))
+    rw (p.1, p.2) (found_apart s v c.args.node fault (same_twice s l v same c.test_chain.ensures.state)
+    (sparse_apart s v l c.args.node c.in-Some.row.degree fault
+    (c.in_err-test_chain.ensures.damaged tells (subst (λ (q : State). c.in-Some.row.first ≡ first_link q.records c.args.node) (sym same)
+    (first_is s.records c.args.node c.in-Some.row found)))))
 
 pub returns-in_err-clear-clause-named : goal.returns-in_err-clear-clause-named
 returns-in_err-clear-clause-named g c _ = space_has _ tt tt c.from_residual-in_err-clear.result c.in_err-clear.field-0.0 c.from_residual-in_err-clear.ensures.1
@@ -878,9 +893,10 @@ returns-in_err-turn-clause-named g c = λ tells.
     let was = c.loop.invariant in
     let fault = c.in_err-turn.field-0.0 in
     let p = err_from_is_err_and c.from_residual-in_err-turn.result c.from_residual-in_err-turn.ensures.1 in
-    rw (p.1, p.2) (found_never s t fault (c.in_err-turn.ensures.listed tells (was.dense tells) (was.list tells)
+    rw (p.1, p.2) (found_dense s now t c.args.node (was.beside tells) (was.lists tells) fault (c.in_err-turn.ensures.listed tells (was.dense tells) (was.list tells)
     (λ none. rest_live s now c.args.node c.loop.at c.loop.counter c.if-at.false (was.rest tells) (sym (beside_rels s.records now.records c.args.node
-    (was.beside tells) c.loop.at) ∙ none))))
+    (was.beside tells) c.loop.at) ∙ none)))
+    (c.in_err-turn.ensures.groups tells c.loop.moved.relationships.items c.loop.moved.groups.items (was.leads tells) (was.low tells)))
 
 pub returns-then-not-note-clause-named : goal.returns-then-not-note-clause-named
 returns-then-not-note-clause-named g c = λ tells.
@@ -898,10 +914,26 @@ returns-then-at-2-clause-named g c = λ tells.
 -- ---- its groups
 
 pub returns-then-at-clause-list : goal.returns-then-at-clause-list
-returns-then-at-clause-list g c = λ tells. c.loop.invariant.list tells
+returns-then-at-clause-list g c = λ tells.
+    let was = c.loop.invariant in
+    record {
+      list = was.list tells;
+      came = c.loop.moved.relationships.items;
+      groups = c.loop.moved.groups.items;
+      leads = was.leads tells;
+      low = was.low tells;
+    }
 
 pub returns-clause-list : goal.returns-clause-list
-returns-clause-list g c = λ tells. c.loop.invariant.list tells
+returns-clause-list g c = λ tells.
+    let was = c.loop.invariant in
+    record {
+      list = was.list tells;
+      came = c.loop.moved.relationships.items;
+      groups = c.loop.moved.groups.items;
+      leads = was.leads tells;
+      low = was.low tells;
+    }
 
 pub returns-in_err-row-clause-list : goal.returns-in_err-row-clause-list
 returns-in_err-row-clause-list g c _ = never_ok c.from_residual.result _ _ c.from_residual.ensures.1

@@ -3,7 +3,8 @@ use Rattle.rec_bytes.specs.Format.{groups_file}
 use Rattle.id_freelist.specs.ListDamage.{HarmsNoList}
 use Rattle.group_store.specs.Densing.{CanBecomeDense, CanSpread}
 use Rattle.group_store.specs.GroupChain.{IsDense}
-use Rattle.group_store.specs.Leaving.{KeepsOtherHeads, LeavesBeside}
+use Rattle.store_rules.specs.Chains.{In}
+use Rattle.group_store.specs.Leaving.{IsLowLink, KeepsOtherHeads, LeavesBeside}
 use Rattle.group_store.specs.Spreading.{HasCountedList, LeadsAmong}
 use Rattle.group_store.proofs.Arrivals.{HasPart}
 use Rattle.group_store.proofs.Comings.{WritesCome}
@@ -25,6 +26,7 @@ invariant-loop g l =
       dense : g.S.Reads.tells → IsDense (g.S.Reads.state l.space).records l.fn.node;
       lists : g.S.Reads.tells → HarmsNoList s (g.S.Reads.state l.space) groups_file;
       list : g.S.Reads.tells → HasCountedList (g.S.Reads.state l.space).records l.fn.node;
+      low : g.S.Reads.tells → (x : ℕ) → In x l.moved.relationships.items → IsLowLink (g.S.Reads.state l.space).records x;
       beside : g.S.Reads.tells → LeavesBeside s.records (g.S.Reads.state l.space).records l.fn.node;
       heads : g.S.Reads.tells → KeepsOtherHeads s (g.S.Reads.state l.space) l.fn.node;
       writes : WritesCome s (g.S.Reads.state l.space) l.fn.node l.moved.relationships.items l.moved.groups.items;

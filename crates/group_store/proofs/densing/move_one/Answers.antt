@@ -1,7 +1,7 @@
 use Rattle.std.specs.Prelude.{IfSome, Option}
 use Rattle.rec_bytes.specs.Key.{IsKey}
 use Rattle.rel_store.specs.declared.rel_row.RelRow.{RelRow}
-use Rattle.std.proofs.Common.{◌≡◌, ◌≢◌, ◌≤◌, ◌∷◌, [], ◌∙◌, ℕ, ap, subst, sym, inr, arith, rules}
+use Rattle.std.proofs.Common.{◌≡◌, ◌≢◌, ◌≤◌, ◌∷◌, [], ◌++◌, ◌∙◌, ℕ, true, ap, subst, sym, inr, arith, rules}
 use Rattle.rec_bytes.specs.Format.{groups_file}
 use Rattle.rec_bytes.specs.RecordFiles.{meta_key_of}
 use Rattle.id_freelist.specs.Taking.{room}
@@ -19,7 +19,7 @@ use Rattle.group_store.proofs.Additions.{node_read, take_after}
 use Rattle.group_store.proofs.Arrivals.{comes_in, left_there, push_finds}
 use Rattle.group_store.proofs.DenseFaults.{no_own, no_push, unread}
 use Rattle.group_store.proofs.DenseStays.{dense_moved}
-use Rattle.group_store.specs.GroupChain.{IsDense, IsGroupChain}
+use Rattle.group_store.specs.GroupChain.{IsDense, IsGroupChain, is_group_of}
 use Rattle.rec_bytes.specs.Fault.{of_row}
 use Rattle.group_store.proofs.GroupWalks.{not_damaged_at}
 use Rattle.group_store.proofs.Leadings.{leads_turn, walk_turn}
@@ -43,6 +43,12 @@ use Rattle.rec_bytes.proofs.Causes.{never_ok}
 use Rattle.chain_edit.proofs.Causes.{space_has}
 use Rattle.group_store.proofs.CountedLists.{list_moved, list_read, push_listed, rel_listed}
 use Rattle.group_store.proofs.Gathers.{place_range}
+use Rattle.group_store.proofs.GroupRules.{group_owned}
+use Rattle.group_store.proofs.LowHeads.{low_beside, low_read, spread_first, turn_first}
+use Rattle.group_store.proofs.OwnRecords.{group_says}
+use Rattle.group_store.proofs.Spreads.{in_last}
+use Rattle.group_store.proofs.Strangers.{apart_read, node_apart, push_apart, rel_apart}
+use Rattle.group_store.specs.Spreading.{LeadsAmong}
 use Rattle.id_freelist.proofs.ListSteps.{harms_none_then, reads_harm_none}
 use Rattle.group_store.proofs.GroupMetas.{metas_node, metas_read, moved_harms_none, push_metas, rel_metas}
 use Rattle.group_store.proofs.densing.move_one.Goals as goal
@@ -290,7 +296,8 @@ own_heads g c tells dense =
     let dense_l = subst (λ (q : State). IsDense q.records c.args.node) (sym (only_loads s l c.args.rel c.load.ensures.state)) dense in
     subst (λ (h : Head). IsHeadOf t.records h c.args.node) (sym c.group_head-head.ensures.is)
     (heads_freed m t c.args.node c.args.rel (c.in_ok-free_previous.ensures.ok tells) (group_head c.in_ok-own.own.row.id c.at.result) c.args.node
-    (owned_head m.records c.args.node c.in_ok-own.own.row.id c.at.result (c.in_ok-own.ensures.dense tells dense_l) (c.in_ok-own.ensures.owns tells)))
+    (owned_head m.records c.args.node c.in_ok-own.own.row.id c.at.result (c.in_ok-own.ensures.dense tells dense_l)
+    (group_owned m.records c.args.node c.in_ok-own.own.row.id (c.in_ok-own.ensures.owns tells).group)))
 
 pub returns-in_err-first-clause-damaged : goal.returns-in_err-first-clause-damaged
 returns-in_err-first-clause-damaged g c = λ tells dense.
@@ -344,7 +351,10 @@ returns-clause-beside g c = λ tells.
     beside_then s.records l.records end.records c.args.node (beside_read s l c.args.node (only_loads s l c.args.rel c.load.ensures.state))
     (beside_then l.records m.records end.records c.args.node (c.in_ok-own.ensures.beside tells)
     (beside_moved m (g.S.Reads.state c.free_previous.new.space) end c.args.node c.args.rel (head_of c.group_head-head.result) (ap (λ (h : Head). h.key.file)
-    c.group_head-head.ensures.is) (c.in_ok-free_previous.ensures.ok tells) (c.in_ok-first.ensures.ok tells)))
+    c.group_head-head.ensures.is) (subst (λ (h : Head). 20 ≤ h.field) (sym c.group_head-head.ensures.is) (place_range c.at.result).0)
+    (subst (λ (h : Head). is_group_of (m.records h.key) c.args.node ≡ true) (sym c.group_head-head.ensures.is)
+    (group_says m.records c.args.node c.in_ok-own.own.row.id (c.in_ok-own.ensures.owns tells).group))
+    (c.in_ok-free_previous.ensures.ok tells) (c.in_ok-first.ensures.ok tells)))
 
 pub returns-in_err-row-clause-stays : goal.returns-in_err-row-clause-stays
 returns-in_err-row-clause-stays g c = λ tells.
@@ -684,3 +694,47 @@ returns-in_err-free_previous-clause-lists g c _ = never_ok c.from_residual-in_er
 
 pub returns-in_err-first-clause-lists : goal.returns-in_err-first-clause-lists
 returns-in_err-first-clause-lists g c _ = never_ok c.from_residual-in_err-first.result _ _ c.from_residual-in_err-first.ensures.1
+
+-- ---- a group that is named
+
+pub returns-in_err-row-clause-groups : goal.returns-in_err-row-clause-groups
+returns-in_err-row-clause-groups g c = λ tells came groups was low.
+    let s = g.S.Reads.state c.args.space.now in
+    let l = g.S.Reads.state c.load.new.space in
+    let p = err_from_is_err_and c.from_residual.result c.from_residual.ensures.1 in
+    rw (p.1, p.2) (rel_apart s l s c.args.rel c.in_err-row.field-0.0 (c.in_err-row.ensures.damaged tells))
+
+pub returns-in_default-clause-groups : goal.returns-in_default-clause-groups
+returns-in_default-clause-groups g c = λ tells came groups was low.
+    node_apart (g.S.Reads.state c.args.space.now) (g.S.Reads.state c.load.new.space) c.rels_damage.result c.args.node 3 c.rels_damage.ensures
+
+pub returns-in_err-own-clause-groups : goal.returns-in_err-own-clause-groups
+returns-in_err-own-clause-groups g c = λ tells came groups was low.
+    let s = g.S.Reads.state c.args.space.now in
+    let l = g.S.Reads.state c.load.new.space in
+    let p = err_from_is_err_and c.from_residual-in_err-own.result c.from_residual-in_err-own.ensures.1 in
+    rw (p.1, p.2) (apart_read s l (g.S.Reads.state c.own_group.new.space) c.in_err-own.field-0.0 (only_loads s l c.args.rel c.load.ensures.state)
+    (c.in_err-own.ensures.groups tells))
+
+pub returns-in_err-free_previous-clause-groups : goal.returns-in_err-free_previous-clause-groups
+returns-in_err-free_previous-clause-groups g c _ _ _ _ _ = space_has _ tt tt c.from_residual-in_err-free_previous.result
+    c.in_err-free_previous.field-0.0 c.from_residual-in_err-free_previous.ensures.1
+
+pub returns-in_err-first-clause-groups : goal.returns-in_err-first-clause-groups
+returns-in_err-first-clause-groups g c = λ tells came groups was low.
+    let s = g.S.Reads.state c.args.space.now in
+    let l = g.S.Reads.state c.load.new.space in
+    let m = g.S.Reads.state c.own_group.new.space in
+    let t = g.S.Reads.state c.free_previous.new.space in
+    let node = c.args.node in
+    let id = c.in_ok-own.own.row.id in
+    let same = only_loads s l c.args.rel c.load.ensures.state in
+    let key = c.in_ok-own.ensures.key in
+    let opened = c.in_ok-own.ensures.leads tells came groups (subst (λ (q : State). LeadsAmong q.records node came groups) (sym same) was) in
+    let first = spread_first m.records node id came (groups ++ id ∷ []) c.at.result opened.0 (in_last id groups) (λ e. omega (arith, key.id))
+    (λ x i. low_beside l.records m.records node x (c.in_ok-own.ensures.beside tells) (low_read s l x same (low x i))) in
+    let p = err_from_is_err_and c.from_residual-in_err-first.result c.from_residual-in_err-first.ensures.1 in
+    rw (p.1, p.2) (push_apart s (g.S.Reads.state c.push_counted.new.space) t (head_of c.group_head-head.result)
+    (turn_first m t node c.args.rel id c.at.result (head_of c.group_head-head.result) (c.in_ok-free_previous.ensures.ok tells) c.group_head-head.ensures.is
+    first)
+    c.in_err-first.field-0.0 (c.in_err-first.ensures.damaged tells))

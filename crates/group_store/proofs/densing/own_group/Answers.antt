@@ -1,4 +1,4 @@
-use Rattle.std.proofs.Common.{arith, ◌≡◌, ◌≢◌, Option, Some, inl, inr, refl, ◌∷◌, [], ℕ, List, ap, subst, sym, ◌∙◌, rules}
+use Rattle.std.proofs.Common.{arith, ◌≡◌, ◌≢◌, Option, None, Some, inl, inr, refl, ◌∷◌, [], ℕ, List, ap, subst, sym, ◌∙◌, rules}
 use Rattle.rec_bytes.specs.RecordFiles.{meta_key_of}
 use Rattle.rec_bytes.specs.Format.{groups_file, relationships_file}
 use Rattle.rec_bytes.specs.Space.{SameButReads, State, WritesOnly, meta_of}
@@ -8,7 +8,7 @@ use Rattle.store_rules.specs.Views.{first_link, rec_at}
 use Rattle.group_store.specs.declared.group_row.GroupRow.{GroupRow}
 use Rattle.group_store.specs.declared.making.OwnGroup.{OwnGroup}
 use Rattle.group_store.specs.Finding.{IsFound, IsReached}
-use Rattle.group_store.specs.GroupChain.{IsDense, LacksGroup}
+use Rattle.group_store.specs.GroupChain.{IsDense, IsGroupOf, LacksGroup}
 use Rattle.group_store.specs.GroupRecord.{group_key}
 use Rattle.group_store.specs.Making.{IsMakeFault, made}
 use Rattle.group_store.specs.Opening.{IsOpenFault}
@@ -27,14 +27,14 @@ use Rattle.group_store.proofs.Turns.{found_grows, made_grows}
 use Rattle.group_store.proofs.Causes.{cause_passed}
 use Rattle.group_store.proofs.Leadings.{leads_found, leads_own, rels_made}
 use Rattle.group_store.proofs.LeftBeside.{beside_made, beside_read, beside_then, if_done}
+use Rattle.group_store.proofs.LowHeads.{dense_first, done_both, first_found, own_made}
+use Rattle.group_store.proofs.Strangers.{apart_read, find_apart, make_apart}
 use Rattle.group_store.specs.Leaving.{KeepsHeads, LeavesBeside}
-use Rattle.group_store.proofs.GroupRules.{group_owned}
 use Rattle.group_store.proofs.KeptHeads.{heads_same, heads_then}
-use Rattle.store_rules.specs.Breaking.{IsOwnedBy}
 use Rattle.group_store.proofs.Named.{find_named, make_named}
 use Rattle.rec_bytes.proofs.Causes.{never_ok}
 use Rattle.rec_bytes.specs.Key.{IsKey}
-use Rattle.group_store.specs.Naming.{NamesAt, NamesNoNode}
+use Rattle.group_store.specs.Naming.{NamesAt, NamesNoGroup, NamesNoNode}
 use Rattle.group_store.proofs.CountedLists.{find_listed, found_counted, list_own, list_read, make_listed}
 use Rattle.id_freelist.specs.ListDamage.{HarmsNoList}
 use Rattle.id_freelist.proofs.ListSteps.{harms_none_then, reads_harm_none}
@@ -98,7 +98,7 @@ returns-in-None-clause-grows g c = λ tells.
     made_grows c.make_own.result s now (g.S.Reads.state c.make_own.new.space) c.args.node c.args.label (same_read _ s now c.find_group.ensures.at_most)
     (λ rest most empty keeps dense. none_found s c.args.node c.args.label rest most empty keeps dense c.in_ok-row.field-0 c.in-None.is
     (λ xs chain. c.in_ok-row.ensures.none tells dense xs chain))
-    (c.make_own.ensures.made tells) (c.make_own.ensures.first tells)
+    (c.make_own.ensures.made tells) (if_ok c.make_own.result _ (λ (own : OwnGroup). own.first ≡ first_link now.records c.args.node) (λ own p. p.1) (c.make_own.ensures.first tells))
 
 pub returns-in-None-clause-wrote : goal.returns-in-None-clause-wrote
 returns-in-None-clause-wrote g c =
@@ -161,7 +161,7 @@ returns-in-None-clause-local g c = λ tells.
     let now = g.S.Reads.state c.find_group.new.space in
     has_added c.make_own.result s now (g.S.Reads.state c.make_own.new.space) c.args.node c.args.label (same_read _ s now c.find_group.ensures.at_most)
     (λ dense xs chain. (c.in_ok-row.ensures.none tells dense xs chain).0 c.in-None.is)
-    (c.make_own.ensures.made tells) (c.make_own.ensures.first tells) (c.make_own.ensures.full tells) (c.make_own.ensures.shape tells)
+    (c.make_own.ensures.made tells) (if_ok c.make_own.result _ (λ (own : OwnGroup). own.first ≡ first_link now.records c.args.node) (λ own p. p.1) (c.make_own.ensures.first tells)) (c.make_own.ensures.full tells) (c.make_own.ensures.shape tells)
 
 pub returns-in_err-row-clause-never : goal.returns-in_err-row-clause-never
 returns-in_err-row-clause-never g c = λ tells groups free dense chain can readable full.
@@ -286,9 +286,14 @@ returns-in-None-clause-beside g c = λ tells.
     let s = g.S.Reads.state c.args.space.now in
     let now = g.S.Reads.state c.find_group.new.space in
     let end = g.S.Reads.state c.make_own.new.space in
-    if_done c.make_own.result (end ≡ made now c.args.node c.args.label) (LeavesBeside s.records end.records c.args.node)
-    (λ is. beside_then s.records now.records end.records c.args.node (beside_read s now c.args.node (same_read _ s now c.find_group.ensures.at_most))
-    (subst (λ (t : State). LeavesBeside now.records t.records c.args.node) (sym is) (beside_made now c.args.node c.args.label))) (c.make_own.ensures.ok tells)
+    let same = same_read _ s now c.find_group.ensures.at_most in
+    if_done c.make_own.result (IsDense now.records c.args.node × (end ≡ made now c.args.node c.args.label)) (LeavesBeside s.records end.records c.args.node)
+    (λ both. beside_then s.records now.records end.records c.args.node (beside_read s now c.args.node same)
+    (subst (λ (t : State). LeavesBeside now.records t.records c.args.node) (sym both.1) (beside_made now c.args.node c.args.label
+    (omega (arith, c.ranges.node.fits)) (omega (arith, c.ranges.label.fits)) (first_found now c.args.node c.args.label
+    (subst (λ (t : State). IsFound t.records c.args.node c.args.label None) (sym same)
+    (subst (IsFound s.records c.args.node c.args.label) c.in-None.is (c.in_ok-row.ensures.found tells))) both.0))))
+    (done_both c.make_own.result _ _ (dense_first c.make_own.result now c.args.node (c.make_own.ensures.first tells)) (c.make_own.ensures.ok tells))
 
 -- ---- the groups, whatever the records are
 
@@ -305,7 +310,7 @@ returns-in-None-clause-leads g c = λ tells.
     let s = g.S.Reads.state c.args.space.now in
     let now = g.S.Reads.state c.find_group.new.space in
     leads_own c.make_own.result s now (g.S.Reads.state c.make_own.new.space) c.args.node (same_read _ s now c.find_group.ensures.at_most)
-    (c.make_own.ensures.leads tells) (c.make_own.ensures.first tells)
+    (c.make_own.ensures.leads tells) (if_ok c.make_own.result _ (λ (own : OwnGroup). own.first ≡ first_link now.records c.args.node) (λ own p. p.1) (c.make_own.ensures.first tells))
 
 pub returns-in-Some-clause-rels : goal.returns-in-Some-clause-rels
 returns-in-Some-clause-rels g c = λ tells x.
@@ -327,10 +332,17 @@ returns-in-None-clause-rels g c = λ tells.
 pub returns-in-Some-clause-owns : goal.returns-in-Some-clause-owns
 returns-in-Some-clause-owns g c = λ tells.
     let s = g.S.Reads.state c.args.space.now in
+    let now = g.S.Reads.state c.find_group.new.space in
+    let same = same_read _ s now c.find_group.ensures.at_most in
     let found = subst (IsFound s.records c.args.node c.args.label) c.in-Some.is (c.in_ok-row.ensures.found tells) in
-    subst (λ (t : State). IsOwnedBy t.records c.args.node c.in-Some.row.id)
-    (sym (same_read _ s (g.S.Reads.state c.find_group.new.space) c.find_group.ensures.at_most))
-    (group_owned s.records c.args.node c.in-Some.row.id found.1.member)
+    record {
+      group = subst (λ (t : State). IsGroupOf t.records c.args.node c.in-Some.row.id) (sym same) found.1.member;
+      kept = inl (ap (λ (t : State). t.records (group_key c.in-Some.row.id)) same);
+    }
+
+pub returns-in-None-clause-owns : goal.returns-in-None-clause-owns
+returns-in-None-clause-owns g c = λ tells.
+    own_made c.make_own.result (g.S.Reads.state c.args.space.now) (g.S.Reads.state c.make_own.new.space) c.args.node (c.make_own.ensures.owns tells)
 
 pub returns-in-Some-clause-heads : goal.returns-in-Some-clause-heads
 returns-in-Some-clause-heads g c = λ tells.
@@ -474,3 +486,21 @@ returns-in-None-clause-lists g c = λ tells.
 
 pub returns-in_err-row-clause-lists : goal.returns-in_err-row-clause-lists
 returns-in_err-row-clause-lists g c _ = never_ok c.from_residual.result _ _ c.from_residual.ensures.1
+
+-- ---- a group that is named
+
+pub returns-in_err-row-clause-groups : goal.returns-in_err-row-clause-groups
+returns-in_err-row-clause-groups g c = λ tells.
+    let s = g.S.Reads.state c.args.space.now in
+    let now = g.S.Reads.state c.find_group.new.space in
+    let p = err_from_is_err_and c.from_residual.result c.from_residual.ensures.1 in
+    rw (p.1, p.2) (find_apart s now c.args.node c.in_err-row.field-0.0 (same_read _ s now c.find_group.ensures.at_most) (c.in_err-row.ensures.damaged tells))
+
+pub returns-in-None-clause-groups : goal.returns-in-None-clause-groups
+returns-in-None-clause-groups g c = λ tells.
+    let s = g.S.Reads.state c.args.space.now in
+    let now = g.S.Reads.state c.find_group.new.space in
+    let end = g.S.Reads.state c.make_own.new.space in
+    if_err c.make_own.result (IsMakeFault now c.args.node) (NamesNoGroup s end)
+    (λ fault told. apart_read s now end fault (same_read _ s now c.find_group.ensures.at_most) (make_apart now end c.args.node fault told))
+    (c.make_own.ensures.damaged tells)

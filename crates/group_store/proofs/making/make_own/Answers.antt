@@ -7,15 +7,14 @@ use Rattle.std.proofs.lemmas.Result.{err_from_is_err_and}
 use Rattle.node_store.specs.NodeRecord.{node_key}
 use Rattle.rec_bytes.specs.Format.{groups_file, node_first_link, nodes_file}
 use Rattle.rec_bytes.specs.RecordFiles.{meta_key_of}
-use Rattle.store_rules.specs.Breaking.{IsOwnedBy}
 use Rattle.store_rules.specs.Views.{first_link, rec_at}
 use Rattle.group_store.specs.FirstGroup.{IsFirst}
 use Rattle.group_store.specs.GroupRecord.{group_key}
-use Rattle.group_store.specs.Making.{IsMakeDamage, IsMakeFault, link_damage}
+use Rattle.group_store.specs.Making.{IsEmptyOf, IsMakeDamage, IsMakeFault, link_damage}
 use Rattle.group_store.specs.Making.IsMakeDamage.{NotDense, BadLink}
 use Rattle.group_store.specs.Spreading.{LeadsAmong}
 use Rattle.group_store.proofs.Leadings.{leads_made}
-use Rattle.group_store.proofs.MadeHeads.{heads_made, owned_made}
+use Rattle.group_store.proofs.MadeHeads.{empty_made, heads_made}
 use Rattle.rec_bytes.proofs.Numbers.{field-lt}
 use Rattle.group_store.proofs.MakeSteps.{all_writes, link_told, made_has, made_is, node_told, on_damage, right_first}
 use Rattle.group_store.proofs.MakeSteps.{same_read, same_then, same_writes, take_told}
@@ -180,7 +179,7 @@ returns-clause-wrote g c =
 pub returns-clause-first : goal.returns-clause-first
 returns-clause-first g c = λ tells.
     let s = g.S.Reads.state c.args.space.now in
-    (subst (IsFirst s.records c.args.node) c.in-Some.is (c.in_ok-first.ensures.first tells)).1
+    subst (IsFirst s.records c.args.node) c.in-Some.is (c.in_ok-first.ensures.first tells)
 
 pub returns-clause-rules : goal.returns-clause-rules
 returns-clause-rules g c = λ tells rest most empty keeps dense lacks.
@@ -223,8 +222,8 @@ returns-clause-owns g c = λ tells.
     let first = subst (IsFirst s.records c.args.node) c.in-Some.is (c.in_ok-first.ensures.first tells) in
     let id : c.in-Ok.id ≡ c.empty_row.result.id = sym (ap (λ (r : GroupRow). r.id) c.empty_row.ensures) in
     let fits = field-lt 4 (rec_at s.records nodes_file c.args.node) node_first_link in
-    subst (λ k. IsOwnedBy (g.S.Reads.state c.lead.new.space).records c.args.node k) id
-    (owned_made now (g.S.Reads.state c.take.new.space) c.args.node c.args.label c.in-Some.first c.in-Ok.id c.empty_group.result
+    subst (λ k. IsEmptyOf (g.S.Reads.state c.lead.new.space).records c.args.node k) id
+    (empty_made now (g.S.Reads.state c.take.new.space) c.args.node c.args.label c.in-Some.first c.in-Ok.id c.empty_group.result
     (c.in-Ok.ensures.ok tells) c.in-Ok.ensures.is (c.in-Ok.ensures.undamaged tells) (c.in-Ok.ensures.fresh tells) c.empty_group.ensures
     (omega (arith, c.in-Ok.ensures.key.id)) (omega (arith, c.ranges.node.fits)) (omega (arith, c.ranges.label.fits)) (omega (arith, first.1, fits)) s
     (g.S.Reads.state c.lead.new.space) read (c.in_ok-lead.ensures.ok tells))

@@ -12,7 +12,7 @@ use Rattle.node_store.specs.NodeRecord.{node_key}
 use Rattle.group_store.specs.Opening.{CanOpen, IsOpenFault, OpensChain, WritesOpened, moved_writes}
 use Rattle.group_store.proofs.BrokenGroups.{if_err, node_fault_breaks, only_breaks, open_read}
 use Rattle.group_store.proofs.ChainHeads.{same_twice}
-use Rattle.group_store.specs.Naming.{NamesAt, NamesFound, NamesMeta, NamesNoNode}
+use Rattle.group_store.specs.Naming.{NamesAt, NamesFound, NamesMeta}
 use Rattle.group_store.proofs.Named.{named_beside, named_read, node_fault_named}
 use Rattle.group_store.proofs.Openings.{handed}
 use Rattle.group_store.proofs.OwnGroups.{if_ok}
@@ -26,13 +26,14 @@ use Rattle.group_store.proofs.Causes.{cause_passed}
 use Rattle.group_store.proofs.LeftBeside.{beside_read, beside_then, if_done, later_beside}
 use Rattle.group_store.proofs.DenseStays.{if_damage}
 use Rattle.group_store.proofs.MakeSteps.{on_damage}
-use Rattle.group_store.specs.Leaving.{KeepsHeads, KeepsOtherHeads, LeavesBeside}
+use Rattle.group_store.specs.Leaving.{KeepsHeads, KeepsOrLeads, KeepsOtherHeads, LeavesBeside}
 use Rattle.store_rules.specs.Breaking.{IsHeadOf}
 use Rattle.group_store.proofs.KeptHeads.{heads_same, heads_then}
 use Rattle.group_store.proofs.MadeHeads.{others_of, others_then}
 use Rattle.rec_bytes.proofs.Causes.{never_ok}
 use Rattle.rec_bytes.specs.declared.key.Key.{Key}
-use Rattle.group_store.proofs.CountedLists.{found_never, found_read, found_same, found_unwritten}
+use Rattle.group_store.proofs.LowHeads.{kept_head}
+use Rattle.group_store.proofs.Strangers.{found_apart, found_read, found_spread, found_unwritten, node_fault_apart}
 use Rattle.id_freelist.specs.ListDamage.{HarmsNoList}
 use Rattle.id_freelist.proofs.ListSteps.{harms_none_then, reads_harm_none}
 use Rattle.group_store.proofs.GroupMetas.{metas_read, metas_then, node_fault_metas}
@@ -471,13 +472,15 @@ returns-clause-names g c = λ tells.
     (named_beside z u node (g.met.S.Reads.onward_shape _ _ c.in_ok-make_dense.ensures.onward) (c.in_ok-make_dense.ensures.beside tells) fault told))
     (c.open_group-2.ensures.names tells)
 
--- ---- a node that is named is as it was found
+-- ---- a node or a group that is named is as it was found
 
 pub returns-in_err-is_dense-clause-named : goal.returns-in_err-is_dense-clause-named
 returns-in_err-is_dense-clause-named g c = λ tells.
     let s = g.S.Reads.state c.args.space.now in
     let p = err_from_is_err_and c.from_residual.result c.from_residual.ensures.1 in
-    rw (p.1, p.2) (found_same s (g.S.Reads.state c.is_dense.new.space) c.in_err-is_dense.field-0.0 c.is_dense.ensures.state)
+    let z = g.S.Reads.state c.is_dense.new.space in
+    rw (p.1, p.2) (found_apart s z c.args.node c.in_err-is_dense.field-0.0 c.is_dense.ensures.state
+    (node_fault_apart s z s c.args.node c.in_err-is_dense.field-0.0 (c.in_err-is_dense.ensures.damaged tells)))
 
 pub returns-then-branch-clause-named : goal.returns-then-branch-clause-named
 returns-then-branch-clause-named g c = λ tells.
@@ -486,23 +489,28 @@ returns-then-branch-clause-named g c = λ tells.
     let t = g.S.Reads.state c.open_group.new.space in
     let same = c.in_ok-is_dense.ensures.state in
     let dense = subst (λ (q : State). IsDense q.records c.args.node) (sym same) ((c.in_ok-is_dense.ensures.is tells).0 c.if-branch.true) in
-    if_err c.open_group.result (NamesFound z t) (NamesFound s t) (λ fault. found_read s z t fault same)
-    (found_unwritten z t c.open_group.result (c.open_group.ensures.unwritten tells dense))
+    if_err c.open_group.result (NamesFound z t c.args.node) (NamesFound s t c.args.node) (λ fault. found_read s z t c.args.node fault same)
+    (found_unwritten z t c.args.node c.open_group.result (c.open_group.ensures.unwritten tells dense) (c.open_group.ensures.others tells dense))
 
 pub returns-in_err-make_dense-clause-named : goal.returns-in_err-make_dense-clause-named
 returns-in_err-make_dense-clause-named g c = λ tells.
     let s = g.S.Reads.state c.args.space.now in
     let z = g.S.Reads.state c.is_dense.new.space in
     let p = err_from_is_err_and c.from_residual-in_err-make_dense.result c.from_residual-in_err-make_dense.ensures.1 in
-    rw (p.1, p.2) (found_read s z (g.S.Reads.state c.make_dense.new.space) c.in_err-make_dense.field-0.0 c.in_ok-is_dense.ensures.state
+    rw (p.1, p.2) (found_read s z (g.S.Reads.state c.make_dense.new.space) c.args.node c.in_err-make_dense.field-0.0 c.in_ok-is_dense.ensures.state
     (c.in_err-make_dense.ensures.named tells))
 
 pub returns-clause-named : goal.returns-clause-named
 returns-clause-named g c = λ tells.
     let s = g.S.Reads.state c.args.space.now in
     let t = g.S.Reads.state c.open_group-2.new.space in
-    if_err c.open_group-2.result NamesNoNode (NamesFound s t) (λ fault. found_never s t fault)
-    (c.open_group-2.ensures.listed tells (c.in_ok-make_dense.ensures.dense tells) (c.in_ok-make_dense.ensures.list tells))
+    let z = g.S.Reads.state c.is_dense.new.space in
+    let u = g.S.Reads.state c.make_dense.new.space in
+    let list = c.in_ok-make_dense.ensures.list tells in
+    if_err c.open_group-2.result (NamesFound z t c.args.node) (NamesFound s t c.args.node)
+    (λ fault. found_read s z t c.args.node fault c.in_ok-is_dense.ensures.state)
+    (found_spread z u t c.args.node c.open_group-2.result (c.in_ok-make_dense.ensures.beside tells) (c.in_ok-make_dense.ensures.lists tells)
+    (c.open_group-2.ensures.listed tells (c.in_ok-make_dense.ensures.dense tells) list.list) (c.open_group-2.ensures.groups tells list))
 
 -- ---- where the head is the node's nothing is written
 
@@ -591,3 +599,32 @@ returns-in_err-is_dense-clause-lists g c _ = never_ok c.from_residual.result _ _
 
 pub returns-in_err-make_dense-clause-lists : goal.returns-in_err-make_dense-clause-lists
 returns-in_err-make_dense-clause-lists g c _ = never_ok c.from_residual-in_err-make_dense.result _ _ c.from_residual-in_err-make_dense.ensures.1
+
+-- ---- where the chain of the head begins
+
+pub returns-then-branch-clause-reaches : goal.returns-then-branch-clause-reaches
+returns-then-branch-clause-reaches g c = λ tells.
+    let s = g.S.Reads.state c.args.space.now in
+    let z = g.S.Reads.state c.is_dense.new.space in
+    let t = g.S.Reads.state c.open_group.new.space in
+    let same = c.in_ok-is_dense.ensures.state in
+    let dense = subst (λ (q : State). IsDense q.records c.args.node) (sym same) ((c.in_ok-is_dense.ensures.is tells).0 c.if-branch.true) in
+    if_ok c.open_group.result _ (λ (head : ChainHead). KeepsOrLeads s.records t.records (head_of head))
+    (λ head opens. kept_head s z t (head_of head) same (opens.dense dense)) (c.open_group.ensures.reaches tells)
+
+pub returns-then-degree-threshold-clause-reaches : goal.returns-then-degree-threshold-clause-reaches
+returns-then-degree-threshold-clause-reaches g c = λ tells.
+    inl (ap (λ (q : State). q.records (head_of c.node_head.result).key) c.in_ok-is_dense.ensures.state)
+
+pub returns-clause-reaches : goal.returns-clause-reaches
+returns-clause-reaches g c = λ tells.
+    let s = g.S.Reads.state c.args.space.now in
+    let t = g.S.Reads.state c.open_group-2.new.space in
+    if_ok c.open_group-2.result _ (λ (head : ChainHead). KeepsOrLeads s.records t.records (head_of head))
+    (λ head opens. inr (opens.spread (c.in_ok-make_dense.ensures.list tells))) (c.open_group-2.ensures.reaches tells)
+
+pub returns-in_err-is_dense-clause-reaches : goal.returns-in_err-is_dense-clause-reaches
+returns-in_err-is_dense-clause-reaches g c _ = never_ok c.from_residual.result _ _ c.from_residual.ensures.1
+
+pub returns-in_err-make_dense-clause-reaches : goal.returns-in_err-make_dense-clause-reaches
+returns-in_err-make_dense-clause-reaches g c _ = never_ok c.from_residual-in_err-make_dense.result _ _ c.from_residual-in_err-make_dense.ensures.1

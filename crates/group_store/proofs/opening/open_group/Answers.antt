@@ -1,8 +1,13 @@
-use Rattle.std.proofs.Common.{arith, [], ◌∷◌, sym, ap, subst, ⊎_elim, rules}
+use Rattle.std.proofs.Common.{arith, [], ◌∷◌, ◌++◌, sym, ap, inl, subst, ⊎_elim, rules}
 use Rattle.std.proofs.lemmas.Bool.{false≢true}
 use Rattle.std.proofs.lemmas.Result.{err_from_is_err_and}
 use Rattle.rec_bytes.specs.declared.key.Key.{Key}
-use Rattle.store_rules.specs.Rules.{Head}
+use Rattle.rec_bytes.specs.Space.{State}
+use Rattle.store_rules.specs.Rules.{Head, first_of}
+use Rattle.chain_edit.specs.Heads.{head_of}
+use Rattle.group_store.specs.GroupChain.{IsGroupOf}
+use Rattle.group_store.specs.Leaving.{IsLowLink}
+use Rattle.group_store.specs.Sides.{group_head}
 use Rattle.chain_edit.specs.declared.head.Head.{Head as ChainHead}
 use Rattle.group_store.specs.declared.making.OwnGroup.{OwnGroup}
 use Rattle.group_store.specs.Opening.{OpensChain, WritesOpened}
@@ -14,7 +19,12 @@ use Rattle.group_store.proofs.Heads.{then_unwritten}
 use Rattle.group_store.proofs.Raises.{breaks_read}
 use Rattle.group_store.proofs.Opens.{all_but, can_raise, not_full, opens_group}
 use Rattle.group_store.proofs.Causes.{cause_passed}
+use Rattle.group_store.proofs.GroupRules.{group_owned}
 use Rattle.group_store.proofs.LeftBeside.{beside_then}
+use Rattle.group_store.proofs.LowHeads.{counted_or_low, low_beside, own_head, spread_first}
+use Rattle.group_store.proofs.OwnRecords.{group_says}
+use Rattle.group_store.proofs.Spreads.{in_last}
+use Rattle.group_store.proofs.Strangers.{apart_no_other, count_no_other}
 use Rattle.store_rules.specs.Breaking.{IsHeadOf}
 use Rattle.group_store.proofs.KeptHeads.{heads_then}
 use Rattle.group_store.proofs.MadeHeads.{owned_head}
@@ -134,7 +144,10 @@ returns-clause-at g c = ap (λ (h : Head). h.key.file) c.group_head.ensures.is
 
 -- what is left of other records
 pub returns-clause-beside : goal.returns-clause-beside
-returns-clause-beside g c = λ tells. beside_then _ _ _ c.args.node (c.in_ok-own.ensures.beside tells) (c.in_ok-count_group.ensures.beside tells)
+returns-clause-beside g c = λ tells.
+    let m = g.S.Reads.state c.own_group.new.space in
+    beside_then _ _ _ c.args.node (c.in_ok-own.ensures.beside tells) (c.in_ok-count_group.ensures.beside tells
+    (group_says m.records c.args.node c.in_ok-own.own.row.id (c.in_ok-own.ensures.owns tells).group))
 
 -- ---- the head is the node's, and each node has the heads that it had
 
@@ -144,7 +157,7 @@ returns-clause-owns g c = λ tells dense.
     let t = g.S.Reads.state c.count_group.new.space in
     subst (λ (h : Head). IsHeadOf t.records h c.args.node) (sym c.group_head.ensures.is)
     (c.in_ok-count_group.ensures.heads tells _ c.args.node (owned_head m.records c.args.node c.in_ok-own.own.row.id c.args.side
-    (c.in_ok-own.ensures.dense tells dense) (c.in_ok-own.ensures.owns tells)))
+    (c.in_ok-own.ensures.dense tells dense) (group_owned m.records c.args.node c.in_ok-own.own.row.id (c.in_ok-own.ensures.owns tells).group)))
 
 pub returns-clause-heads : goal.returns-clause-heads
 returns-clause-heads g c = λ tells.
@@ -246,10 +259,69 @@ returns-in_err-count_group-clause-metas g c = λ tells.
 pub returns-clause-lists : goal.returns-clause-lists
 returns-clause-lists g c = λ tells.
     harms_none_then (g.S.Reads.state c.args.space.now) (g.S.Reads.state c.own_group.new.space) (g.S.Reads.state c.count_group.new.space) groups_file
-    (c.in_ok-own.ensures.lists tells) (c.in_ok-count_group.ensures.lists tells (c.in_ok-own.ensures.owns tells).used)
+    (c.in_ok-own.ensures.lists tells) (c.in_ok-count_group.ensures.lists tells
+    (group_owned _ c.args.node c.in_ok-own.own.row.id (c.in_ok-own.ensures.owns tells).group).used)
 
 pub returns-in_err-own-clause-lists : goal.returns-in_err-own-clause-lists
 returns-in_err-own-clause-lists g c _ = never_ok c.from_residual.result _ _ c.from_residual.ensures.1
 
 pub returns-in_err-count_group-clause-lists : goal.returns-in_err-count_group-clause-lists
 returns-in_err-count_group-clause-lists g c _ = never_ok c.from_residual-in_err-count_group.result _ _ c.from_residual-in_err-count_group.ensures.1
+
+-- ---- a group that is named
+
+pub returns-in_err-own-clause-groups : goal.returns-in_err-own-clause-groups
+returns-in_err-own-clause-groups g c = λ tells h.
+    let p = err_from_is_err_and c.from_residual.result c.from_residual.ensures.1 in
+    rw (p.1, p.2) (c.in_err-own.ensures.groups tells)
+
+pub returns-in_err-count_group-clause-groups : goal.returns-in_err-count_group-clause-groups
+returns-in_err-count_group-clause-groups g c = λ tells h.
+    absurd (false≢true (c.in_err-count_group.ensures.counted (c.in_ok-own.ensures.list tells h.list).1))
+
+pub returns-in_err-own-clause-others : goal.returns-in_err-own-clause-others
+returns-in_err-own-clause-others g c = λ tells dense.
+    let s = g.S.Reads.state c.args.space.now in
+    let p = err_from_is_err_and c.from_residual.result c.from_residual.ensures.1 in
+    rw (p.1, p.2) (apart_no_other s (g.S.Reads.state c.own_group.new.space) c.args.node c.in_err-own.field-0.0 (c.in_err-own.ensures.groups tells))
+
+pub returns-in_err-count_group-clause-others : goal.returns-in_err-count_group-clause-others
+returns-in_err-count_group-clause-others g c = λ tells dense.
+    let s = g.S.Reads.state c.args.space.now in
+    let m = g.S.Reads.state c.own_group.new.space in
+    let fault = c.in_err-count_group.field-0.0 in
+    let id = c.in_ok-own.own.row.id in
+    let p = err_from_is_err_and c.from_residual-in_err-count_group.result c.from_residual-in_err-count_group.ensures.1 in
+    rw (p.1, p.2) (⊎_elim (λ counted. absurd (false≢true (c.in_err-count_group.ensures.counted counted)))
+    (λ k. count_no_other s c.args.node id (group_says s.records c.args.node id (subst (λ (q : State). IsGroupOf q.records c.args.node id) k.1 k.0.member)) fault
+    (c.in_err-count_group.ensures.names tells)) (c.in_ok-own.ensures.group tells dense))
+
+-- ---- where the chain of the head begins
+
+pub returns-clause-reaches : goal.returns-clause-reaches
+returns-clause-reaches g c = λ tells.
+    let s = g.S.Reads.state c.args.space.now in
+    let m = g.S.Reads.state c.own_group.new.space in
+    let t = g.S.Reads.state c.count_group.new.space in
+    let node = c.args.node in
+    let own = c.in_ok-own.own in
+    let key = c.in_ok-own.ensures.key in
+    record {
+      dense = λ dense. own_head s.records m.records t.records node own.row.id c.args.side (head_of c.group_head.result) c.group_head.ensures.is
+          (c.in_ok-own.ensures.owns tells)
+          (counted_or_low m t own.row.id own.row.counted (c.in_ok-count_group.ensures.kept)
+          (⊎_elim (λ counted. inl counted) (λ k. c.in_ok-count_group.ensures.low tells k.0) (c.in_ok-own.ensures.group tells dense)));
+      spread = λ h.
+          let opened = c.in_ok-own.ensures.leads tells h.came h.groups h.leads in
+          let first = spread_first m.records node own.row.id h.came (h.groups ++ own.row.id ∷ []) c.args.side opened.0 (in_last own.row.id h.groups)
+          (λ e. omega (arith, key.id)) (λ x i. low_beside s.records m.records node x (c.in_ok-own.ensures.beside tells) (h.low x i)) in
+          subst (λ (q : Head). IsLowLink t.records (first_of t.records q)) (sym c.group_head.ensures.is)
+          (subst (λ (q : State). IsLowLink q.records (first_of q.records (group_head own.row.id c.args.side)))
+          (sym (c.in_ok-count_group.ensures.kept (c.in_ok-own.ensures.list tells h.list).1)) first);
+    }
+
+pub returns-in_err-own-clause-reaches : goal.returns-in_err-own-clause-reaches
+returns-in_err-own-clause-reaches g c _ = never_ok c.from_residual.result _ _ c.from_residual.ensures.1
+
+pub returns-in_err-count_group-clause-reaches : goal.returns-in_err-count_group-clause-reaches
+returns-in_err-count_group-clause-reaches g c _ = never_ok c.from_residual-in_err-count_group.result _ _ c.from_residual-in_err-count_group.ensures.1

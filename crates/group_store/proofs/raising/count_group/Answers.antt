@@ -1,4 +1,5 @@
-use Rattle.std.proofs.Common.{arith, sym, subst, rules}
+use Rattle.std.proofs.Common.{arith, inl, inr, sym, ◌∙◌, subst, rules}
+use Rattle.std.proofs.lemmas.Bool.{false≢true}
 use Rattle.rec_bytes.specs.Space.{State}
 use Rattle.group_store.specs.Raising.{HasRaised}
 use Rattle.group_store.proofs.ChainHeads.{same_twice}
@@ -6,6 +7,7 @@ use Rattle.group_store.proofs.Raises.{can_read, got_same, lengths_read, raises, 
 use Rattle.group_store.proofs.KeptHeads.{heads_raised}
 use Rattle.group_store.proofs.Causes.{cause_passed, later_on, space_cause_passed}
 use Rattle.group_store.proofs.LeftBeside.{beside_none, beside_raised, counted_none, counted_raised}
+use Rattle.group_store.proofs.LowHeads.{lengths_low}
 use Rattle.rec_bytes.proofs.Causes.{never_ok}
 use Rattle.chain_edit.proofs.Causes.{same_has, space_has}
 use Rattle.group_store.proofs.GroupMetas.{raised_harms_none}
@@ -60,15 +62,15 @@ returns-clause-heads g c = λ tells.
 -- ---- what is left of other records
 
 pub returns-then-row-clause-beside : goal.returns-then-row-clause-beside
-returns-then-row-clause-beside g c = λ tells. beside_none (g.S.Reads.state c.args.space.now).records c.args.node
+returns-then-row-clause-beside g c = λ tells own. beside_none (g.S.Reads.state c.args.space.now).records c.args.node
 
 pub returns-clause-beside : goal.returns-clause-beside
-returns-clause-beside g c = λ tells.
+returns-clause-beside g c = λ tells own.
     let s = g.S.Reads.state c.args.space.now in
     let y = g.S.Reads.state c.get.new.self in
     let z = g.S.Reads.state c.count_chains.new.space in
     beside_raised s z (g.S.Reads.state c.set_counts.new.space) c.args.node c.args.row.now.id c.in_ok-counts.counts
-    (same_twice s y z (got_same s y c.in_ok-rec.ensures.state) c.in_ok-counts.ensures.state) (c.in_ok-set_counts.ensures.ok tells)
+    (same_twice s y z (got_same s y c.in_ok-rec.ensures.state) c.in_ok-counts.ensures.state) (c.in_ok-set_counts.ensures.ok tells) own
 
 pub returns-then-row-clause-counts : goal.returns-then-row-clause-counts
 returns-then-row-clause-counts g c = λ tells at. counted_none (g.S.Reads.state c.args.space.now).records
@@ -88,7 +90,7 @@ pub returns-in_err-rec-clause-heads : goal.returns-in_err-rec-clause-heads
 returns-in_err-rec-clause-heads g c _ = never_ok c.from_residual.result _ _ c.from_residual.ensures.1
 
 pub returns-in_err-rec-clause-beside : goal.returns-in_err-rec-clause-beside
-returns-in_err-rec-clause-beside g c _ = never_ok c.from_residual.result _ _ c.from_residual.ensures.1
+returns-in_err-rec-clause-beside g c _ _ = never_ok c.from_residual.result _ _ c.from_residual.ensures.1
 
 pub returns-in_err-rec-clause-counts : goal.returns-in_err-rec-clause-counts
 returns-in_err-rec-clause-counts g c _ _ = never_ok c.from_residual.result _ _ c.from_residual.ensures.1
@@ -103,7 +105,7 @@ pub returns-in_err-counts-clause-heads : goal.returns-in_err-counts-clause-heads
 returns-in_err-counts-clause-heads g c _ = never_ok c.from_residual-in_err-counts.result _ _ c.from_residual-in_err-counts.ensures.1
 
 pub returns-in_err-counts-clause-beside : goal.returns-in_err-counts-clause-beside
-returns-in_err-counts-clause-beside g c _ = never_ok c.from_residual-in_err-counts.result _ _ c.from_residual-in_err-counts.ensures.1
+returns-in_err-counts-clause-beside g c _ _ = never_ok c.from_residual-in_err-counts.result _ _ c.from_residual-in_err-counts.ensures.1
 
 pub returns-in_err-counts-clause-counts : goal.returns-in_err-counts-clause-counts
 returns-in_err-counts-clause-counts g c _ _ = never_ok c.from_residual-in_err-counts.result _ _ c.from_residual-in_err-counts.ensures.1
@@ -115,7 +117,7 @@ pub returns-in_err-set_counts-clause-heads : goal.returns-in_err-set_counts-clau
 returns-in_err-set_counts-clause-heads g c _ = never_ok c.from_residual-in_err-set_counts.result _ _ c.from_residual-in_err-set_counts.ensures.1
 
 pub returns-in_err-set_counts-clause-beside : goal.returns-in_err-set_counts-clause-beside
-returns-in_err-set_counts-clause-beside g c _ = never_ok c.from_residual-in_err-set_counts.result _ _ c.from_residual-in_err-set_counts.ensures.1
+returns-in_err-set_counts-clause-beside g c _ _ = never_ok c.from_residual-in_err-set_counts.result _ _ c.from_residual-in_err-set_counts.ensures.1
 
 pub returns-in_err-set_counts-clause-counts : goal.returns-in_err-set_counts-clause-counts
 returns-in_err-set_counts-clause-counts g c _ _ = never_ok c.from_residual-in_err-set_counts.result _ _ c.from_residual-in_err-set_counts.ensures.1
@@ -182,3 +184,43 @@ returns-in_err-counts-clause-lists g c _ _ = never_ok c.from_residual-in_err-cou
 
 pub returns-in_err-set_counts-clause-lists : goal.returns-in_err-set_counts-clause-lists
 returns-in_err-set_counts-clause-lists g c _ _ = never_ok c.from_residual-in_err-set_counts.result _ _ c.from_residual-in_err-set_counts.ensures.1
+
+-- ---- a group that has its numbers
+
+pub returns-in_err-rec-clause-kept : goal.returns-in_err-rec-clause-kept
+returns-in_err-rec-clause-kept g c counted = absurd (false≢true (sym c.if-row.false ∙ counted))
+
+pub returns-in_err-counts-clause-kept : goal.returns-in_err-counts-clause-kept
+returns-in_err-counts-clause-kept g c counted = absurd (false≢true (sym c.if-row.false ∙ counted))
+
+pub returns-in_err-set_counts-clause-kept : goal.returns-in_err-set_counts-clause-kept
+returns-in_err-set_counts-clause-kept g c counted = absurd (false≢true (sym c.if-row.false ∙ counted))
+
+pub returns-clause-kept : goal.returns-clause-kept
+returns-clause-kept g c counted = absurd (false≢true (sym c.if-row.false ∙ counted))
+
+-- ---- where its chains begin
+
+pub returns-then-row-clause-low : goal.returns-then-row-clause-low
+returns-then-row-clause-low g c = λ tells at. inl c.if-row.true
+
+pub returns-clause-low : goal.returns-clause-low
+returns-clause-low g c = λ tells at.
+    let s = g.S.Reads.state c.args.space.now in
+    let y = g.S.Reads.state c.get.new.self in
+    let z = g.S.Reads.state c.count_chains.new.space in
+    let node = c.args.node in
+    let row = c.args.row.now in
+    inr (lengths_low s z (g.S.Reads.state c.set_counts.new.space) node row c.in_ok-counts.counts
+    (same_twice s y z (got_same s y c.in_ok-rec.ensures.state) c.in_ok-counts.ensures.state) at.is
+    (lengths_read y z node row c.in_ok-counts.counts c.in_ok-counts.ensures.state (c.in_ok-counts.ensures.counts tells))
+    (c.in_ok-set_counts.ensures.ok tells))
+
+pub returns-in_err-rec-clause-low : goal.returns-in_err-rec-clause-low
+returns-in_err-rec-clause-low g c _ _ = never_ok c.from_residual.result _ _ c.from_residual.ensures.1
+
+pub returns-in_err-counts-clause-low : goal.returns-in_err-counts-clause-low
+returns-in_err-counts-clause-low g c _ _ = never_ok c.from_residual-in_err-counts.result _ _ c.from_residual-in_err-counts.ensures.1
+
+pub returns-in_err-set_counts-clause-low : goal.returns-in_err-set_counts-clause-low
+returns-in_err-set_counts-clause-low g c _ _ = never_ok c.from_residual-in_err-set_counts.result _ _ c.from_residual-in_err-set_counts.ensures.1
