@@ -10,7 +10,6 @@ use Rattle.chain_edit.specs.Breaks.{IsBreakFault}
 use Rattle.chain_edit.specs.Walking.{ReadsAtMost}
 use Rattle.group_store.proofs.ChainHeads.{only_read}
 use Rattle.change_parts.specs.ChangeFault.{of_fault}
-use Rattle.change_parts.specs.declared.change_fault.ChangeFault.TheVariants.{Memory, Disk, Damaged}
 use Rattle.change_parts.specs.Damage.{BlamesBroken}
 
 -- a call that writes nothing where it tells a record

@@ -1,6 +1,6 @@
 -- Which records an edge that is added may write before its properties, and which one is blamed.
 use Rattle.std.specs.Prelude.{IfSome, OnOk}
-use Rattle.std.proofs.Common.{◌≡◌, ◌≢◌, ◌⊎◌, ℕ, ◌<◌, Result, Ok, Err, [], ◌∷◌, sym, ap, ◌∙◌, subst, inl, inr, ⊎_elim, arith, refl}
+use Rattle.std.proofs.Common.{◌≡◌, ◌≢◌, ◌⊎◌, ℕ, ◌<◌, ◌≤◌, Result, Ok, Err, [], ◌∷◌, sym, ap, ◌∙◌, subst, inl, inr, ⊎_elim, arith, refl}
 use Rattle.rec_bytes.specs.declared.damage.Damage.{Damage}
 use Rattle.rec_bytes.specs.declared.fault.Fault.{Fault}
 use Rattle.rec_bytes.specs.declared.fault.Fault.TheVariants as faults
@@ -33,23 +33,24 @@ use Rattle.chain_edit.specs.Links.IsLinkDamage.{HighMark, LeadsNowhere}
 use Rattle.chain_edit.specs.Pushing.{IsPushFault, first_damage, pushed}
 use Rattle.chain_edit.proofs.LinkLaws.{key_cases}
 use Rattle.group_store.specs.Counting.{one_more, tallied}
-use Rattle.group_store.specs.Leaving.{LeavesBeside}
+use Rattle.group_store.specs.Leaving.{IsLowLink, LeavesBeside}
 use Rattle.group_store.specs.Naming.{IsNamedAt, IsOfMarks, NamesAt, NamesFound, NamesMeta}
 use Rattle.change_parts.specs.ChangeFault.{of_fault}
 use Rattle.change_parts.specs.Damage.{BlamesBroken, BlamesLinking, IfBlames, IsAsFound, IsBroken, IsLinkingDamage, IsOfLists, KeepsButNames}
 use Rattle.change_parts.specs.declared.change_fault.ChangeFault.{ChangeFault}
 use Rattle.change_parts.proofs.Adding.{lists_before, lists_broken}
 use Rattle.change_parts.proofs.Broken.{blames_both, blames_more}
-use Rattle.edge_changes.specs.EdgeAdding.{BlamesAdded, BlamesChains, HarmsNoFiles, IsChainDamage, IsGroupOrFull, IsOfChains, IsOfNodes}
-use Rattle.edge_changes.specs.EdgeAdding.{KeepsButChains}
+use Rattle.edge_changes.specs.EdgeAdding.{BlamesAdded, BlamesChains, BlamesEnd, HarmsNoFiles, IsAddDamage, IsChainDamage, IsOfChains, IsOfEnd, IsOfEnds}
+use Rattle.edge_changes.specs.EdgeAdding.{IsOfNodes, KeepsButChains}
 use Rattle.edge_changes.specs.EdgeEnds.{AtEach, AtSome, HasHead, joined, source_of, target_of}
-use Rattle.edge_changes.specs.EdgeJoining.{BlamesEndJoined, IsBareEnd, IsJoinDamage, IsOfBare}
-use Rattle.edge_changes.specs.EdgeOpening.{KeepsBare}
+use Rattle.edge_changes.specs.EdgeJoining.{BlamesEndJoined, IsJoinDamage, IsLostEnd, IsOfLost, KeepsBesideEnd}
+use Rattle.edge_changes.specs.EdgeOpening.{KeepsHead}
 use Rattle.edge_changes.specs.declared.edge_end.EdgeEnd.{EdgeEnd}
 use Rattle.edge_changes.specs.declared.edge_end.Ends.{Ends}
 use Rattle.edge_changes.specs.declared.edge_end.Ends.TheVariants.{Loop, Two}
 use Rattle.edge_changes.proofs.EdgeSteps.{record_joined}
 use Rattle.edge_changes.proofs.FileDamages.{files_beyond, files_broken}
+use Rattle.edge_changes.proofs.HeadsFound.{head_is_no_meta, head_is_no_rel, head_of_end, keys_apart, lost_before}
 
 -- ---- one step after another
 
@@ -82,14 +83,14 @@ pub chain_then : (s u t : State) (these : Damage → Type 0) → HarmsNoFiles s 
     → IsChainDamage s t these damage
 chain_then s u t these harmless keeps damage (inl rel) = inl (harmless damage rel)
 chain_then s u t these harmless keeps damage (inr (inl found)) = inr (inl (found.0, found.1 ∙ keeps damage found.0))
-chain_then s u t these harmless keeps damage (inr (inr group)) = inr (inr group)
+chain_then s u t these harmless keeps damage (inr (inr full)) = inr (inr full)
 
 -- it is one of those, too
 pub chain_more : (s t : State) (these those : Damage → Type 0) → ((damage : Damage) → these damage → those damage) → (damage : Damage)
     → IsChainDamage s t these damage → IsChainDamage s t those damage
 chain_more s t these those more damage (inl rel) = inl rel
 chain_more s t these those more damage (inr (inl found)) = inr (inl (⊎_elim (λ mark. inl mark) (λ this. inr (more damage this)) found.0, found.1))
-chain_more s t these those more damage (inr (inr group)) = inr (inr group)
+chain_more s t these those more damage (inr (inr full)) = inr (inr full)
 
 -- no meta record but that of the groups is other
 pub marks_kept : (s t : State) (from to : ℕ) → KeepsButChains s t from to
@@ -126,17 +127,26 @@ end_found s t from to node is damage (inr (inr (inr at))) = inr (inr (inr (at.0,
 pub ends_found : (s t : State) (from to node : ℕ) → (node ≡ from) ⊎ (node ≡ to) → KeepsButChains s t node node → KeepsButChains s t from to
 ends_found s t from to node is keeps damage = end_found s t from to node is damage (keeps damage)
 
-pub end_of : (from to node : ℕ) → (node ≡ from) ⊎ (node ≡ to) → (damage : Damage) → IsOfNodes node node damage → IsOfNodes from to damage
-end_of from to node is damage at = (at.0, ⊎_elim (λ e. inl (id_is ∙ e)) (λ e. inr (id_is ∙ e)) is)
+node_of : (from to node : ℕ) → (node ≡ from) ⊎ (node ≡ to) → (damage : Damage) → IsOfNodes node node damage → IsOfNodes from to damage
+node_of from to node is damage at = (at.0, ⊎_elim (λ e. inl (id_is ∙ e)) (λ e. inr (id_is ∙ e)) is)
   where
     id_is : damage.id ≡ node
     id_is = ⊎_elim (λ (e : damage.id ≡ node). e) (λ (e : damage.id ≡ node). e) at.1
 
-pub end_blames : (s t : State) (from to node : ℕ) → (node ≡ from) ⊎ (node ≡ to) → (fault : ChangeFault) → BlamesChains s t node node fault
-    → BlamesChains s t from to fault
-end_blames s t from to node is fault told =
-    blames_more (IsChainDamage s t (IsOfNodes node node)) (IsChainDamage s t (IsOfNodes from to))
-    (chain_more s t (IsOfNodes node node) (IsOfNodes from to) (end_of from to node is)) fault told
+pub end_of : (s : State) (from to node : ℕ) → (node ≡ from) ⊎ (node ≡ to) → (damage : Damage) → IsOfEnd s node damage → IsOfEnds from to damage
+end_of s from to node is damage at = ⊎_elim (λ group. inl group.0) (λ own. inr (node_of from to node is damage own)) at
+
+-- what is told at an end, in a space after one that left these records of it as they were
+pub end_blames : (s m t : State) (from to node : ℕ) → (node ≡ from) ⊎ (node ≡ to) → HarmsNoFiles s m → KeepsThese s m (IsOfEnd m node)
+    → (fault : ChangeFault) → BlamesEnd m t node fault → BlamesChains s t from to fault
+end_blames s m t from to node is harmless keeps fault told =
+    blames_more (IsChainDamage m t (IsOfEnd m node)) (IsChainDamage s t (IsOfEnds from to))
+    (λ damage chain. chain_more s t (IsOfEnd m node) (IsOfEnds from to) (end_of m from to node is) damage
+    (chain_then s m t (IsOfEnd m node) harmless keeps damage chain)) fault told
+
+-- nothing is other before
+pub these_same : (s : State) (these : Damage → Type 0) → KeepsThese s s these
+these_same s these damage told = refl
 
 -- what follows of a result
 pub on_ok : {T : Type 0} (r : Result T ChangeFault) (P Q : Type 0) → (P → Q) → OnOk r P → OnOk r Q
@@ -169,29 +179,28 @@ marks_beside s t node beside damage of = beside.others (key_in damage.file damag
     ⊎_elim (λ (f : damage.id ≡ format.nodes_file). omega arith) (λ (f : damage.id ≡ format.relationships_file). omega arith) of.1)
     (λ e. let file : damage.file ≡ format.nodes_file = ap (λ (k : Key). k.file) e in let f = of.0 in omega arith)
 
--- so is another node
-pub other_beside : (s t : State) (a b : ℕ) → b ≢ a → LeavesBeside s.records t.records a → KeepsThese s t (IsOfNodes b b)
+-- so are another node, and a group that is no other node's than that
+pub other_beside : (s t : State) (a b : ℕ) → b ≢ a → LeavesBeside s.records t.records a → KeepsThese s t (IsOfEnd t b)
 other_beside s t a b ne beside damage (inl mark) = marks_beside s t a beside damage mark
-other_beside s t a b ne beside damage (inr at) = beside.others (key_in damage.file damage.id)
+other_beside s t a b ne beside damage (inr (inl group)) =
+    subst (λ f. t.records (key_in f damage.id) ≡ s.records (key_in f damage.id)) (sym group.0) (beside.groups damage.id (group.1 a (λ e. ne (sym e))))
+other_beside s t a b ne beside damage (inr (inr at)) = beside.others (key_in damage.file damage.id)
     (λ (e : damage.file ≡ format.relationships_file). let f = at.0 in omega arith) (λ (e : damage.file ≡ format.groups_file). let f = at.0 in omega arith)
     (λ e. let file : damage.file ≡ format.meta_file = ap (λ (k : Key). k.file) e in let f = at.0 in omega arith)
     (λ e. let id : damage.id ≡ a = ap (λ (k : Key). k.id) e in ne (sym (⊎_elim (λ (f : damage.id ≡ b). f) (λ (f : damage.id ≡ b). f) at.1) ∙ id))
 
-pub bare_beside : (s t : State) (a b : ℕ) → b ≢ a → LeavesBeside s.records t.records a
-    → t.records (key_in format.nodes_file b) ≡ s.records (key_in format.nodes_file b)
-bare_beside s t a b ne beside = other_beside s t a b ne beside (record { file = format.nodes_file; id = b; rule = 0 }) (inr (refl, inl refl))
-
 -- a record that is named where no head is found or made
 named_chain : (s t : State) (node : ℕ) → LeavesBeside s.records t.records node → (damage : Damage) → IsNamedAt s node damage
-    → NamesFound s t (faults.Damaged damage) → NamesMeta s t (faults.Damaged damage) → IsChainDamage s t (IsOfNodes node node) damage
-named_chain s t node beside damage (inl (inl (inl group))) found metas = inr (inr (inl group))
-named_chain s t node beside damage (inl (inl (inr of))) found metas = ⊎_elim (λ list. inl (inr (inr list))) (λ full. inr (inr (inr full))) (metas of)
-named_chain s t node beside damage (inl (inr at)) found metas = inr (inl (inr (at.0, inl at.1), found at.0))
+    → NamesFound s t node (faults.Damaged damage) → NamesMeta s t (faults.Damaged damage) → IsChainDamage s t (IsOfEnd s node) damage
+named_chain s t node beside damage (inl (inl (inl group))) found metas =
+    ⊎_elim (λ list. inl (inr (inr list))) (λ k. inr (inl (inr (inl (group, k.1)), k.0))) (found.groups group)
+named_chain s t node beside damage (inl (inl (inr of))) found metas = ⊎_elim (λ list. inl (inr (inr list))) (λ full. inr (inr full)) (metas of)
+named_chain s t node beside damage (inl (inr at)) found metas = inr (inl (inr (inr (at.0, inl at.1)), found.nodes at.0))
 named_chain s t node beside damage (inr (inl mark)) found metas = inr (inl (inl mark, marks_beside s t node beside damage mark))
 named_chain s t node beside damage (inr (inr unread)) found metas = inl (inl unread)
 
-pub open_blames : (s t : State) (node : ℕ) (fault : Fault) → NamesAt s node fault → NamesFound s t fault → NamesMeta s t fault
-    → IfSome (damage_of fault) (λ _. LeavesBeside s.records t.records node) → BlamesChains s t node node (of_fault fault)
+pub open_blames : (s t : State) (node : ℕ) (fault : Fault) → NamesAt s node fault → NamesFound s t node fault → NamesMeta s t fault
+    → IfSome (damage_of fault) (λ _. LeavesBeside s.records t.records node) → BlamesEnd s t node (of_fault fault)
 open_blames s t node faults.Memory names found metas beside = tt
 open_blames s t node faults.Disk names found metas beside = tt
 open_blames s t node (faults.Damaged damage) names found metas beside = named_chain s t node beside damage names found metas
@@ -215,17 +224,16 @@ pub taken_found : (s t : State) → SameButReads s t → (damage : Damage)
 taken_found s t same damage told = ⊎_elim
     (λ of. inr (inl (inl of, ap (λ (z : State). z.records (key_in damage.file damage.id)) same))) (λ list. inl (inr (inl list))) told
 
--- no node is written then
-pub placed_nodes : (s t : State) (id : ℕ) → ChangesOnly s t (key_in format.relationships_file id ∷ meta_key_of format.relationships_file ∷ []) → (x : ℕ)
-    → t.records (key_in format.nodes_file x) ≡ s.records (key_in format.nodes_file x)
-placed_nodes s t id changes x = by (changes.each (key_in format.nodes_file x))
+-- no record of another file is written then but a meta record
+pub placed_others : (s t : State) (id : ℕ) → ChangesOnly s t (key_in format.relationships_file id ∷ meta_key_of format.relationships_file ∷ [])
+    → (key : Key) → key.file ≢ format.relationships_file → key.file ≢ format.meta_file → t.records key ≡ s.records key
+placed_others s t id changes key no_rel no_meta = by (changes.each key)
   where
-    by : (t.records (key_in format.nodes_file x) ≡ s.records (key_in format.nodes_file x))
-        ⊎ IsAmong (key_in format.nodes_file x) (key_in format.relationships_file id ∷ meta_key_of format.relationships_file ∷ [])
-        → t.records (key_in format.nodes_file x) ≡ s.records (key_in format.nodes_file x)
+    by : (t.records key ≡ s.records key) ⊎ IsAmong key (key_in format.relationships_file id ∷ meta_key_of format.relationships_file ∷ [])
+        → t.records key ≡ s.records key
     by (inl same) = same
-    by (inr (inl e)) = absurd (let f = ap (λ (k : Key). k.file) e in omega arith)
-    by (inr (inr (inl e))) = absurd (let f = ap (λ (k : Key). k.file) e in omega arith)
+    by (inr (inl e)) = absurd (no_rel (ap (λ (k : Key). k.file) e))
+    by (inr (inr (inl e))) = absurd (no_meta (ap (λ (k : Key). k.file) e))
     by (inr (inr (inr none))) = absurd none
 
 -- its record is in use
@@ -275,52 +283,47 @@ module _ (s : State) (head : Head) (node : ℕ) (owns : IsHeadOf s.records head 
       put))
       found_joined
 
--- it can't be put there: the head leads nowhere, or there is no room for so many
-pub push_blames : (s t : State) (end : EdgeEnd) → HasHead s.records end → (fault : Fault) → IsPushFault s (head_of end.head) fault
-    → IfSome (damage_of fault) (λ _. t ≡ after_get s) → BlamesEndJoined s t end (of_fault fault)
-push_blames s t end owns faults.Memory told same = tt
-push_blames s t end owns faults.Disk told same = tt
-push_blames s t end owns (faults.Damaged damage) told same = by damage told (ap (λ (z : State). z.records (key_in damage.file damage.id)) same)
-  where
-    at : HasHead s.records end → IsAsFound s t (first_damage end.head.key)
-        → (IsBareEnd (first_damage end.head.key) end × IsAsFound s t (first_damage end.head.key)) ⊎ (end.head.key.file ≡ format.groups_file)
-    at (inl o) still =
-        let key = ap (λ (h : Head). h.key) o.is in
-        inl (record { bare = key; file = ap (λ (k : Key). k.file) key; id = ap (λ (k : Key). k.id) key }, still)
-    at (inr o) still = inr (ap (λ (k : Key). k.file) o.key)
+-- no record of another file is written but that of the head and the node's
+pub others_joined_by : (s : State) (head : Head) (node rel d : ℕ) (u t : State) → u ≡ tallied one_more (pushed s head node rel) head
+    → t ≡ after_set u (key_in format.nodes_file node) 4 format.node_degree d
+    → (key : Key) → key.file ≢ format.relationships_file → key ≢ head.key → key ≢ key_in format.nodes_file node → t.records key ≡ s.records key
+unfolding joined
+others_joined_by s head node rel d u t put set key no_rel no_head no_node = ap (λ (z : State). z.records key)
+    (set ∙ ap (λ (z : State). after_set z (key_in format.nodes_file node) 4 format.node_degree d) put)
+    ∙ record_joined s head node rel d key no_rel no_head no_node
 
+-- it can't be put there: the head leads nowhere, or there is no room for so many
+pub push_blames : (s t : State) (end : EdgeEnd) → (fault : Fault) → IsPushFault s (head_of end.head) fault
+    → IfSome (damage_of fault) (λ _. t ≡ after_get s) → BlamesEndJoined s t end (of_fault fault)
+push_blames s t end faults.Memory told same = tt
+push_blames s t end faults.Disk told same = tt
+push_blames s t end (faults.Damaged damage) told same = by damage told (ap (λ (z : State). z.records (key_in damage.file damage.id)) same)
+  where
     by : (d : Damage) → IsLinkDamage s (first_of s.records (head_of end.head)) (first_damage end.head.key) d → IsAsFound s t d → IsJoinDamage s t (Loop end) d
-    by d (LeadsNowhere some above) still = inr (at owns still)
+    by d (LeadsNowhere some above) still = inr (record { key = refl; lost = λ low. ⊎_elim (λ none. some none) (λ lt. omega (arith, lt, above)) low }, still)
     by d (HighMark above) still = inl (refl, above)
 
 -- it was put at the source before
 pub source_first : (s t : State) (source target : EdgeEnd) (damage : Damage) → IsJoinDamage s t (Loop source) damage
     → IsJoinDamage s t (Two source target) damage
 source_first s t source target damage (inl high) = inl high
-source_first s t source target damage (inr (inl at)) = inr (inl (inl at.0, at.1))
-source_first s t source target damage (inr (inr group)) = inr (inr group)
+source_first s t source target damage (inr at) = inr (inl at.0, at.1)
 
--- a node that isn't written where it is put at the source
-other_joined : (s u : State) (a b : ℕ) → b ≢ a → KeepsButChains s u a a → (damage : Damage) → damage.file ≡ format.nodes_file → damage.id ≡ b
-    → IsAsFound s u damage
-other_joined s u a b ne keeps damage file id = by (keeps damage)
-  where
-    by : IsAsFound s u damage ⊎ IsOfChains a a damage → IsAsFound s u damage
-    by (inl same) = same
-    by (inr (inl (inl e))) = absurd (omega (arith, e, file))
-    by (inr (inl (inr e))) = absurd (omega (arith, e.0, file))
-    by (inr (inr (inl (inl e)))) = absurd (omega (arith, e, file))
-    by (inr (inr (inl (inr e)))) = absurd (omega (arith, e.0, file))
-    by (inr (inr (inr e))) = absurd (ne (sym id ∙ ⊎_elim (λ (f : damage.id ≡ a). f) (λ (f : damage.id ≡ a). f) e.1))
-
+-- the head of the target isn't written where it is put at the source
 pub joined_then : (s u t : State) (source target : EdgeEnd) → source.node ≢ target.node → u.shape ≡ s.shape
-    → high u.records format.relationships_file ≡ high s.records format.relationships_file → KeepsButChains s u source.node source.node
+    → high u.records format.relationships_file ≡ high s.records format.relationships_file → KeepsBesideEnd s u source
+    → HasHead s.records source → HasHead s.records target
     → (damage : Damage) → IsJoinDamage u t (Loop target) damage → IsJoinDamage s t (Two source target) damage
-joined_then s u t source target ne shape mark keeps damage (inl high) =
+joined_then s u t source target ne shape mark keeps has_source has_target damage (inl high) =
     inl (high.0, subst (λ n. rel_room s < n) mark (subst (λ (h : Shape). room_of h format.relationships_file < rel_mark u) shape high.1))
-joined_then s u t source target ne shape mark keeps damage (inr (inl at)) =
-    inr (inl (inr at.0, at.1 ∙ other_joined s u source.node target.node (λ e. ne (sym e)) keeps damage at.0.file at.0.id))
-joined_then s u t source target ne shape mark keeps damage (inr (inr group)) = inr (inr group)
+joined_then s u t source target ne shape mark keeps has_source has_target damage (inr at) =
+    inr (inr (lost_before s u damage target mark same at.0), at.1 ∙ ap u.records at.0.key ∙ same ∙ ap s.records (sym at.0.key))
+  where
+    away : (target.head.key ≢ source.head.key) × (target.head.key ≢ key_in format.nodes_file source.node)
+    away = keys_apart s.records (head_of source.head) (head_of target.head) source.node target.node ne has_source has_target
+
+    same : u.records target.head.key ≡ s.records target.head.key
+    same = keeps target.head.key (head_is_no_rel s.records (head_of target.head) target.node has_target) away.0 away.1
 
 -- ---- what is so at some end
 
@@ -329,37 +332,48 @@ at_some each some (Loop end) then is at = then end is at
 at_some each some (Two source target) then is (inl at) = then source is.0 at
 at_some each some (Two source target) then is (inr at) = then target is.1 at
 
-any_end : {T : Type 0} (ends : Ends T) → AtEach (λ (end : T). Unit {0}) ends
-any_end (Loop end) = tt
-any_end (Two source target) = (tt, tt)
-
--- the node of an end as it is in a space where a record is blamed
-bare_key : (damage : Damage) (end : EdgeEnd) → IsBareEnd damage end → key_in damage.file damage.id ≡ key_in format.nodes_file end.node
-bare_key damage end is = ap (λ f. key_in f damage.id) is.file ∙ ap (key_in format.nodes_file) is.id
+some_more : {T : Type 0} (each some other : T → Type 0) (ends : Ends T) → ((end : T) → each end → some end → other end) → AtEach each ends → AtSome some ends
+    → AtSome other ends
+some_more each some other (Loop end) then is at = then end is at
+some_more each some other (Two source target) then is (inl at) = inl (then source is.0 at)
+some_more each some other (Two source target) then is (inr at) = inr (then target is.1 at)
 
 -- what is told then, after an identifier was taken and its record written
 pub placed_then : (s u t : State) (ends : Ends EdgeEnd) → HarmsNoList s u format.relationships_file
-    → ((x : ℕ) → u.records (key_in format.nodes_file x) ≡ s.records (key_in format.nodes_file x)) → (damage : Damage)
-    → IsJoinDamage u t ends damage → IsChainDamage s t (IsOfBare ends) damage
-placed_then s u t ends harmless nodes damage (inl high) = inl (inr (inl (subst (IsListDamage s.records s.shape format.relationships_file) (sym high.0)
+    → ((key : Key) → key.file ≢ format.relationships_file → key.file ≢ format.meta_file → u.records key ≡ s.records key)
+    → rel_mark s ≤ rel_mark u → AtEach (HasHead s.records) ends → (damage : Damage)
+    → IsJoinDamage u t ends damage → IsChainDamage s t (IsOfLost s ends) damage
+placed_then s u t ends harmless others grown has damage (inl high) =
+    inl (inr (inl (subst (IsListDamage s.records s.shape format.relationships_file) (sym high.0)
     (harmless mark_damage (OutOfRange (λ r. let low = r.mark in let above = high.1 in omega arith))))))
-placed_then s u t ends harmless nodes damage (inr (inl at)) =
-    let was : IsAsFound s u damage = at_some (λ (end : EdgeEnd). Unit {0}) (IsBareEnd damage) ends
-    (λ end _ is. let key = bare_key damage end is in ap u.records key ∙ nodes end.node ∙ ap s.records (sym key)) (any_end ends) at.0 in
-    inr (inl (inr at.0, at.1 ∙ was))
-placed_then s u t ends harmless nodes damage (inr (inr group)) = inr (inr (inl group))
+placed_then s u t ends harmless others grown has damage (inr at) =
+    inr (inl (inr (some_more (HasHead s.records) (IsLostEnd u damage) (IsLostEnd s damage) ends lost has at.0), at.1 ∙ was))
+  where
+    same : (end : EdgeEnd) → HasHead s.records end → u.records end.head.key ≡ s.records end.head.key
+    same end owns = others end.head.key (head_is_no_rel s.records (head_of end.head) end.node owns) (head_is_no_meta s.records (head_of end.head) end.node owns)
+
+    lost : (end : EdgeEnd) → HasHead s.records end → IsLostEnd u damage end → IsLostEnd s damage end
+    lost end owns is = record {
+      key = is.key;
+      lost = λ low. is.lost (subst (IsLowLink u.records) (sym (ap (λ (r : Rec). field 4 r end.head.field) (same end owns)))
+          (⊎_elim (λ none. inl none) (λ lt. inr (omega (arith, lt, grown))) low));
+    }
+
+    was : IsAsFound s u damage
+    was = at_some (HasHead s.records) (IsLostEnd u damage) ends (λ end owns is. ap u.records is.key ∙ same end owns ∙ ap s.records (sym is.key)) has at.0
 
 -- and after the heads of the ends were found or made
-pub bare_kept : (s t : State) (ends : Ends EdgeEnd) → KeepsMarks s t → AtEach (KeepsBare s t) ends → KeepsThese s t (IsOfBare ends)
-bare_kept s t ends marks bare damage (inl mark) = marks damage mark
-bare_kept s t ends marks bare damage (inr at) = at_some (KeepsBare s t) (IsBareEnd damage) ends
-    (λ end keeps is. let key = bare_key damage end is in ap t.records key ∙ keeps is.bare ∙ ap s.records (sym key)) bare at
+pub lost_kept : (s t : State) (ends : Ends EdgeEnd) → KeepsMarks s t → AtEach (KeepsHead s t) ends → KeepsThese s t (IsOfLost t ends)
+lost_kept s t ends marks kept damage (inl mark) = marks damage mark
+lost_kept s t ends marks kept damage (inr at) = at_some (KeepsHead s t) (IsLostEnd t damage) ends
+    (λ end keeps is. ⊎_elim (λ same. ap t.records is.key ∙ same ∙ ap s.records (sym is.key)) (λ low. absurd (is.lost low)) keeps) kept at
 
-pub bare_nodes : (ends : Ends EdgeEnd) (from to : ℕ) → (source_of ends).node ≡ from → (target_of ends).node ≡ to → (damage : Damage) → IsOfBare ends damage
-    → IsOfNodes from to damage
-bare_nodes (Loop end) from to a b damage is = (is.file, inl (is.id ∙ a))
-bare_nodes (Two source target) from to a b damage (inl is) = (is.file, inl (is.id ∙ a))
-bare_nodes (Two source target) from to a b damage (inr is) = (is.file, inr (is.id ∙ b))
+-- they are those of the nodes, or of groups
+pub lost_ends : (s : State) (ends : Ends EdgeEnd) (from to : ℕ) → (source_of ends).node ≡ from → (target_of ends).node ≡ to
+    → AtEach (HasHead s.records) ends → (damage : Damage) → IsOfLost s ends damage → IsOfEnds from to damage
+lost_ends s (Loop end) from to a b has damage is = head_of_end s end from to (inl a) has damage is
+lost_ends s (Two source target) from to a b has damage (inl is) = head_of_end s source from to (inl a) has.0 damage is
+lost_ends s (Two source target) from to a b has damage (inr is) = head_of_end s target from to (inr b) has.1 damage is
 
 -- ---- the files of properties and blocks
 
@@ -402,12 +416,15 @@ module _ (s t : State) (from to : ℕ) (shape : t.shape ≡ s.shape) (keeps : Ke
 
 -- ---- names before
 
--- a name that is new is no node, and no meta record of another file
-pub these_beyond : (s t : State) (from to : ℕ) → KeepsButNames s t → KeepsThese s t (IsOfNodes from to)
+-- a name that is new is no node, no group and no meta record of another file
+pub these_beyond : (s t : State) (from to : ℕ) → KeepsButNames s t → KeepsThese s t (IsOfEnds from to)
 these_beyond s t from to keeps damage (inl of) = keeps (key_in damage.file damage.id) (λ (e : damage.file ≡ format.names_file). let f = of.0 in omega arith)
     (λ e. let id : damage.id ≡ format.names_file = ap (λ (k : Key). k.id) e in
     ⊎_elim (λ (f : damage.id ≡ format.nodes_file). omega arith) (λ (f : damage.id ≡ format.relationships_file). omega arith) of.1)
-these_beyond s t from to keeps damage (inr at) = keeps (key_in damage.file damage.id) (λ (e : damage.file ≡ format.names_file). let f = at.0 in omega arith)
+these_beyond s t from to keeps damage (inr (inl group)) = keeps (key_in damage.file damage.id) (λ (e : damage.file ≡ format.names_file). omega arith)
+    (λ e. let file : damage.file ≡ format.meta_file = ap (λ (k : Key). k.file) e in omega arith)
+these_beyond s t from to keeps damage (inr (inr at)) =
+    keeps (key_in damage.file damage.id) (λ (e : damage.file ≡ format.names_file). let f = at.0 in omega arith)
     (λ e. let file : damage.file ≡ format.meta_file = ap (λ (k : Key). k.file) e in let f = at.0 in omega arith)
 
 -- reads before
@@ -417,24 +434,22 @@ read_names s n u same keeps key other no_meta = keeps key other no_meta ∙ ap (
 -- ---- what is blamed of an edge that is added
 
 pub broken_added : (s t : State) (fault : ChangeFault) → BlamesBroken s fault → BlamesAdded s t fault
-broken_added s t fault told =
-    blames_more (IsBroken s) (λ damage. IsBroken s damage ⊎ (IsLinkingDamage t damage × (IsAsFound s t damage ⊎ IsGroupOrFull t damage)))
-    (λ damage broken. inl broken) fault told
+broken_added s t fault told = blames_more (IsBroken s) (IsAddDamage s t) (λ damage broken. inl broken) fault told
 
 -- in the chains
 chain_added : (s u t : State) (from to : ℕ) → u.shape ≡ s.shape → KeepsButNames s u → (damage : Damage) → IsLinkingDamage t damage
-    → IsChainDamage u t (IsOfNodes from to) damage → IsBroken s damage ⊎ (IsLinkingDamage t damage × (IsAsFound s t damage ⊎ IsGroupOrFull t damage))
+    → IsChainDamage u t (IsOfEnds from to) damage → IsAddDamage s t damage
 chain_added s u t from to shape keeps damage told (inl rel) = inl (files_broken s damage (files_beyond s u shape keeps damage rel))
-chain_added s u t from to shape keeps damage told (inr (inl found)) = inr (told, inl (found.1 ∙ these_beyond s u from to keeps damage found.0))
-chain_added s u t from to shape keeps damage told (inr (inr group)) = inr (told, inr group)
+chain_added s u t from to shape keeps damage told (inr (inl found)) =
+    inr (⊎_elim (λ broken. inl (broken, found.1 ∙ these_beyond s u from to keeps damage found.0)) (λ full. inr full) told)
+chain_added s u t from to shape keeps damage told (inr (inr full)) = inr (inr full)
 
 pub chains_added : (s u t : State) (from to : ℕ) → u.shape ≡ s.shape → KeepsButNames s u → (fault : ChangeFault) → BlamesLinking t fault
     → BlamesChains u t from to fault → BlamesAdded s t fault
 chains_added s u t from to shape keeps fault told found =
-    blames_more (λ damage. IsLinkingDamage t damage × IsChainDamage u t (IsOfNodes from to) damage)
-    (λ damage. IsBroken s damage ⊎ (IsLinkingDamage t damage × (IsAsFound s t damage ⊎ IsGroupOrFull t damage)))
+    blames_more (λ damage. IsLinkingDamage t damage × IsChainDamage u t (IsOfEnds from to) damage) (IsAddDamage s t)
     (λ damage both. chain_added s u t from to shape keeps damage both.0 both.1) fault
-    (blames_both (IsLinkingDamage t) (IsChainDamage u t (IsOfNodes from to)) fault told found)
+    (blames_both (IsLinkingDamage t) (IsChainDamage u t (IsOfEnds from to)) fault told found)
 
 -- in the free lists of properties and blocks
 pub lists_added : (s v t : State) → HarmsNoLists s v → (fault : ChangeFault) → IfBlames (IsOfLists v) fault → BlamesAdded s t fault

@@ -1,5 +1,5 @@
 -- What is wrong with relationships, or with a free list, is so after changes of other records only if it was so before.
-use Rattle.std.proofs.Common.{◌≡◌, ◌⊎◌, ℕ, nat_eq, not, ap, ◌∙◌, subst, inl, inr, ⊎_elim, arith, refl}
+use Rattle.std.proofs.Common.{◌≡◌, ℕ, nat_eq, not, ap, ◌∙◌, subst, inl, inr, ⊎_elim, arith, refl}
 use Rattle.rec_bytes.specs.declared.damage.Damage.{Damage}
 use Rattle.rec_bytes.specs.declared.key.Key.{Key}
 use Rattle.rec_bytes.specs.declared.shape.Shape.{Shape}
@@ -7,7 +7,7 @@ use Rattle.rec_bytes.specs.Format as format
 use Rattle.rec_bytes.specs.Meta as metas
 use Rattle.rec_bytes.specs.Record.{field}
 use Rattle.rec_bytes.specs.RecordFiles.{meta_key_of}
-use Rattle.rec_bytes.specs.Space.{State, meta_of}
+use Rattle.rec_bytes.specs.Space.{State}
 use Rattle.store_rules.specs.Views.{high, key_in, kind_at, kind_in, rec_at}
 use Rattle.store_rules.proofs.ViewLaws.{kind_by}
 use Rattle.id_freelist.specs.ListDamage.{HarmsNoList, IsListDamage}

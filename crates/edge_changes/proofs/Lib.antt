@@ -20,6 +20,7 @@ pub mod EndLaws
 pub mod EndWrites
 pub mod EndsFound
 pub mod FileDamages
+pub mod HeadsFound
 pub mod JoinBlames
 pub mod JoinWrites
 pub mod KeptFirst

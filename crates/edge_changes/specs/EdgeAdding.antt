@@ -8,9 +8,9 @@ use Rattle.store_rules.specs.Views.{Records, key_in}
 use Rattle.id_freelist.specs.ListDamage.{IsListDamage}
 use Rattle.group_store.specs.Densing.{IsSparse}
 use Rattle.group_store.specs.GroupChain.{IsDense}
-use Rattle.group_store.specs.Naming.{IsOfMarks, IsUnread}
+use Rattle.group_store.specs.Naming.{IsNoOther, IsOfMarks, IsUnread}
 use Rattle.group_store.specs.Opening.{IsFullDamage}
-use Rattle.change_parts.specs.Damage.{IfBlames, IsAsFound, IsBroken, IsLinkingDamage}
+use Rattle.change_parts.specs.Damage.{IfBlames, IsAsFound, IsBroken}
 use Rattle.edge_changes.specs.EdgeEnds.{AreApart, source_of, target_of}
 use Rattle.change_parts.specs.Degrees.{HasDegree}
 use Rattle.change_parts.specs.Store.{graph_in}
@@ -90,24 +90,35 @@ IsFileDamage s damage = IsUnread s damage
 abbrev pub HarmsNoFiles : State → State → Type 0
 HarmsNoFiles s t = (damage : Damage) → IsFileDamage t damage → IsFileDamage s damage
 
--- it is a group, or the file of groups is full
-abbrev pub IsGroupOrFull : State → Damage → Type 0
-IsGroupOrFull t damage = (damage.file ≡ format.groups_file) ⊎ IsFullDamage t damage
+-- it is one of the nodes, or a group
+abbrev pub IsOfEnds : ℕ → ℕ → Damage → Type 0
+IsOfEnds from to damage = (damage.file ≡ format.groups_file) ⊎ IsOfNodes from to damage
+
+-- it is the node, or a group that is no other node's
+abbrev pub IsOfEnd : State → ℕ → Damage → Type 0
+IsOfEnd s node damage =
+    ((damage.file ≡ format.groups_file) × IsNoOther s.records node damage.id)
+    ⊎ IsOfNodes node node damage
 
 -- What is called damaged where an edge comes into its chains: what was wrong with the files before;
 -- one of these, or the meta record of the nodes or of the relationships, which is as it was found;
--- or a group, or the meta record of the groups where their file is full.
+-- or the meta record of the groups where their file is full.
 abbrev pub IsChainDamage : State → State → (Damage → Type 0) → Damage → Type 0
 IsChainDamage s t these damage = IsFileDamage s damage
-    ⊎ (((IsOfMarks damage ⊎ these damage) × IsAsFound s t damage) ⊎ IsGroupOrFull t damage)
+    ⊎ (((IsOfMarks damage ⊎ these damage) × IsAsFound s t damage) ⊎ IsFullDamage t damage)
 
 abbrev pub BlamesChains : State → State → ℕ → ℕ → ChangeFault → Type 0
-BlamesChains s t from to fault = IfBlames (IsChainDamage s t (IsOfNodes from to)) fault
+BlamesChains s t from to fault = IfBlames (IsChainDamage s t (IsOfEnds from to)) fault
+
+-- so at one end
+abbrev pub BlamesEnd : State → State → ℕ → ChangeFault → Type 0
+BlamesEnd s t node fault = IfBlames (IsChainDamage s t (IsOfEnd s node)) fault
 
 -- A record that is blamed where an edge is added breaks a rule in the space as it was. Or it does
--- so in the space as it is left, and is as it was found, but for groups. Or the file of groups is
--- full.
+-- so in the space as it is left, and is as it was found. Or the file of groups is full.
+abbrev pub IsAddDamage : State → State → Damage → Type 0
+IsAddDamage s t damage = IsBroken s damage
+    ⊎ ((IsBroken t damage × IsAsFound s t damage) ⊎ IsFullDamage t damage)
+
 abbrev pub BlamesAdded : State → State → ChangeFault → Type 0
-BlamesAdded s t fault =
-    IfBlames (λ damage. IsBroken s damage
-    ⊎ (IsLinkingDamage t damage × (IsAsFound s t damage ⊎ IsGroupOrFull t damage))) fault
+BlamesAdded s t fault = IfBlames (IsAddDamage s t) fault

@@ -1,5 +1,5 @@
 -- A new relationship that joins the chains of its ends.
-use Rattle.std.specs.Prelude.{◌≡◌, ◌⊎◌, ℕ, ◌+◌, ◌<◌, min, List, [], ◌∷◌, ◌++◌}
+use Rattle.std.specs.Prelude.{◌≡◌, ◌≢◌, ◌⊎◌, ℕ, ◌+◌, ◌<◌, min, List, [], ◌∷◌, ◌++◌}
 use Rattle.rec_bytes.specs.declared.damage.Damage.{Damage}
 use Rattle.rec_bytes.specs.declared.key.Key.{Key}
 use Rattle.rec_bytes.specs.Format as format
@@ -18,6 +18,7 @@ use Rattle.rel_store.specs.Loading.{mark_damage, rel_mark, rel_room}
 use Rattle.rel_store.specs.RelRecord.{rel_key, rel_record}
 use Rattle.chain_edit.specs.Heads.{head_of}
 use Rattle.chain_edit.specs.Links.{IsRightLink}
+use Rattle.group_store.specs.Leaving.{IsLowLink}
 use Rattle.group_store.specs.Opening.{IsCountedHead}
 use Rattle.change_parts.specs.Damage.{IfBlames, IsAsFound}
 use Rattle.change_parts.specs.declared.change_fault.ChangeFault.{ChangeFault}
@@ -108,20 +109,24 @@ AreRightFirsts s (Two source target) rel =
 abbrev pub IsHighMark : State → Damage → Type 0
 IsHighMark s damage = (damage ≡ mark_damage) × (rel_room s < rel_mark s)
 
--- The record is the end's node, and the end's chain begins there.
-pub record IsBareEnd (damage : Damage) (end : EdgeEnd) : Type 0 where
-  pub bare : end.head.key ≡ key_in format.nodes_file end.node
-  pub file : damage.file ≡ format.nodes_file
-  pub id : damage.id ≡ end.node
+-- The record has the head of the end, whose first link leads nowhere.
+pub record IsLostEnd (s : State) (damage : Damage) (end : EdgeEnd) : Type 0 where
+  pub key : key_in damage.file damage.id ≡ end.head.key
+  pub lost : ¬ IsLowLink s.records (first_of s.records (head_of end.head))
 
 -- so it is at one of the ends
-abbrev pub IsOfBare : Ends EdgeEnd → Damage → Type 0
-IsOfBare ends damage = AtSome (IsBareEnd damage) ends
+abbrev pub IsOfLost : State → Ends EdgeEnd → Damage → Type 0
+IsOfLost s ends damage = AtSome (IsLostEnd s damage) ends
 
--- a record that is blamed is that meta record, such a node that is as it was found, or a group
+-- no record but relationships, the one of the end's head and its node is other
+abbrev pub KeepsBesideEnd : State → State → EdgeEnd → Type 0
+KeepsBesideEnd s t end = (key : Key) → key.file ≢ format.relationships_file
+    → key ≢ end.head.key → key ≢ key_in format.nodes_file end.node → t.records key ≡ s.records key
+
+-- a record that is blamed is that meta record, or such a record that is as it was found
 abbrev pub IsJoinDamage : State → State → Ends EdgeEnd → Damage → Type 0
 IsJoinDamage s t ends damage = IsHighMark s damage
-    ⊎ ((IsOfBare ends damage × IsAsFound s t damage) ⊎ (damage.file ≡ format.groups_file))
+    ⊎ (IsOfLost s ends damage × IsAsFound s t damage)
 
 abbrev pub BlamesJoined : State → State → Ends EdgeEnd → ChangeFault → Type 0
 BlamesJoined s t ends fault = IfBlames (IsJoinDamage s t ends) fault

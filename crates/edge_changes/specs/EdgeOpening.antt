@@ -6,6 +6,8 @@ use Rattle.rec_bytes.specs.Format as format
 use Rattle.rec_bytes.specs.Space.{State, WritesOnly}
 use Rattle.store_rules.specs.Views.{high, key_in}
 use Rattle.store_rules.specs.Writes.{AreOwn, meta_keys}
+use Rattle.chain_edit.specs.Heads.{head_of}
+use Rattle.group_store.specs.Leaving.{KeepsOrLeads}
 use Rattle.group_store.specs.Opening.{moved_writes}
 use Rattle.edge_changes.specs.EdgeAdding.{HasEndDegree, IsNodeEnd}
 use Rattle.edge_changes.specs.EdgeEnds.{AreApart, AtEach, source_of, target_of}
@@ -45,10 +47,10 @@ pub record OpensEnds (s t : State) (names : List (List ℕ)) (label : ℕ) (ends
   pub keeps : KeepsGraph s t
   pub can : CanJoin t names label ends
 
--- An end whose chain begins at its node has the record of the node as it was.
-abbrev pub KeepsBare : State → State → EdgeEnd → Type 0
-KeepsBare s t end = end.head.key ≡ key_in format.nodes_file end.node
-    → t.records (key_in format.nodes_file end.node) ≡ s.records (key_in format.nodes_file end.node)
+-- The record of the end's head is as it was, or its chain begins at a relationship that was given
+-- out, or is empty.
+abbrev pub KeepsHead : State → State → EdgeEnd → Type 0
+KeepsHead s t end = KeepsOrLeads s.records t.records (head_of end.head)
 
 -- how many records of the ends that become dense are written besides the nodes' own
 abbrev pub ends_moved : ℕ → Ends EndDegree → ℕ

@@ -1,8 +1,10 @@
 //! A new edge's record, without properties, and its place in the chains of its ends.
 
-ghost use Rattle.std.specs.Prelude.{◌≡◌, ◌≢◌, ◌⊎◌, ◌<◌, ◌∷◌, [], ℕ, List, Some, slice_get};
+ghost use Rattle.std.specs.Prelude.{◌≡◌, ◌≢◌, ◌⊎◌, ◌<◌, ◌≤◌, ◌∷◌, [], ℕ, List, Some};
+ghost use Rattle.std.specs.Prelude.{slice_get};
 ghost use Rattle.std.specs.Prelude.{IfErr, IfOk, OnErr, OnOk};
-ghost use Rattle.rec_bytes.specs.Format.{free_kind, kind, nodes_file, relationships_file};
+ghost use Rattle.rec_bytes.specs.Format.{free_kind, kind, meta_file, relationships_file};
+ghost use Rattle.rec_bytes.specs.declared.key.Key.{Key};
 ghost use Rattle.rec_bytes.specs.Key.{IsKey};
 ghost use Rattle.rec_bytes.specs.RecordFiles.{meta_key_of, room_of};
 ghost use Rattle.rec_bytes.specs.Record.{field};
@@ -14,7 +16,7 @@ ghost use Rattle.id_freelist.specs.Taking.{HasTaken, taken};
 ghost use Rattle.rel_store.specs.Loading.{rel_mark};
 ghost use Rattle.rel_store.specs.RelRecord.{rel_key};
 ghost use Rattle.store_rules.specs.Rules.{KeepsRules, first_of};
-ghost use Rattle.store_rules.specs.Views.{key_in, rec_at};
+ghost use Rattle.store_rules.specs.Views.{key_in};
 ghost use Rattle.store_rules.specs.Writes.{ChangesOnly, meta_keys};
 ghost use Rattle.chain_edit.specs.Heads.{head_of};
 ghost use Rattle.chain_edit.specs.Links.{IsRightLink};
@@ -28,7 +30,7 @@ ghost use Rattle.edge_changes.specs.declared.edge_end.EdgeEnd.{EdgeEnd};
 ghost use Rattle.edge_changes.specs.EdgeEnds.{target_of};
 ghost use Rattle.edge_changes.specs.EdgeAdding.{IsChainDamage, KeepsButChains};
 ghost use Rattle.edge_changes.specs.EdgeJoining.{AreRightFirsts, BlamesEndJoined, BlamesJoined};
-ghost use Rattle.edge_changes.specs.EdgeJoining.{CanJoin, IsOfBare};
+ghost use Rattle.edge_changes.specs.EdgeJoining.{CanJoin, IsOfLost, KeepsBesideEnd};
 ghost use Rattle.edge_changes.specs.EdgeJoining.{HasPlaced, WritesJoined};
 ghost use Rattle.edge_changes.specs.EdgeJoining.{end_joined, ends_joined, joined_keys, new_row};
 ghost use Rattle.edge_changes.specs.EdgePlacing.{PutsEdge};
@@ -66,7 +68,7 @@ pub(crate) fn join_edge<S: Space>(
         (source_of ends).node (target_of ends).node) }
     ensures found { S.tells → AtEach (HasHead (S.state space.old).records) ends
         → IfErr result (IfBlames (IsChainDamage (S.state space.old) (S.state space.new)
-        (IsOfBare ends))) }
+        (IsOfLost (S.state space.old) ends))) }
     ensures key { IfOk result (λ id. IsKey (key_in relationships_file id)) }
     ensures writes { IfOk result (λ id.
         WritesJoined (S.state space.old) (S.state space.new) id ends) }
@@ -96,9 +98,11 @@ fn place<S: Space>(space: &mut S, label: u32, from: u32, to: u32) -> Result<u32,
     ensures found { S.tells
         → IfErr result (IfBlames (IsChainDamage (S.state space.old) (S.state space.new)
         (λ damage. ⊥))) }
-    ensures nodes { S.tells → OnOk result ((x : ℕ)
-        → rec_at (S.state space.new).records nodes_file x
-        ≡ rec_at (S.state space.old).records nodes_file x) }
+    ensures others { S.tells → OnOk result ((key : Key)
+        → key.file ≢ relationships_file → key.file ≢ meta_file
+        → (S.state space.new).records key ≡ (S.state space.old).records key) }
+    ensures grown { S.tells
+        → OnOk result (rel_mark (S.state space.old) ≤ rel_mark (S.state space.new)) }
     ensures lists { S.tells → OnOk result
         (HarmsNoList (S.state space.old) (S.state space.new) relationships_file) }
     ensures heads { S.tells
@@ -138,6 +142,8 @@ fn take_id<S: Space>(space: &mut S) -> Result<u32, ChangeFault>
         → HarmsNoList (S.state space.old) t relationships_file) }
     ensures stays { S.tells → ChangesOnly (S.state space.old) (S.state space.new)
         (meta_key_of relationships_file ∷ []) }
+    ensures grown { S.tells
+        → OnOk result (rel_mark (S.state space.old) ≤ rel_mark (S.state space.new)) }
     ensures ok { S.tells
         → OnOk result (S.state space.new ≡ taken (S.state space.old) relationships_file) }
     ensures err { OnErr result (SameButReads (S.state space.old) (S.state space.new)) }
@@ -228,6 +234,8 @@ fn join_end<S: Space>(space: &mut S, rel: u32, end: EdgeEnd) -> Result<(), Chang
         (KeepsButChains (S.state space.old) (S.state space.new) end.node end.node) }
     ensures found { S.tells → HasHead (S.state space.old).records end
         → IfErr result (BlamesEndJoined (S.state space.old) (S.state space.new) end) }
+    ensures others { S.tells
+        → OnOk result (KeepsBesideEnd (S.state space.old) (S.state space.new) end) }
     ensures mark { S.tells → HasHead (S.state space.old).records end
         → OnOk result (rel_mark (S.state space.new) ≡ rel_mark (S.state space.old)) }
     ensures heads { S.tells → HasHead (S.state space.old).records end

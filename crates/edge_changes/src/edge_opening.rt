@@ -8,10 +8,12 @@ ghost use Rattle.group_store.specs.Opening.{CanOpen, HasGroupRoom, OpensChain, W
 ghost use Rattle.group_store.specs.Opening.{moved_writes};
 ghost use Rattle.change_parts.specs.ChangeFault.{HasChangeCause, IsFailure, IsOutside};
 ghost use Rattle.change_parts.specs.Damage.{BlamesLinking};
-ghost use Rattle.edge_changes.specs.EdgeAdding.{BlamesChains, HarmsNoFiles, KeepsButChains};
+ghost use Rattle.edge_changes.specs.EdgeAdding.{BlamesChains, BlamesEnd, HarmsNoFiles};
+ghost use Rattle.edge_changes.specs.EdgeAdding.{KeepsButChains};
 ghost use Rattle.edge_changes.specs.EdgeAdding.{IsNodeEnd, IsUsedEnd, IsUsedNode};
-ghost use Rattle.edge_changes.specs.EdgeEnds.{AreEdgeEnds, AtEach, HasHead, IsEdgeEnd, source_of, target_of};
-ghost use Rattle.edge_changes.specs.EdgeOpening.{CanLink, IsJoint, KeepsBare, OpensEnds};
+ghost use Rattle.edge_changes.specs.EdgeEnds.{AreEdgeEnds, AtEach, HasHead, IsEdgeEnd};
+ghost use Rattle.edge_changes.specs.EdgeEnds.{source_of, target_of};
+ghost use Rattle.edge_changes.specs.EdgeOpening.{CanLink, IsJoint, KeepsHead, OpensEnds};
 ghost use Rattle.edge_changes.specs.EdgeOpening.{WritesEndsOpened};
 ghost use Rattle.edge_changes.specs.EdgeOpening.{ends_moved, from_of, to_of};
 ghost use Rattle.change_parts.specs.Rooms.{HasRoom};
@@ -50,8 +52,8 @@ pub(crate) fn open_ends<S: Space>(space: &mut S, joint: Joint) -> Result<Ends<Ed
         (BlamesChains (S.state space.old) (S.state space.new) (from_of joint) (to_of joint)) }
     ensures has { S.tells → AtEach (IsUsedEnd (S.state space.old)) joint.ends
         → IfOk result (AtEach (HasHead (S.state space.new).records)) }
-    ensures bare { S.tells → IfOk result
-        (AtEach (KeepsBare (S.state space.old) (S.state space.new))) }
+    ensures reaches { S.tells → AtEach (IsUsedEnd (S.state space.old)) joint.ends
+        → IfOk result (AtEach (KeepsHead (S.state space.old) (S.state space.new))) }
     ensures nodes { IfOk result (λ ends. ((source_of ends).node ≡ from_of joint)
         × ((target_of ends).node ≡ to_of joint)) }
     ensures ends { IfOk result AreEdgeEnds }
@@ -104,13 +106,13 @@ fn open_end<S: Space>(
     ensures leaves { S.tells → OnOk result
         (KeepsButChains (S.state space.old) (S.state space.new) end.node end.node) }
     ensures found { S.tells → IfErr result
-        (BlamesChains (S.state space.old) (S.state space.new) end.node end.node) }
+        (BlamesEnd (S.state space.old) (S.state space.new) end.node) }
     ensures has { S.tells → IsUsedNode (S.state space.old) end.node
         → IfOk result (HasHead (S.state space.new).records) }
     ensures lists { S.tells → OnOk result
         (HarmsNoList (S.state space.old) (S.state space.new) groups_file) }
-    ensures bare { S.tells
-        → IfOk result (KeepsBare (S.state space.old) (S.state space.new)) }
+    ensures reaches { S.tells
+        → IfOk result (KeepsHead (S.state space.old) (S.state space.new)) }
     ensures heads { S.tells
         → OnOk result (KeepsOtherHeads (S.state space.old) (S.state space.new) end.node) }
     ensures is { IfOk result (λ opened.

@@ -1,6 +1,6 @@
 -- The groups of a node that becomes dense: its links lead through them, and each has counts, whatever other records are.
 use Rattle.std.specs.Prelude.{OnOk}
-use Rattle.std.proofs.Common.{◌≡◌, ◌≢◌, ◌⊎◌, ℕ, ◌+◌, ◌<◌, ◌≤◌, ◌^◌, true, None, Some, List, [], ◌∷◌, Result, Ok, Err, IfErr, IfOk}
+use Rattle.std.proofs.Common.{◌≡◌, ◌≢◌, ◌⊎◌, ℕ, ◌+◌, ◌<◌, ◌≤◌, ◌^◌, true, None, Some, List, [], ◌∷◌, Result, Ok, Err, IfOk}
 use Rattle.std.proofs.Common.{sym, ap, ◌∙◌, subst, inl, inr, ⊎_elim, arith, refl}
 use Rattle.id_freelist.specs.Taking.{IsTakeDamage, IsUndamaged, BadNext, InUse, Overcounted, Undercounted, Unlisted, Unranged, taken, taken_id}
 use Rattle.rec_bytes.specs.declared.damage.Damage.{Damage}
@@ -10,7 +10,7 @@ use Rattle.rec_bytes.specs.declared.key.Key.{Key}
 use Rattle.rec_bytes.specs.declared.record.Rec.{Rec}
 use Rattle.rec_bytes.specs.declared.row_fault.RowFault.{RowFault}
 use Rattle.rec_bytes.specs.declared.row_fault.RowFault.TheVariants as row
-use Rattle.rec_bytes.specs.Fault.{OnDamage, of_row}
+use Rattle.rec_bytes.specs.Fault.{of_row}
 use Rattle.rec_bytes.specs.Format as format
 use Rattle.rec_bytes.specs.Meta as metas
 use Rattle.rec_bytes.specs.Record.{field}
@@ -22,7 +22,7 @@ use Rattle.rec_bytes.proofs.Spaces.{put_same}
 use Rattle.store_rules.specs.Chains.{In, IsWalk}
 use Rattle.store_rules.specs.Ranges.{layout_by}
 use Rattle.store_rules.specs.Rules.{Head, first_of}
-use Rattle.store_rules.specs.Views.{Records, first_link, high, key_in, kind_at, kind_in, rec_at}
+use Rattle.store_rules.specs.Views.{Records, first_link, high, kind_at, kind_in, rec_at}
 use Rattle.store_rules.proofs.ChainLaws.{walk_stays}
 use Rattle.store_rules.proofs.ChainSteps.{first_in}
 use Rattle.store_rules.proofs.NumberLaws.{eq_true}

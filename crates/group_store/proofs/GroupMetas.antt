@@ -1,5 +1,5 @@
 -- The free list of the groups where a head is found or made, and when their meta record is called damaged.
-use Rattle.std.proofs.Common.{◌≡◌, ◌≢◌, ◌⊎◌, ℕ, ◌+◌, ◌<◌, ◌≤◌, ◌^◌, nat_eq, not, Result, Ok, Err, IfErr}
+use Rattle.std.proofs.Common.{◌≡◌, ◌≢◌, ℕ, ◌+◌, ◌<◌, ◌≤◌, ◌^◌, nat_eq, not, Result, Ok, Err, IfErr}
 use Rattle.std.proofs.Common.{sym, ap, ◌∙◌, subst, inl, inr, ⊎_elim, arith, refl}
 use Rattle.id_freelist.specs.ListDamage.{HarmsNoList, IsListDamage}
 use Rattle.id_freelist.specs.ListDamage.IsListDamage.{OutOfRange}

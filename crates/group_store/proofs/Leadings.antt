@@ -57,39 +57,50 @@ high_with r m small = field-with_field_other 4 (with_field 4 (with_field 4 r for
     ∙ field-with_field_other 4 (with_field 4 r format.meta_high m.high) format.meta_free m.free 4 format.meta_high (omega arith) (inr (omega arith))
     ∙ field-with_field_same 4 r format.meta_high m.high (omega arith) small
 
--- it is below the mark then, which isn't lower than before
+-- the mark after a take, and what was taken: the mark, or the first free one
+taken_high : (s : State) (file id : ℕ) → id ≡ taken_id (meta_of s file) → id < 2 ^ 25
+    → (((meta_of s file).free ≡ format.nil) × (id ≡ high s.records file) × (high (taken s file).records file ≡ high s.records file + 1))
+    ⊎ (((meta_of s file).free ≢ format.nil) × (id ≡ (meta_of s file).free) × (high (taken s file).records file ≡ high s.records file))
+unfolding mark_taken free_taken
+taken_high s file id is small = ⊎_elim
+    (λ (none : (meta_of s file).free ≡ format.nil).
+    let test : nat_eq (meta_of s file).free format.nil ≡ true = eq_true (meta_of s file).free format.nil none in
+    let same : id ≡ (meta_of s file).high = subst (λ b. id ≡ cond b (meta_of s file).high (meta_of s file).free) test is in
+    let more : high (mark_taken s file).records file ≡ (meta_of s file).high + 1 = high_of _ (omega arith) in
+    inl (none, same, subst (λ b. high (cond b (mark_taken s file) (free_taken s file)).records file ≡ high s.records file + 1) (sym test) more))
+    (λ (some : (meta_of s file).free ≢ format.nil).
+    let test : nat_eq (meta_of s file).free format.nil ≡ false = eq_false (meta_of s file).free format.nil some in
+    let same : id ≡ (meta_of s file).free = subst (λ b. id ≡ cond b (meta_of s file).high (meta_of s file).free) test is in
+    let fits : (meta_of s file).high < 2 ^ 32 = field-lt 4 (s.records (meta_key_of file)) format.meta_high in
+    let kept : high (free_taken s file).records file ≡ (meta_of s file).high = high_of _ fits in
+    inr (some, same, subst (λ b. high (cond b (mark_taken s file) (free_taken s file)).records file ≡ high s.records file) (sym test) kept))
+    (nat_cases (meta_of s file).free format.nil)
+  where
+    high_of : (to : Meta) → to.high < 2 ^ 32 → field 4 (put s.records (meta_key_of file) (metas.with_meta (s.records (meta_key_of file)) to)
+        (meta_key_of file)) format.meta_high ≡ to.high
+    high_of to fits = ap (λ r. field 4 r format.meta_high) (put_same s.records (meta_key_of file) (metas.with_meta (s.records (meta_key_of file)) to))
+        ∙ high_with (s.records (meta_key_of file)) to fits
+
+-- it isn't lower than before
+pub taken_grown : (s : State) (file id : ℕ) → id ≡ taken_id (meta_of s file) → id < 2 ^ 25 → high s.records file ≤ high (taken s file).records file
+taken_grown s file id is small = ⊎_elim (λ k. omega (arith, k.2)) (λ k. omega (arith, k.2)) (taken_high s file id is small)
+
+-- what was taken is below it
 pub taken_marks : (s : State) (id : ℕ) → id ≡ taken_id (meta_of s format.groups_file) → id < 2 ^ 25 → IsUndamaged s format.groups_file
     → (high s.records format.groups_file ≤ high (taken s format.groups_file).records format.groups_file)
     × (id < high (taken s format.groups_file).records format.groups_file)
-unfolding mark_taken free_taken
-taken_marks s id is small undamaged = ⊎_elim
-    (λ (none : (meta_of s format.groups_file).free ≡ format.nil).
-    let test : nat_eq (meta_of s format.groups_file).free format.nil ≡ true = eq_true (meta_of s format.groups_file).free format.nil none in
-    let same : id ≡ (meta_of s format.groups_file).high = subst (λ b. id ≡ cond b (meta_of s format.groups_file).high (meta_of s format.groups_file).free) test
-    is in
-    let more : high (mark_taken s format.groups_file).records format.groups_file ≡ (meta_of s format.groups_file).high + 1 = high_of _ (omega arith) in
-    subst (λ b. ((meta_of s format.groups_file).high ≤ high (cond b (mark_taken s format.groups_file) (free_taken s format.groups_file)).records
-    format.groups_file) × (id < high (cond b (mark_taken s format.groups_file) (free_taken s format.groups_file)).records format.groups_file))
-    (sym test) (omega arith, omega arith))
-    (λ (some : (meta_of s format.groups_file).free ≢ format.nil).
-    let test : nat_eq (meta_of s format.groups_file).free format.nil ≡ false = eq_false (meta_of s format.groups_file).free format.nil some in
-    let same : id ≡ (meta_of s format.groups_file).free = subst (λ b. id ≡ cond b (meta_of s format.groups_file).high (meta_of s format.groups_file).free) test
-    is in
-    let fits : (meta_of s format.groups_file).high < 2 ^ 32 = field-lt 4 (s.records (meta_key_of format.groups_file)) format.meta_high in
-    let kept : high (free_taken s format.groups_file).records format.groups_file ≡ (meta_of s format.groups_file).high = high_of _ fits in
-    let low : (meta_of s format.groups_file).free < (meta_of s format.groups_file).high =
-    ⊎_elim (λ lt. lt) (λ (ge : (meta_of s format.groups_file).high ≤ (meta_of s format.groups_file).free). absurd (undamaged (meta_damage format.groups_file 1)
-    (Unranged (λ r. ⊎_elim (λ e. some e) (λ lt. omega arith) r.first)))) (cases_lt (meta_of s format.groups_file).free
-    (meta_of s format.groups_file).high) in
-    subst (λ b. ((meta_of s format.groups_file).high ≤ high (cond b (mark_taken s format.groups_file) (free_taken s format.groups_file)).records
-    format.groups_file) × (id < high (cond b (mark_taken s format.groups_file) (free_taken s format.groups_file)).records format.groups_file))
-    (sym test) (omega arith, omega arith))
-    (nat_cases (meta_of s format.groups_file).free format.nil)
-  where
-    high_of : (to : Meta) → to.high < 2 ^ 32 → field 4 (put s.records (meta_key_of format.groups_file)
-        (metas.with_meta (s.records (meta_key_of format.groups_file)) to) (meta_key_of format.groups_file)) format.meta_high ≡ to.high
-    high_of to fits = ap (λ r. field 4 r format.meta_high) (put_same s.records (meta_key_of format.groups_file)
-        (metas.with_meta (s.records (meta_key_of format.groups_file)) to)) ∙ high_with (s.records (meta_key_of format.groups_file)) to fits
+taken_marks s id is small undamaged = (
+  taken_grown s format.groups_file id is small,
+  ⊎_elim
+      (λ k. let at = k.1 in let more = k.2 in omega arith)
+      (λ k. let at = k.1 in let kept = k.2 in
+      let low : (meta_of s format.groups_file).free < (meta_of s format.groups_file).high =
+      ⊎_elim (λ lt. lt) (λ (ge : (meta_of s format.groups_file).high ≤ (meta_of s format.groups_file).free). absurd (undamaged
+      (meta_damage format.groups_file 1)
+      (Unranged (λ r. ⊎_elim (λ e. k.0 e) (λ lt. omega arith) r.first)))) (cases_lt (meta_of s format.groups_file).free
+      (meta_of s format.groups_file).high) in
+      omega arith) (taken_high s format.groups_file id is small),
+)
 
 -- ---- a group that is made
 

@@ -176,7 +176,8 @@ beside_made s node label small_node small_label first_own =
 -- the first group is the node's where its links lead through its groups
 pub first_own : (records : Records) (node : ℕ) (xs : List ℕ) → IsGroupList records node (first_link records node) xs
     → FirstIsOwn records node (first_link records node)
-first_own records node xs list = ⊎_elim (λ none. inl none) (λ i. inr (group_says records node (first_link records node) (list.only (first_link records node) i)))
+first_own records node xs list = ⊎_elim (λ none. inl none)
+    (λ i. inr (group_says records node (first_link records node) (list.only (first_link records node) i)))
     (first_in (next_group records) (first_link records node) xs list.walk)
 
 -- ---- a group that gets its numbers

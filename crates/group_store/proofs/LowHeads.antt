@@ -1,6 +1,7 @@
 -- Heads of groups whose chains begin at relationships that were given out, or are empty.
 use Rattle.std.specs.Prelude.{IfOk, OnOk}
-use Rattle.std.proofs.Common.{◌≡◌, ◌≢◌, ◌⊎◌, ℕ, ◌+◌, ◌<◌, ◌≤◌, Bool, true, List, [], ◌∷◌, ◌++◌, None, Some, Result, Ok, Err, sym, ap, ◌∙◌, subst, inl, inr, ⊎_elim, arith, refl}
+use Rattle.std.proofs.Common.{◌≡◌, ◌≢◌, ◌⊎◌, ℕ, ◌<◌, ◌≤◌, Bool, true, List, [], ◌∷◌, ◌++◌, None, Some, Result, Ok, Err}
+use Rattle.std.proofs.Common.{sym, ap, ◌∙◌, subst, inl, inr, ⊎_elim, arith}
 use Rattle.rec_bytes.specs.declared.fault.Fault.{Fault}
 use Rattle.rec_bytes.specs.declared.key.Key.{Key}
 use Rattle.rec_bytes.specs.Format as format
@@ -26,12 +27,12 @@ use Rattle.group_store.specs.FirstGroup.{IsFirst}
 use Rattle.group_store.specs.GroupChain.{IsDense}
 use Rattle.group_store.specs.GroupRecord.{group_key}
 use Rattle.group_store.specs.Leaving.{IsLowLink, KeepsOrLeads, LeavesBeside}
-use Rattle.group_store.specs.Making.{HasNoRels, IsEmptyOf, IsOwnGroup}
+use Rattle.group_store.specs.Making.{IsEmptyOf, IsOwnGroup}
 use Rattle.group_store.specs.Raising.{AreLengths, HasLength, LeadsLow, raised, raised_state}
 use Rattle.group_store.specs.Sides.{group_head, place_of}
 use Rattle.group_store.specs.Spreading.{LeadsAmong}
 use Rattle.group_store.specs.Walking.{group_row_at}
-use Rattle.group_store.proofs.Gathers.{beside_high, place_range}
+use Rattle.group_store.proofs.Gathers.{beside_high}
 use Rattle.group_store.proofs.GroupWalks.{in_push}
 use Rattle.group_store.proofs.KeptHeads.{raised_number}
 use Rattle.group_store.proofs.LeftBeside.{FirstIsOwn, beside_freed, first_own}
@@ -84,7 +85,8 @@ turn_first m t node rel g side h freed head low =
 length_low : (s : State) (node first n : ℕ) → HasLength s node first n → IsLowLink s.records first
 length_low s node first n (xs, sound, is) = by xs sound.chain sound.low
   where
-    by : (ys : List ℕ) → IsChain (next_of s.records node) (prev_of s.records node) format.nil first ys → ((x : ℕ) → In x ys → x < high s.records format.relationships_file)
+    by : (ys : List ℕ) → IsChain (next_of s.records node) (prev_of s.records node) format.nil first ys
+        → ((x : ℕ) → In x ys → x < high s.records format.relationships_file)
         → IsLowLink s.records first
     by [] chain low = inl chain
     by (y ∷ ys) chain low = inr (low first (inl chain.0))
@@ -142,6 +144,11 @@ pub dense_first : (r : Result OwnGroup Fault) (now : State) (node : ℕ) → IfO
     → OnOk r (IsDense now.records node)
 dense_first (Err fault) now node first = tt
 dense_first (Ok own) now node first = first.0
+
+pub first_alone : (r : Result OwnGroup Fault) (now : State) (node : ℕ) → IfOk r (λ own. IsFirst now.records node (Some own.first))
+    → IfOk r (λ own. own.first ≡ first_link now.records node)
+first_alone (Err fault) now node first = tt
+first_alone (Ok own) now node first = first.1
 
 pub done_both : {T E : Type 0} (r : Result T E) (P Q : Type 0) → OnOk r P → OnOk r Q → OnOk r (P × Q)
 done_both (Ok x) P Q p q = (p, q)

@@ -1,11 +1,11 @@
 -- Which node a group's record says to be its owner, by the record alone.
-use Rattle.std.proofs.Common.{◌≡◌, ◌≢◌, ◌⊎◌, ℕ, ◌<◌, Bool, true, false, ◌&&◌, nat_eq, sym, ap, ◌∙◌, refl}
-use Rattle.std.proofs.lemmas.Bool.{and_parts, eqb-true, true≢false}
+use Rattle.std.proofs.Common.{◌≡◌, ℕ, Bool, true, false, ◌&&◌, nat_eq, sym, ap, ◌∙◌, refl}
+use Rattle.std.proofs.lemmas.Bool.{and_parts, eqb-true}
 use Rattle.rec_bytes.specs.declared.record.Rec.{Rec}
 use Rattle.rec_bytes.specs.Format as format
 use Rattle.rec_bytes.specs.Record.{field}
 use Rattle.store_rules.specs.Views.{Records, high, is_group_kind, rec_at}
-use Rattle.store_rules.proofs.NumberLaws.{eq_false, eq_true}
+use Rattle.store_rules.proofs.NumberLaws.{eq_true}
 use Rattle.store_rules.proofs.ViewLaws.{kind_low}
 use Rattle.group_store.specs.GroupChain.{IsGroupOf, is_group_of}
 use Rattle.group_store.specs.GroupRecord.{group_key}

@@ -23,9 +23,6 @@ use Rattle.store_rules.specs.Views as views
 use Rattle.store_rules.specs.Views.{degree, first_link, group_at, group_in, kind_at, rec_at, rel_at}
 use Rattle.store_rules.proofs.ChainLaws.{head_once}
 use Rattle.chain_edit.specs.Chains.{next_of}
-use Rattle.rec_bytes.specs.Fault as faults
-use Rattle.rec_bytes.specs.declared.fault.Fault.{Fault}
-use Rattle.rec_bytes.specs.declared.fault.Fault.TheVariants as chain_fault
 use Rattle.chain_edit.specs.Links.{IsRightLink, prev_set}
 use Rattle.chain_edit.specs.Pushing.{pushed}
 use Rattle.node_store.specs.declared.node_row.NodeRow.{NodeRow}

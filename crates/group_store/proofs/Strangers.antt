@@ -1,6 +1,6 @@
 -- Which group is named where a head of a node is found or made, and that it is as it was found.
-use Rattle.std.proofs.Common.{◌≡◌, ◌≢◌, ◌⊎◌, ℕ, true, Result, Ok, Err, IfErr, sym, ap, ◌∙◌, subst, inl, inr, ⊎_elim, arith, refl}
-use Rattle.id_freelist.specs.ListDamage.{HarmsNoList, IsListDamage}
+use Rattle.std.proofs.Common.{◌≡◌, ◌≢◌, ℕ, true, Result, Ok, Err, IfErr, sym, ap, ◌∙◌, subst, inl, inr, ⊎_elim, arith, refl}
+use Rattle.id_freelist.specs.ListDamage.{HarmsNoList}
 use Rattle.id_freelist.proofs.ListSteps.{reads_harm_none}
 use Rattle.id_freelist.proofs.TakeBreaches.{list_damage}
 use Rattle.rec_bytes.specs.declared.damage.Damage.{Damage}
@@ -13,7 +13,6 @@ use Rattle.rec_bytes.specs.Format as format
 use Rattle.rec_bytes.specs.Space.{SameButReads, State}
 use Rattle.store_rules.specs.Rules.{Head, first_of}
 use Rattle.store_rules.specs.Views.{first_link, key_in}
-use Rattle.node_store.specs.Loading.{IsNodeDamage}
 use Rattle.row_store.specs.Loading.{IsRowDamage}
 use Rattle.row_store.specs.Loading.IsRowDamage.{HighMark as HighRow, UnknownKind}
 use Rattle.rel_store.specs.Loading as rels
@@ -30,7 +29,7 @@ use Rattle.group_store.specs.Links.IsLinkDamage.{LeadsNowhere, HighLink}
 use Rattle.group_store.specs.Loading.{HasNoKind}
 use Rattle.group_store.specs.Making.{IsMakeDamage, IsMakeFault, link_damage}
 use Rattle.group_store.specs.Making.IsMakeDamage.{BadFree, BadLink, BadNode, FullFile, NotDense}
-use Rattle.group_store.specs.Naming.{IsAsBefore, IsFoundAt, IsNoOther, NamesFound, NamesNoGroup, NamesNoNode, NamesNoOther}
+use Rattle.group_store.specs.Naming.{IsAsBefore, IsNoOther, NamesFound, NamesNoGroup, NamesNoNode, NamesNoOther}
 use Rattle.group_store.specs.Raising.{IsCountFault}
 use Rattle.group_store.specs.SparseChain.{IsSparseDamage, IsSparseFault}
 use Rattle.group_store.specs.SparseChain.IsSparseDamage.{BadRelationship, MoreThanSaid, NoChain}

@@ -76,8 +76,8 @@ NamesNoOther s node (Damaged damage) = damage.file ≡ format.groups_file
     → IsListDamage s.records s.shape format.groups_file damage
     ⊎ IsNoOther s.records node damage.id
 
--- A node or a group that a fault names is as it was found, and the group is no other node's. Or this
--- was wrong with the free list of the groups before.
+-- A node or a group that a fault names is as it was found, and the group is no other node's. Or
+-- this was wrong with the free list of the groups before.
 pub record IsFoundAt (s t : State) (node : ℕ) (damage : Damage) : Type 0 where
   pub nodes : damage.file ≡ format.nodes_file → IsAsBefore s t damage
   pub groups : damage.file ≡ format.groups_file

@@ -10,7 +10,7 @@ use Rattle.change_parts.proofs.Adding.{space_blamed}
 use Rattle.edge_changes.proofs.JoinBlames.{push_blamed}
 use Rattle.rec_bytes.proofs.Causes.{never_ok, ok_cause}
 use Rattle.edge_changes.specs.EdgeJoining.{BlamesEndJoined}
-use Rattle.edge_changes.proofs.EdgeFound.{found_joined_by, push_blames}
+use Rattle.edge_changes.proofs.EdgeFound.{found_joined_by, others_joined_by, push_blames}
 use Rattle.edge_changes.proofs.edge_joining.join_end.Goals as goal
 
 pub returns-clause-writes : goal.returns-clause-writes
@@ -92,7 +92,7 @@ returns-in_err-push_counted-clause-found g c tells owns =
     let t = g.S.Reads.state c.push_counted.new.space in
     let fault = c.in_err-push_counted.field-0.0 in
     fault_exit of_fault (BlamesEndJoined s t c.args.end) fault c.from_residual.result c.from_residual.ensures.1
-    (push_blames s t c.args.end owns fault (c.in_err-push_counted.ensures.damaged tells) c.in_err-push_counted.ensures.unwritten)
+    (push_blames s t c.args.end fault (c.in_err-push_counted.ensures.damaged tells) c.in_err-push_counted.ensures.unwritten)
 
 pub returns-in_err-set_number-clause-found : goal.returns-in_err-set_number-clause-found
 returns-in_err-set_number-clause-found g c tells owns =
@@ -100,6 +100,19 @@ returns-in_err-set_number-clause-found g c tells owns =
     let t = g.S.Reads.state c.set_number.new.space in
     fault_exit of_space (BlamesEndJoined s t c.args.end) c.in_err-set_number.field-0.0 c.from_residual-in_err-set_number.result
     c.from_residual-in_err-set_number.ensures.1 (space_blamed _ c.in_err-set_number.field-0.0)
+
+-- ---- no record of another file but that of the head and the node's is other
+pub returns-clause-others : goal.returns-clause-others
+returns-clause-others g c tells =
+    others_joined_by (g.S.Reads.state c.args.space.now) (head_of c.args.end.head) c.args.end.node c.args.rel _
+    (g.S.Reads.state c.push_counted.new.space) (g.S.Reads.state c.set_number.new.space) (c.in_ok-push_counted.ensures.ok tells)
+    (c.in_ok-set_number.ensures.ok tells)
+
+pub returns-in_err-push_counted-clause-others : goal.returns-in_err-push_counted-clause-others
+returns-in_err-push_counted-clause-others g c _ = never_ok c.from_residual.result _ _ c.from_residual.ensures.1
+
+pub returns-in_err-set_number-clause-others : goal.returns-in_err-set_number-clause-others
+returns-in_err-set_number-clause-others g c _ = never_ok c.from_residual-in_err-set_number.result _ _ c.from_residual-in_err-set_number.ensures.1
 
 -- ---- how many relationships were given out
 pub returns-clause-mark : goal.returns-clause-mark

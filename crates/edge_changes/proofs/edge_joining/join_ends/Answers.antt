@@ -114,5 +114,5 @@ returns-in_ok-join_end-in-Two-clause-found g c tells heads apart =
     subst (λ (e : Ends EdgeEnd). IfErr c.join_end-in-Two-2.result (BlamesJoined s t e)) (sym c.in-Two.is)
     (if_blames c.join_end-in-Two-2.result (IsJoinDamage m t (Loop target)) (IsJoinDamage s t (Two source target))
     (joined_then s m t source target differ (g.met.S.Reads.onward_shape _ _ c.in_ok-join_end-in-Two.ensures.onward)
-    (c.in_ok-join_end-in-Two.ensures.mark tells has.0) (c.in_ok-join_end-in-Two.ensures.leaves tells has.0))
+    (c.in_ok-join_end-in-Two.ensures.mark tells has.0) (c.in_ok-join_end-in-Two.ensures.others tells) has.0 has.1)
     (c.join_end-in-Two-2.ensures.found tells owns))

@@ -1,4 +1,8 @@
-use Rattle.std.proofs.Common.{◌≡◌, ◌⊎◌, ℕ, [], ◌∷◌, ◌∙◌, ap, inl, inr, ⊎_elim, refl, subst, rules}
+use Rattle.std.proofs.Common.{◌≡◌, ◌⊎◌, ◌≤◌, ℕ, [], ◌∷◌, ◌∙◌, ap, inl, inr, ⊎_elim, arith, refl, subst, sym, rules}
+use Rattle.rec_bytes.specs.Meta as metas
+use Rattle.rec_bytes.specs.declared.key.Key.{Key}
+use Rattle.rec_bytes.proofs.Spaces.{put_other}
+use Rattle.rel_store.specs.Loading.{rel_mark}
 use Rattle.rec_bytes.specs.Format as format
 use Rattle.rec_bytes.specs.RecordFiles.{meta_key_of}
 use Rattle.rec_bytes.specs.Space.{State, WritesOnly, after_put}
@@ -22,7 +26,7 @@ use Rattle.id_freelist.specs.ListDamage.{IsListDamage}
 use Rattle.group_store.specs.Naming.{IsOfMarks}
 use Rattle.change_parts.proofs.Broken.{blames_more}
 use Rattle.edge_changes.specs.EdgeAdding.{IsChainDamage}
-use Rattle.edge_changes.proofs.EdgeFound.{found_placed, placed_nodes, placed_used, taken_found}
+use Rattle.edge_changes.proofs.EdgeFound.{found_placed, placed_others, placed_used, taken_found}
 use Rattle.edge_changes.proofs.edge_joining.place.Goals as goal
 use Rattle.edge_changes.proofs.edge_joining.place.Goals.{After-save, In_ok-id}
 use Rattle.edge_changes.proofs.edge_joining.place.Given.{Over}
@@ -158,23 +162,40 @@ returns-in_err-save-clause-found g c tells =
     fault_exit of_space (IfBlames (IsChainDamage s t (λ _. ⊥))) c.in_err-save.field-0.0 c.from_residual-in_err-save.result
     c.from_residual-in_err-save.ensures.1 (space_blamed _ c.in_err-save.field-0.0)
 
--- ---- no node is written
+-- ---- no record of another file is written
 
-pub returns-clause-nodes : goal.returns-clause-nodes
-returns-clause-nodes g c tells x =
+pub returns-clause-others : goal.returns-clause-others
+returns-clause-others g c tells key no_rel no_meta =
     let s = g.S.Reads.state c.args.space.now in
     let t = g.S.Reads.state c.take_id.new.space in
     let u = g.S.Reads.state c.save.new.space in
     let id = c.in_ok-id.id in
-    placed_nodes s u id
+    placed_others s u id
     (placed_only s t u id (rel_record (new_row id c.args.label c.args.from c.args.to)) (c.take_id.ensures.stays tells)
-    (c.in_ok-save.ensures.ok ∙ ap (λ (r : RelRow). after_put t (rel_key r.id) (rel_record r)) c.new_row.ensures)) x
+    (c.in_ok-save.ensures.ok ∙ ap (λ (r : RelRow). after_put t (rel_key r.id) (rel_record r)) c.new_row.ensures)) key no_rel no_meta
 
-pub returns-in_err-id-clause-nodes : goal.returns-in_err-id-clause-nodes
-returns-in_err-id-clause-nodes g c _ = never_ok c.from_residual.result _ _ c.from_residual.ensures.1
+pub returns-in_err-id-clause-others : goal.returns-in_err-id-clause-others
+returns-in_err-id-clause-others g c _ = never_ok c.from_residual.result _ _ c.from_residual.ensures.1
 
-pub returns-in_err-save-clause-nodes : goal.returns-in_err-save-clause-nodes
-returns-in_err-save-clause-nodes g c _ = never_ok c.from_residual-in_err-save.result _ _ c.from_residual-in_err-save.ensures.1
+pub returns-in_err-save-clause-others : goal.returns-in_err-save-clause-others
+returns-in_err-save-clause-others g c _ = never_ok c.from_residual-in_err-save.result _ _ c.from_residual-in_err-save.ensures.1
+
+-- no fewer were given out
+pub returns-clause-grown : goal.returns-clause-grown
+returns-clause-grown g c tells =
+    let s = g.S.Reads.state c.args.space.now in
+    let t = g.S.Reads.state c.take_id.new.space in
+    let u = g.S.Reads.state c.save.new.space in
+    subst (λ (m : ℕ). rel_mark s ≤ m) (sym (ap (λ r. (metas.meta_of r).high) (ap (λ (z : State). z.records (meta_key_of format.relationships_file))
+    c.in_ok-save.ensures.ok ∙ put_other t.records (rel_key c.new_row.result.id) (rel_record c.new_row.result) (meta_key_of format.relationships_file)
+    (λ e. let f = ap (λ (k : Key). k.file) e in omega arith))))
+    (c.in_ok-id.ensures.grown tells)
+
+pub returns-in_err-id-clause-grown : goal.returns-in_err-id-clause-grown
+returns-in_err-id-clause-grown g c _ = never_ok c.from_residual.result _ _ c.from_residual.ensures.1
+
+pub returns-in_err-save-clause-grown : goal.returns-in_err-save-clause-grown
+returns-in_err-save-clause-grown g c _ = never_ok c.from_residual-in_err-save.result _ _ c.from_residual-in_err-save.ensures.1
 
 -- ---- the free list of the relationships
 pub returns-clause-lists : goal.returns-clause-lists

@@ -1,5 +1,5 @@
 use Rattle.std.specs.Prelude.{Err}
-use Rattle.std.proofs.Common.{◌≡◌, ◌∙◌, ℕ, refl, subst, sym, inl, inr, arith}
+use Rattle.std.proofs.Common.{◌≡◌, ◌≤◌, ◌∙◌, ℕ, refl, subst, sym, inl, inr, arith}
 use Rattle.id_freelist.specs.declared.take_fault.TakeFault.{TakeFault}
 use Rattle.id_freelist.specs.declared.take_fault.TakeFault.TheVariants.{Damaged}
 use Rattle.id_freelist.specs.TakeFault.{BlamesBroken, NotDamaged}
@@ -9,6 +9,8 @@ use Rattle.rec_bytes.specs.Space.{State, meta_of}
 use Rattle.id_freelist.specs.Taking.{IsTakeFault, room}
 use Rattle.store_rules.specs.Breaking.{Breaks}
 use Rattle.id_freelist.proofs.ListSteps.{blames_list, put_harms_none}
+use Rattle.group_store.proofs.Leadings.{taken_grown}
+use Rattle.rel_store.specs.Loading.{rel_mark}
 use Rattle.edge_changes.proofs.edge_joining.take_id.Goals as goal
 
 pub returns-in-Err-Damaged-clause-sound : goal.returns-in-Err-Damaged-clause-sound
@@ -45,3 +47,10 @@ returns-in-Ok-clause-lists g c tells t rec put used =
     put_harms_none (g.S.Reads.state c.args.space.now) (g.S.Reads.state c.take.new.space) t format.relationships_file c.in-Ok.id rec refl
     (c.in-Ok.ensures.ok tells) c.in-Ok.ensures.is (c.in-Ok.ensures.undamaged tells) (c.in-Ok.ensures.fresh tells) c.in-Ok.ensures.key.id
     c.in-Ok.ensures.small put used
+
+-- ---- no fewer were given out
+pub returns-in-Ok-clause-grown : goal.returns-in-Ok-clause-grown
+returns-in-Ok-clause-grown g c tells =
+    let s = g.S.Reads.state c.args.space.now in
+    subst (λ (z : State). rel_mark s ≤ rel_mark z) (sym (c.in-Ok.ensures.ok tells))
+    (taken_grown s format.relationships_file c.in-Ok.id c.in-Ok.ensures.is c.in-Ok.ensures.key.id)

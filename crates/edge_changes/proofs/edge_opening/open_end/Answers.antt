@@ -1,13 +1,10 @@
-use Rattle.std.proofs.Common.{ap, rules}
-use Rattle.rec_bytes.specs.Format as format
-use Rattle.rec_bytes.specs.Space.{State}
-use Rattle.store_rules.specs.Views.{key_in}
+use Rattle.std.proofs.Common.{rules}
 use Rattle.change_parts.specs.ChangeFault.{of_fault}
 use Rattle.change_parts.specs.Damage.{BlamesLinking}
 use Rattle.change_parts.proofs.Exits.{fault_exit}
 use Rattle.edge_changes.proofs.JoinBlames.{end_blamed}
 use Rattle.rec_bytes.proofs.Causes.{never_ok, ok_cause}
-use Rattle.edge_changes.specs.EdgeAdding.{BlamesChains}
+use Rattle.edge_changes.specs.EdgeAdding.{BlamesEnd}
 use Rattle.edge_changes.proofs.EdgeFound.{found_beside, open_blames}
 use Rattle.edge_changes.proofs.edge_opening.open_end.Goals as goal
 
@@ -67,17 +64,16 @@ returns-in_err-head-clause-found g c tells =
     let s = g.S.Reads.state c.args.space.now in
     let t = g.S.Reads.state c.open_chain.new.space in
     let node = c.args.end.node in
-    fault_exit of_fault (BlamesChains s t node node) c.in_err-head.field-0.0 c.from_residual.result c.from_residual.ensures.1
+    fault_exit of_fault (BlamesEnd s t node) c.in_err-head.field-0.0 c.from_residual.result c.from_residual.ensures.1
     (open_blames s t node c.in_err-head.field-0.0 (c.in_err-head.ensures.names tells) (c.in_err-head.ensures.named tells)
     (c.in_err-head.ensures.metas tells) (c.in_err-head.ensures.stays tells))
 
--- where the chain begins at the node, nothing is written
-pub returns-clause-bare : goal.returns-clause-bare
-returns-clause-bare g c tells own =
-    ap (λ (z : State). z.records (key_in format.nodes_file c.args.end.node)) (c.in_ok-head.ensures.bare tells own)
+-- where the chain of the head begins
+pub returns-clause-reaches : goal.returns-clause-reaches
+returns-clause-reaches g c tells = c.in_ok-head.ensures.reaches tells
 
-pub returns-in_err-head-clause-bare : goal.returns-in_err-head-clause-bare
-returns-in_err-head-clause-bare g c _ = never_ok c.from_residual.result _ _ c.from_residual.ensures.1
+pub returns-in_err-head-clause-reaches : goal.returns-in_err-head-clause-reaches
+returns-in_err-head-clause-reaches g c _ = never_ok c.from_residual.result _ _ c.from_residual.ensures.1
 
 -- the free list of the groups
 pub returns-clause-lists : goal.returns-clause-lists

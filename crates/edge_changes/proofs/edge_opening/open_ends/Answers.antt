@@ -22,10 +22,10 @@ use Rattle.edge_changes.proofs.OpenWrites.{both_wrote}
 use Rattle.std.proofs.Common.{inl, inr}
 use Rattle.edge_changes.specs.declared.edge_end.Ends.{Ends}
 use Rattle.edge_changes.specs.EdgeEnds.{source_of, target_of}
-use Rattle.edge_changes.specs.EdgeAdding.{BlamesChains, IsChainDamage, IsOfNodes}
+use Rattle.edge_changes.specs.EdgeAdding.{BlamesChains, IsOfEnd}
 use Rattle.edge_changes.specs.EdgeOpening.{from_of, to_of}
-use Rattle.edge_changes.proofs.EdgeFound.{bare_beside, chain_then, end_blames, ends_found, found_then, other_beside}
-use Rattle.change_parts.proofs.Broken.{blames_more}
+use Rattle.edge_changes.proofs.EdgeFound.{end_blames, ends_found, found_then, other_beside, these_same}
+use Rattle.edge_changes.proofs.HeadsFound.{kept_after, kept_before}
 use Rattle.edge_changes.proofs.FileDamages.{files_beside, files_then}
 use Rattle.rec_bytes.proofs.Causes.{never_ok}
 use Rattle.edge_changes.proofs.edge_opening.open_ends.Goals as goal
@@ -296,7 +296,8 @@ returns-in_err-only-in-Loop-clause-found g c tells =
     let to = to_of c.args.joint in
     let own = sym (ap (λ (e : Ends EndDegree). (source_of e).node) c.in-Loop.is) in
     fault_exit (λ f. f) (BlamesChains s t from to) c.in_err-only-in-Loop.field-0.0 c.from_residual.result c.from_residual.ensures.1
-    (end_blames s t from to c.in-Loop.end.node (inl own) c.in_err-only-in-Loop.field-0.0 (c.in_err-only-in-Loop.ensures.found tells))
+    (end_blames s s t from to c.in-Loop.end.node (inl own) (λ d told. told) (these_same s (IsOfEnd s c.in-Loop.end.node)) c.in_err-only-in-Loop.field-0.0
+    (c.in_err-only-in-Loop.ensures.found tells))
 
 pub returns-in_err-first-in-Two-clause-found : goal.returns-in_err-first-in-Two-clause-found
 returns-in_err-first-in-Two-clause-found g c tells =
@@ -307,7 +308,8 @@ returns-in_err-first-in-Two-clause-found g c tells =
     let leaves = sym (ap (λ (e : Ends EndDegree). (source_of e).node) c.in-Two.is) in
     fault_exit (λ f. f) (BlamesChains s t from to) c.in_err-first-in-Two.field-0.0 c.from_residual-in_err-first-in-Two.result
     c.from_residual-in_err-first-in-Two.ensures.1
-    (end_blames s t from to c.in-Two.source.node (inl leaves) c.in_err-first-in-Two.field-0.0 (c.in_err-first-in-Two.ensures.found tells))
+    (end_blames s s t from to c.in-Two.source.node (inl leaves) (λ d told. told) (these_same s (IsOfEnd s c.in-Two.source.node)) c.in_err-first-in-Two.field-0.0
+    (c.in_err-first-in-Two.ensures.found tells))
 
 pub returns-in_err-last-in-Two-clause-found : goal.returns-in_err-last-in-Two-clause-found
 returns-in_err-last-in-Two-clause-found g c tells =
@@ -323,38 +325,39 @@ returns-in_err-last-in-Two-clause-found g c tells =
     let differ : a ≢ b = subst (AreApart (λ (end : EndDegree). end.node)) c.in-Two.is c.requires.apart in
     let beside = c.in_ok-first-in-Two.ensures.beside tells in
     fault_exit (λ f. f) (BlamesChains s t from to) fault c.from_residual-in_err-last-in-Two.result c.from_residual-in_err-last-in-Two.ensures.1
-    (end_blames s t from to b (inr enters) fault
-    (blames_more (IsChainDamage m t (IsOfNodes b b)) (IsChainDamage s t (IsOfNodes b b)) (chain_then s m t (IsOfNodes b b)
+    (end_blames s m t from to b (inr enters)
     (files_beside s m a (g.met.S.Reads.onward_shape _ _ c.in_ok-first-in-Two.ensures.onward) beside (c.in_ok-first-in-Two.ensures.lists tells))
-    (other_beside s m a b (λ (e : b ≡ a). differ (sym e)) beside)) fault (c.in_err-last-in-Two.ensures.found tells)))
+    (other_beside s m a b (λ (e : b ≡ a). differ (sym e)) beside) fault (c.in_err-last-in-Two.ensures.found tells))
 
--- ---- an end whose chain begins at its node
+-- ---- where the chains of the heads begin
 
-pub returns-in_ok-only-in-Loop-clause-bare : goal.returns-in_ok-only-in-Loop-clause-bare
-returns-in_ok-only-in-Loop-clause-bare g c tells = c.in_ok-only-in-Loop.ensures.bare tells
+pub returns-in_ok-only-in-Loop-clause-reaches : goal.returns-in_ok-only-in-Loop-clause-reaches
+returns-in_ok-only-in-Loop-clause-reaches g c tells used = c.in_ok-only-in-Loop.ensures.reaches tells
 
-pub returns-in_ok-last-in-Two-clause-bare : goal.returns-in_ok-last-in-Two-clause-bare
-returns-in_ok-last-in-Two-clause-bare g c tells =
+pub returns-in_ok-last-in-Two-clause-reaches : goal.returns-in_ok-last-in-Two-clause-reaches
+returns-in_ok-last-in-Two-clause-reaches g c tells used =
     let s = g.S.Reads.state c.args.space.now in
     let m = g.S.Reads.state c.open_end-in-Two.new.space in
     let t = g.S.Reads.state c.open_end-in-Two-2.new.space in
     let a = c.in-Two.source.node in
     let b = c.in-Two.target.node in
     let differ : a ≢ b = subst (AreApart (λ (end : EndDegree). end.node)) c.in-Two.is c.requires.apart in
-    let first : c.in_ok-first-in-Two.first.node ≡ a = ap (λ (e : EdgeEnd). e.node) c.in_ok-first-in-Two.ensures.is in
-    let last : c.in_ok-last-in-Two.last.node ≡ b = ap (λ (e : EdgeEnd). e.node) c.in_ok-last-in-Two.ensures.is in (
-      (λ own. bare_beside m t b c.in_ok-first-in-Two.first.node (λ (e : c.in_ok-first-in-Two.first.node ≡ b). differ (sym first ∙ e))
-          (c.in_ok-last-in-Two.ensures.beside tells) ∙ c.in_ok-first-in-Two.ensures.bare tells own),
-      (λ own. c.in_ok-last-in-Two.ensures.bare tells own
-          ∙ bare_beside s m a c.in_ok-last-in-Two.last.node (λ (e : c.in_ok-last-in-Two.last.node ≡ a). differ (sym (sym last ∙ e)))
-          (c.in_ok-first-in-Two.ensures.beside tells)),
+    let one = c.in_ok-first-in-Two.first in
+    let other = c.in_ok-last-in-Two.last in
+    let first : one.node ≡ a = ap (λ (e : EdgeEnd). e.node) c.in_ok-first-in-Two.ensures.is in
+    let last : other.node ≡ b = ap (λ (e : EdgeEnd). e.node) c.in_ok-last-in-Two.ensures.is in
+    let has = returns-in_ok-last-in-Two-clause-has g c tells used in (
+      kept_after s m t b one.node (head_of one.head) (λ (e : one.node ≡ b). differ (sym first ∙ e)) (c.in_ok-last-in-Two.ensures.beside tells) has.0
+          (c.in_ok-first-in-Two.ensures.reaches tells),
+      kept_before s m t a other.node (head_of other.head) (λ (e : other.node ≡ a). differ (sym (sym last ∙ e))) (c.in_ok-first-in-Two.ensures.beside tells)
+          has.1 (c.in_ok-last-in-Two.ensures.reaches tells),
     )
 
-pub returns-in_err-only-in-Loop-clause-bare : goal.returns-in_err-only-in-Loop-clause-bare
-returns-in_err-only-in-Loop-clause-bare g c _ = never_ok c.from_residual.result _ _ c.from_residual.ensures.1
+pub returns-in_err-only-in-Loop-clause-reaches : goal.returns-in_err-only-in-Loop-clause-reaches
+returns-in_err-only-in-Loop-clause-reaches g c _ _ = never_ok c.from_residual.result _ _ c.from_residual.ensures.1
 
-pub returns-in_err-first-in-Two-clause-bare : goal.returns-in_err-first-in-Two-clause-bare
-returns-in_err-first-in-Two-clause-bare g c _ = never_ok c.from_residual-in_err-first-in-Two.result _ _ c.from_residual-in_err-first-in-Two.ensures.1
+pub returns-in_err-first-in-Two-clause-reaches : goal.returns-in_err-first-in-Two-clause-reaches
+returns-in_err-first-in-Two-clause-reaches g c _ _ = never_ok c.from_residual-in_err-first-in-Two.result _ _ c.from_residual-in_err-first-in-Two.ensures.1
 
-pub returns-in_err-last-in-Two-clause-bare : goal.returns-in_err-last-in-Two-clause-bare
-returns-in_err-last-in-Two-clause-bare g c _ = never_ok c.from_residual-in_err-last-in-Two.result _ _ c.from_residual-in_err-last-in-Two.ensures.1
+pub returns-in_err-last-in-Two-clause-reaches : goal.returns-in_err-last-in-Two-clause-reaches
+returns-in_err-last-in-Two-clause-reaches g c _ _ = never_ok c.from_residual-in_err-last-in-Two.result _ _ c.from_residual-in_err-last-in-Two.ensures.1

@@ -23,10 +23,10 @@ use Rattle.change_parts.specs.Damage.{IsBroken}
 use Rattle.edge_changes.specs.EdgeAdding.{HasEndDegree}
 use Rattle.change_parts.specs.Damage.{IsLinkingDamage}
 use Rattle.edge_changes.proofs.EdgeBlames.{if_blames}
-use Rattle.edge_changes.specs.EdgeAdding.{BlamesChains, IsChainDamage, IsOfNodes, KeepsButChains}
-use Rattle.edge_changes.specs.EdgeJoining.{IsOfBare}
+use Rattle.edge_changes.specs.EdgeAdding.{BlamesChains, IsChainDamage, IsOfEnds, KeepsButChains}
+use Rattle.edge_changes.specs.EdgeJoining.{IsOfLost}
 use Rattle.edge_changes.specs.EdgeEnds.{target_of}
-use Rattle.edge_changes.proofs.EdgeFound.{bare_kept, bare_nodes, chain_more, chain_then, found_then, marks_kept, on_ok}
+use Rattle.edge_changes.proofs.EdgeFound.{chain_more, chain_then, found_then, lost_ends, lost_kept, marks_kept, on_ok}
 use Rattle.rec_bytes.proofs.Causes.{never_ok}
 use Rattle.edge_changes.proofs.edge_placing.put_edge.Goals as goal
 
@@ -151,8 +151,9 @@ returns-clause-found g c tells used =
     let ends = c.in_ok-ends.ends in
     let nodes = c.in_ok-ends.ensures.nodes in
     let marks = marks_kept s t from to (c.in_ok-ends.ensures.leaves tells) (c.in_ok-ends.ensures.beside tells) in
-    let keeps = bare_kept s t ends marks (c.in_ok-ends.ensures.bare tells) in
-    if_blames c.join_edge.result (IsChainDamage t u (IsOfBare ends)) (IsChainDamage s u (IsOfNodes from to))
-    (λ damage told. chain_more s u (IsOfBare ends) (IsOfNodes from to) (bare_nodes ends from to nodes.0 nodes.1) damage
-    (chain_then s t u (IsOfBare ends) (c.in_ok-ends.ensures.files tells) keeps damage told))
-    (c.join_edge.ensures.found tells (c.in_ok-ends.ensures.has tells used))
+    let has = c.in_ok-ends.ensures.has tells used in
+    let keeps = lost_kept s t ends marks (c.in_ok-ends.ensures.reaches tells used) in
+    if_blames c.join_edge.result (IsChainDamage t u (IsOfLost t ends)) (IsChainDamage s u (IsOfEnds from to))
+    (λ damage told. chain_more s u (IsOfLost t ends) (IsOfEnds from to) (lost_ends t ends from to nodes.0 nodes.1 has) damage
+    (chain_then s t u (IsOfLost t ends) (c.in_ok-ends.ensures.files tells) keeps damage told))
+    (c.join_edge.ensures.found tells has)

@@ -893,7 +893,8 @@ returns-in_err-turn-clause-named g c = λ tells.
     let was = c.loop.invariant in
     let fault = c.in_err-turn.field-0.0 in
     let p = err_from_is_err_and c.from_residual-in_err-turn.result c.from_residual-in_err-turn.ensures.1 in
-    rw (p.1, p.2) (found_dense s now t c.args.node (was.beside tells) (was.lists tells) fault (c.in_err-turn.ensures.listed tells (was.dense tells) (was.list tells)
+    rw (p.1, p.2) (found_dense s now t c.args.node (was.beside tells) (was.lists tells) fault
+    (c.in_err-turn.ensures.listed tells (was.dense tells) (was.list tells)
     (λ none. rest_live s now c.args.node c.loop.at c.loop.counter c.if-at.false (was.rest tells) (sym (beside_rels s.records now.records c.args.node
     (was.beside tells) c.loop.at) ∙ none)))
     (c.in_err-turn.ensures.groups tells c.loop.moved.relationships.items c.loop.moved.groups.items (was.leads tells) (was.low tells)))

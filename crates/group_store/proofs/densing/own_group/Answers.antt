@@ -27,7 +27,7 @@ use Rattle.group_store.proofs.Turns.{found_grows, made_grows}
 use Rattle.group_store.proofs.Causes.{cause_passed}
 use Rattle.group_store.proofs.Leadings.{leads_found, leads_own, rels_made}
 use Rattle.group_store.proofs.LeftBeside.{beside_made, beside_read, beside_then, if_done}
-use Rattle.group_store.proofs.LowHeads.{dense_first, done_both, first_found, own_made}
+use Rattle.group_store.proofs.LowHeads.{dense_first, done_both, first_alone, first_found, own_made}
 use Rattle.group_store.proofs.Strangers.{apart_read, find_apart, make_apart}
 use Rattle.group_store.specs.Leaving.{KeepsHeads, LeavesBeside}
 use Rattle.group_store.proofs.KeptHeads.{heads_same, heads_then}
@@ -98,7 +98,7 @@ returns-in-None-clause-grows g c = λ tells.
     made_grows c.make_own.result s now (g.S.Reads.state c.make_own.new.space) c.args.node c.args.label (same_read _ s now c.find_group.ensures.at_most)
     (λ rest most empty keeps dense. none_found s c.args.node c.args.label rest most empty keeps dense c.in_ok-row.field-0 c.in-None.is
     (λ xs chain. c.in_ok-row.ensures.none tells dense xs chain))
-    (c.make_own.ensures.made tells) (if_ok c.make_own.result _ (λ (own : OwnGroup). own.first ≡ first_link now.records c.args.node) (λ own p. p.1) (c.make_own.ensures.first tells))
+    (c.make_own.ensures.made tells) (first_alone c.make_own.result now c.args.node (c.make_own.ensures.first tells))
 
 pub returns-in-None-clause-wrote : goal.returns-in-None-clause-wrote
 returns-in-None-clause-wrote g c =
@@ -161,7 +161,8 @@ returns-in-None-clause-local g c = λ tells.
     let now = g.S.Reads.state c.find_group.new.space in
     has_added c.make_own.result s now (g.S.Reads.state c.make_own.new.space) c.args.node c.args.label (same_read _ s now c.find_group.ensures.at_most)
     (λ dense xs chain. (c.in_ok-row.ensures.none tells dense xs chain).0 c.in-None.is)
-    (c.make_own.ensures.made tells) (if_ok c.make_own.result _ (λ (own : OwnGroup). own.first ≡ first_link now.records c.args.node) (λ own p. p.1) (c.make_own.ensures.first tells)) (c.make_own.ensures.full tells) (c.make_own.ensures.shape tells)
+    (c.make_own.ensures.made tells) (first_alone c.make_own.result now c.args.node (c.make_own.ensures.first tells))
+    (c.make_own.ensures.full tells) (c.make_own.ensures.shape tells)
 
 pub returns-in_err-row-clause-never : goal.returns-in_err-row-clause-never
 returns-in_err-row-clause-never g c = λ tells groups free dense chain can readable full.
@@ -310,7 +311,7 @@ returns-in-None-clause-leads g c = λ tells.
     let s = g.S.Reads.state c.args.space.now in
     let now = g.S.Reads.state c.find_group.new.space in
     leads_own c.make_own.result s now (g.S.Reads.state c.make_own.new.space) c.args.node (same_read _ s now c.find_group.ensures.at_most)
-    (c.make_own.ensures.leads tells) (if_ok c.make_own.result _ (λ (own : OwnGroup). own.first ≡ first_link now.records c.args.node) (λ own p. p.1) (c.make_own.ensures.first tells))
+    (c.make_own.ensures.leads tells) (first_alone c.make_own.result now c.args.node (c.make_own.ensures.first tells))
 
 pub returns-in-Some-clause-rels : goal.returns-in-Some-clause-rels
 returns-in-Some-clause-rels g c = λ tells x.
