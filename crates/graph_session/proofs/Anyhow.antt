@@ -10,16 +10,17 @@ use Rattle.plain_graph.specs.Reply.{Reply}
 use Rattle.plain_graph.specs.declared.command.Command.{Command}
 use Rattle.plain_graph.specs.declared.command.Command.TheVariants as commands
 use Rattle.rec_bytes.specs.Pairs.{Pairs}
-use Rattle.txn_core.specs.Store.{state_of}
+use Rattle.rec_bytes.specs.declared.damage.Damage.{Damage}
 use Rattle.rec_bytes.specs.declared.fault.Fault.TheVariants as faults
 use Rattle.graph_session.specs.Answering.{reply_of}
-use Rattle.graph_session.specs.ChangeDamage.{IsBlamed, IsSeen}
+use Rattle.graph_session.specs.ChangeDamage.{IsSeenDamage}
 use Rattle.graph_session.specs.Console.{HasNoDraft, SessionView}
-use Rattle.graph_session.specs.Drafting.{IsStopped}
+use Rattle.graph_session.specs.Drafting.{BlamesSeen, IsStopped}
 use Rattle.graph_session.specs.Effects.{Stays}
 use Rattle.graph_session.specs.MayStep.{HasFailedChange, IsServed, MayAnswer, MayAnswerKind, MayBound, MayChange, MayKeep, MayRead, MayStep, TellsMade}
 use Rattle.graph_session.specs.ReaderAnswers.{AsksQuestion, IsWrittenBy, MayEnd, MayServeReader, MayStepAs}
 use Rattle.graph_session.specs.Refusals.{SpellsOnly}
+use Rattle.graph_session.specs.Session.{view}
 use Rattle.graph_session.specs.State.{SpellsLine}
 use Rattle.graph_session.specs.SharedExchange.{AsksForSnapshot}
 use Rattle.graph_session.specs.SnapshotEffects.{KeepsBound, KeepsFor, KeepsKind, KeepsOlds, SharedView}
@@ -71,26 +72,18 @@ module _ {D : Type 0} {g : Ghosts D} {old new : SessionView D} (command : Comman
   pub may-stopped : (why : Answer) → IsStopped command base now why → (¬ (why ≡ answers.Fault faults.Disk) → Stays g old new)
       → (why ≡ answers.Fault faults.Disk → Rose (g.faults base.store.base.disk.now) (g.faults now)
       → Rose (g.faults old.disk) (g.faults new.disk) × HasFailedChange g old new)
-      → IsSeen old.console (state_of base.store) → base.names.names ≡ old.console.names → MayChange g old (reply_of why) new command
-  may-stopped answers.Done stopped stays fault seen names = absurd stopped
-  may-stopped (answers.NodeMade id) stopped stays fault seen names = absurd stopped
-  may-stopped (answers.EdgeMade id) stopped stays fault seen names = absurd stopped
-  may-stopped (answers.Results results) stopped stays fault seen names = absurd stopped
-  may-stopped (answers.Refused why) stopped stays fault seen names = inr (inl ((why, refl), stays (λ e. cc)))
-  may-stopped (answers.Fault faults.Memory) stopped stays fault seen names = inr (inr (inl (refl, stays (λ e. cc))))
-  may-stopped (answers.Fault faults.Disk) stopped stays fault seen names = let failed = fault refl stopped in inr (inr (inr (inr ((refl, failed.0), failed.1))))
-  may-stopped (answers.Fault (faults.Damaged damage)) stopped stays fault seen names = inr (inr (inr (inl (
-    (
-      damage,
-      refl,
-      λ told. record {
-        found = state_of base.store;
-        seen = seen;
-        blamed = subst (λ (known : List (List ℕ)). IsBlamed command (state_of base.store) known damage) names (stopped.1 told);
-      },
-    ),
-    stays (λ e. cc),
-  ))))
+      → BlamesSeen base why → HasNoDraft (view base) → ((damage : Damage) → IsSeenDamage (view base).console damage → IsSeenDamage old.console damage)
+      → MayChange g old (reply_of why) new command
+  may-stopped answers.Done stopped stays fault blames none seen = absurd stopped
+  may-stopped (answers.NodeMade id) stopped stays fault blames none seen = absurd stopped
+  may-stopped (answers.EdgeMade id) stopped stays fault blames none seen = absurd stopped
+  may-stopped (answers.Results results) stopped stays fault blames none seen = absurd stopped
+  may-stopped (answers.Refused why) stopped stays fault blames none seen = inr (inl ((why, refl), stays (λ e. cc)))
+  may-stopped (answers.Fault faults.Memory) stopped stays fault blames none seen = inr (inr (inl (refl, stays (λ e. cc))))
+  may-stopped (answers.Fault faults.Disk) stopped stays fault blames none seen =
+      let failed = fault refl stopped in inr (inr (inr (inr ((refl, failed.0), failed.1))))
+  may-stopped (answers.Fault (faults.Damaged damage)) stopped stays fault blames none seen =
+      inr (inr (inr (inl ((damage, refl, λ told. seen damage (blames told none)), stays (λ e. cc)))))
 
 module _ {D : Type 0} {g : Ghosts D} {line : List ℕ} {command : Command} (only : SpellsOnly line command) {old new : SessionView D} {reply : Reply} where
   -- the line spells a command that is served

@@ -1,5 +1,5 @@
 -- A draft that has the changed records alone, and what is committed with such a one.
-use Rattle.std.proofs.Common.{◌≡◌, ◌↔◌, ◌∙◌, ℕ, Option, None, Some, Ok, Err, Result, List, [], true, is_some, inl, inr, refl, sym, ap, subst}
+use Rattle.std.proofs.Common.{◌≡◌, ◌↔◌, ◌∙◌, ℕ, Option, None, Some, IfErr, Ok, Err, Result, List, [], true, is_some, inl, inr, refl, sym, ap, subst}
 use Rattle.disk_model.specs.declared.disk.Disk.{Ghosts}
 use Rattle.plain_graph.specs.LineChanges.{LineChanges}
 use Rattle.plain_graph.specs.Reply.{Reply}
@@ -20,7 +20,7 @@ use Rattle.txn_core.proofs.Shipped.{merged-none}
 use Rattle.txn_core.proofs.StoreRecords.{working-read}
 use Rattle.change_parts.specs.Store.{graph_in}
 use Rattle.graph_session.specs.ChangeLeft.{LeavesRecords}
-use Rattle.graph_session.specs.Drafting.{Drafts, DraftsChanged, DropsUnchanged, IsStopped, KeepsOnlyChanged, MakesLine, OnlyDrafts}
+use Rattle.graph_session.specs.Drafting.{BlamesSeen, Drafts, DraftsChanged, DropsUnchanged, IsStopped, KeepsOnlyChanged, MakesLine, OnlyDrafts}
 use Rattle.graph_session.specs.SnapshotEffects.{DifferJustAt}
 use Rattle.graph_session.specs.declared.answer.Answer.{Answer}
 use Rattle.graph_session.specs.declared.changing.Drafted.{Drafted}
@@ -57,6 +57,13 @@ module _ {D : Type 0} {g : Ghosts D} {mid new : Session D g} (more : OnlyDrafts 
         subst (λ (r : Key → Rec). AreChanged r new.store.draft.pairs) (sym (working-read mid.store.base new.store.base more.base)) (kept.records.changed told);
   }
   only-changed made (Err why) dropped = tt
+
+  -- where there is none any more, no record is blamed
+  pub unchanged-blames : (old : Session D g) (made : Drafted) (result : Result Drafted Answer) → DropsUnchanged made mid new result
+      → IfErr result (BlamesSeen old)
+  unchanged-blames old made (Ok also) dropped = tt
+  unchanged-blames old made (Err why) (inl is) = subst (λ (a : Answer). BlamesSeen old a) (sym is) tt
+  unchanged-blames old made (Err why) (inr (is, rose)) = subst (λ (a : Answer). BlamesSeen old a) (sym is) tt
 
   -- and it is the draft of the same change
   pub drafts-changed : {command : Command} {old : Session D g} → OnlyDrafts old mid → (made : Drafted) → Drafts command old mid (Ok made)

@@ -1,5 +1,5 @@
 -- A change, from its draft to its reply.
-use Rattle.std.proofs.Common.{◌≡◌, ◌∙◌, ◌+◌, ◌<◌, ◌≤◌, ℕ, Bool, true, Ok, Err, Result, Some, List, [], length, take, inl, inr, refl, sym, ap, subst, arith}
+use Rattle.std.proofs.Common.{◌≡◌, ◌∙◌, ◌+◌, ◌<◌, ◌≤◌, ℕ, Bool, true, IfErr, Ok, Err, Result, Some, List, [], length, take, inl, inr, refl, sym, ap, subst, arith}
 use Rattle.fault_count.specs.Cause.{Rose}
 use Rattle.disk_model.specs.Spans.{OnlyReads}
 use Rattle.disk_model.specs.declared.disk.Disk.{Ghosts}
@@ -26,7 +26,7 @@ use Rattle.graph_session.specs.Answering.{reply_of}
 use Rattle.graph_session.specs.ChangeLeft.{LeavesRecords}
 use Rattle.graph_session.specs.Console.{IsAt, SessionView}
 use Rattle.graph_session.specs.DiskUse.{UsesDisk}
-use Rattle.graph_session.specs.Drafting.{Discards, Drafts, Finishes, HasDraft, HasStore, IsStopped, KeepsDraft, OnlyDrafts, TellsChange}
+use Rattle.graph_session.specs.Drafting.{BlamesSeen, Discards, Drafts, Finishes, HasDraft, HasStore, IsStopped, KeepsDraft, OnlyDrafts, TellsChange}
 use Rattle.graph_session.specs.Effects.{Keeps, Stays}
 use Rattle.graph_session.specs.Known.{as_known}
 use Rattle.graph_session.specs.MayStep.{MayAnswer}
@@ -98,7 +98,7 @@ module _ {D : Type 0} {g : Ghosts D} where
     settles-stopped (answers.Fault faults.Memory) stopped stays fault = unmade-memory at live spelled change (stays-known known (stays (λ e. cc)))
     settles-stopped (answers.Fault faults.Disk) stopped stays fault = fault refl stopped
     settles-stopped (answers.Fault (faults.Damaged damage)) stopped stays fault =
-        settles-damaged damage.file damage.id state (comes-stays at (stays-known known (stays (λ e. cc)))) (λ told. stopped.0 (told_of known g told) (has told))
+        settles-damaged damage.file damage.id state (comes-stays at (stays-known known (stays (λ e. cc)))) (λ told. stopped (told_of known g told) (has told))
         (unmade-uses at live spelled change (stays-known known (stays (λ e. cc))))
 
   -- a change in the open transaction
@@ -216,9 +216,9 @@ module _ {D : Type 0} {g : Ghosts D} where
           (λ is rose. let one = is_open at opened in settles-change_fault at live one.0 one.1 spelled change (stays-known known stays)
           (subst (λ (disk : D). Rose (g.faults old.store.base.disk.now) (g.faults disk)) (sym drops.beneath.disk) rose))
 
-      pub settles-finish : (result : Result Drafted Answer) (answer : Answer) → Drafts command old mid result → Finishes result count mid new answer
-          → SettlesCommand g command (view old) (view new) (reply_of answer)
-      settles-finish (Ok made) answer drafts (inl (told_so, kept)) = record {
+      pub settles-finish : (result : Result Drafted Answer) (answer : Answer) → Drafts command old mid result → IfErr result (BlamesSeen old)
+          → Finishes result count mid new answer → SettlesCommand g command (view old) (view new) (reply_of answer)
+      settles-finish (Ok made) answer drafts blames (inl (told_so, kept)) = record {
         settles = λ known line state spelled served at.
             let one = is_open at opened in
             subst (λ (a : Answer). Settles (as_known known g) (Whole line) (view old) (view new) state (reply_of a)) (sym told_so)
@@ -233,7 +233,7 @@ module _ {D : Type 0} {g : Ghosts D} where
             )));
         onward = record { disk_later = later-on new.store.base.disk.now kept.beneath.disk };
       }
-      settles-finish (Ok made) answer drafts (inr (inl (told_so, more), drops)) = record {
+      settles-finish (Ok made) answer drafts blames (inr (inl (told_so, more), drops)) = record {
         settles = λ known line state spelled served at.
             let one = is_open at opened in
             subst (λ (a : Answer). Settles (as_known known g) (Whole line) (view old) (view new) state (reply_of a)) (sym told_so)
@@ -244,7 +244,7 @@ module _ {D : Type 0} {g : Ghosts D} where
             (inr (inl ((refusals.TransactionFull, refl), stays-discarded count counts drops))));
         onward = record { disk_later = later-on new.store.base.disk.now drops.beneath.disk };
       }
-      settles-finish (Ok made) answer drafts (inr (inr told_so, drops)) = record {
+      settles-finish (Ok made) answer drafts blames (inr (inr told_so, drops)) = record {
         settles = λ known line state spelled served at.
             subst (λ (a : Answer). Settles (as_known known g) (Whole line) (view old) (view new) state (reply_of a)) (sym told_so)
             (unmade-memory at live spelled change (stays-known known (stays-discarded count counts drops)));
@@ -254,7 +254,7 @@ module _ {D : Type 0} {g : Ghosts D} where
             (inr (inr (inl (refl, stays-discarded count counts drops)))));
         onward = record { disk_later = later-on new.store.base.disk.now drops.beneath.disk };
       }
-      settles-finish (Err why) answer drafts (told_so, drops) = record {
+      settles-finish (Err why) answer drafts blames (told_so, drops) = record {
         settles = λ known line state spelled served at.
             subst (λ (a : Answer). Settles (as_known known g) (Whole line) (view old) (view new) state (reply_of a)) (sym told_so)
             (settles-unmade known spelled at why drafts drops);
@@ -264,6 +264,6 @@ module _ {D : Type 0} {g : Ghosts D} where
             (may-change g (view old) (reply_of why) (view new) command change
             (may-stopped command old mid.store.base.disk.now why drafts (λ other. stays)
             (λ is rose. (subst (λ (disk : D). Rose (g.faults old.store.base.disk.now) (g.faults disk)) (sym drops.beneath.disk) rose, inl (opened, stays)))
-            (record { records = refl; shape = refl }) refl));
+            blames none (λ damage seen. seen)));
         onward = record { disk_later = later-on new.store.base.disk.now drops.beneath.disk };
       }

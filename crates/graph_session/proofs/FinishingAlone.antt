@@ -1,5 +1,5 @@
 -- A change that is a transaction by itself, from its draft to its reply.
-use Rattle.std.proofs.Common.{◌≡◌, ◌⊎◌, ◌∙◌, ◌+◌, ◌<◌, ◌≤◌, ℕ, IsTrue, Bool, false, Ok, Err, Result, List, [], ◌++◌}
+use Rattle.std.proofs.Common.{◌≡◌, ◌⊎◌, ◌∙◌, ◌+◌, ◌<◌, ◌≤◌, ℕ, IfErr, IsTrue, Bool, false, Ok, Err, Result, List, [], ◌++◌}
 use Rattle.std.proofs.Common.{length, take, inl, inr, true≢false, refl, sym, ap, subst, arith}
 use Rattle.std.proofs.lemmas.List.{nil_from_length}
 use Rattle.fault_count.specs.Cause.{Rose}
@@ -14,22 +14,25 @@ use Rattle.plain_graph.specs.Refusals.{NoReason}
 use Rattle.plain_graph.specs.declared.command.Command.{Command}
 use Rattle.plain_graph.specs.declared.refusal.Refusal.TheVariants as refusals
 use Rattle.rec_bytes.specs.Pairs.{merged}
+use Rattle.rec_bytes.specs.declared.damage.Damage.{Damage}
 use Rattle.rec_bytes.specs.declared.key.Key.{Key}
 use Rattle.rec_bytes.specs.declared.record.Rec.{Rec}
 use Rattle.rec_bytes.specs.declared.shape.Shape.{Shape}
 use Rattle.record_file.specs.Redone.{Redoes}
-use Rattle.store_rules.specs.Graph.{graph_of}
+use Rattle.store_rules.specs.Breaking.{BreaksAny}
+use Rattle.store_rules.specs.Graph.{graph_of, names_of}
 use Rattle.store_rules.specs.Indexes.{IsIndexed}
+use Rattle.store_rules.specs.Views.{Records}
 use Rattle.txn_core.specs.Base.{SameBeneath}
 use Rattle.txn_core.specs.Store.{committed, drafted, state_of}
 use Rattle.txn_core.proofs.StoreRecords.{committed-beneath, committed-read, drafted-none, working-none}
 use Rattle.rec_bytes.specs.declared.fault.Fault.TheVariants as faults
 use Rattle.graph_session.specs.Answer.{Settles}
 use Rattle.graph_session.specs.Answering.{reply_of}
-use Rattle.graph_session.specs.ChangeDamage.{IsSeen}
+use Rattle.graph_session.specs.ChangeDamage.{IsSeenDamage}
 use Rattle.graph_session.specs.ChangeLeft.{LeavesRecords}
 use Rattle.graph_session.specs.Console.{HasNoDraft, IsAt}
-use Rattle.graph_session.specs.Drafting.{Closes, CommitsRecords, DoubtsRecords, Drafts, DropsAlone, DropsRecords}
+use Rattle.graph_session.specs.Drafting.{BlamesSeen, Closes, CommitsRecords, DoubtsRecords, Drafts, DropsAlone, DropsRecords}
 use Rattle.graph_session.specs.Drafting.{EndsCommit, FinishesAlone, HasDraft, HasStore, IsStopped, OnlyDrafts}
 use Rattle.graph_session.specs.Drafting.{TellsChange, TriesCommit}
 use Rattle.graph_session.specs.Effects.{CommitsAlone, CommitsFrom, Ends, FailsDrafted, FailsRead, IsAloneInDoubt, Stays}
@@ -66,11 +69,16 @@ module _ {D : Type 0} {g : Ghosts D} {begun mid : Session D g} (old new : Sessio
   drafted-begun = drafted-none begun.store draft ∙ working-none begun.store.base own ∙ committed-beneath old.store.base begun.store.base same
 
   -- a change by itself finds what the line sees
-  seen-begun : HasNoDraft (view old) → IsSeen (view old).console (state_of begun.store)
-  seen-begun none = record {
-    records = drafted-begun ∙ sym (drafted-none old.store none ∙ working-none old.store.base (nil_from_length old.store.base.own.pairs idle));
-    shape = same.shape;
-  }
+  seen-begun : HasNoDraft (view old) → drafted begun.store ≡ drafted old.store
+  seen-begun none = drafted-begun ∙ sym (drafted-none old.store none ∙ working-none old.store.base (nil_from_length old.store.base.own.pairs idle))
+
+  -- and what is damaged in it
+  damage-begun : HasNoDraft (view old) → (damage : Damage) → IsSeenDamage (view begun).console damage → IsSeenDamage (view old).console damage
+  damage-begun none damage (inl breaks) =
+      inl (subst (λ (shape : Shape). BreaksAny (drafted old.store) shape damage) same.shape
+      (subst (λ (records : Records). BreaksAny records begun.store.base.shape damage) (seen-begun none) breaks))
+  damage-begun none damage (inr other) =
+      inr (λ named. other (names ∙ named ∙ ap names_of (sym (seen-begun none))))
 
   pub committed-mid : committed mid.store ≡ committed old.store
   committed-mid = committed-read begun.store.base mid.store.base only.base ∙ committed-beneath old.store.base begun.store.base same
@@ -149,11 +157,11 @@ module _ {D : Type 0} {g : Ghosts D} {begun mid : Session D g} (old new : Sessio
     later-dropped = subst (λ (disk : D). g.faults old.store.base.disk.now ≤ g.faults disk) (sym drops.beneath.disk) later-mid
 
     may-unmade : HasNoDraft (view old) → (command : Command) → IsChange command → IsStopped command begun mid.store.base.disk.now answer
-        → MayAnswer g command (view old) (reply_of answer) (view new)
-    may-unmade none command change stopped =
+        → BlamesSeen begun answer → MayAnswer g command (view old) (reply_of answer) (view new)
+    may-unmade none command change stopped blames =
         may-change g (view old) (reply_of answer) (view new) command change
         (may-stopped command begun mid.store.base.disk.now answer stopped stays-dropped (λ is rose. (rose-dropped rose, inr (closed, inl (fails-dropped is))))
-        (seen-begun none) names)
+        blames draft (damage-begun none))
 
     unmade-alone : (known : Bool) {command : Command} → IsChange command → {line : List ℕ} {state : State} → SpellsOnly line command
         → IsAt (as_known known g) (view old) state → IsStopped command begun mid.store.base.disk.now answer
@@ -260,7 +268,7 @@ module _ {D : Type 0} {g : Ghosts D} {begun mid : Session D g} (old new : Sessio
         -- what is committed is what was drafted
         left-committed : CommitsRecords (drafted mid.store) mid new → g.tells_reads → LeavesRecords command (drafted old.store) (drafted new.store)
         left-committed commits told =
-            subst (λ (was : Key → Rec). LeavesRecords command was (drafted new.store)) (seen-begun none).records
+            subst (λ (was : Key → Rec). LeavesRecords command was (drafted new.store)) (seen-begun none)
             (subst (LeavesRecords command (drafted begun.store)) (sym (drafted-none new.store commits.closes.draft ∙ working-none new.store.base
             commits.closes.own ∙ commits.committed told)) (left told))
 
@@ -319,14 +327,14 @@ module _ {D : Type 0} {g : Ghosts D} {begun mid : Session D g} (old new : Sessio
               (rose-mid doubts.rose))
 
   module _ {command : Command} (change : IsChange command) (count : ℕ) (counts : count ≡ length old.names.names) where
-    pub settles-finish_alone : (result : Result Drafted Answer) (answer : Answer) → Drafts command begun mid result → FinishesAlone result count mid new answer
-        → SettlesCommand g command (view old) (view new) (reply_of answer)
-    settles-finish_alone (Ok made) answer drafts (inl (fits, tries)) = record {
+    pub settles-finish_alone : (result : Result Drafted Answer) (answer : Answer) → Drafts command begun mid result → IfErr result (BlamesSeen begun)
+        → FinishesAlone result count mid new answer → SettlesCommand g command (view old) (view new) (reply_of answer)
+    settles-finish_alone (Ok made) answer drafts blames (inl (fits, tries)) = record {
       settles = λ known line state spelled served at. settles-tried made answer fits tries known change drafts.0 drafts.1 spelled at;
       may = λ none. may-tried made answer fits tries none command change drafts.0 drafts.3;
       onward = record { disk_later = later-tried made answer fits tries };
     }
-    settles-finish_alone (Ok made) answer drafts (inr (inl (is, more), drops)) =
+    settles-finish_alone (Ok made) answer drafts blames (inr (inl (is, more), drops)) =
         let stays = stays-dropped count counts answer drops (λ failed. let clash : answers.Refused refusals.TransactionFull ≡ answers.Fault faults.Disk = sym is
         ∙ failed in cc) in
         record {
@@ -339,7 +347,7 @@ module _ {D : Type 0} {g : Ghosts D} {begun mid : Session D g} (old new : Sessio
               (inr (inl ((refusals.TransactionFull, refl), stays))));
           onward = record { disk_later = later-dropped count counts answer drops };
         }
-    settles-finish_alone (Ok made) answer drafts (inr (inr is, drops)) =
+    settles-finish_alone (Ok made) answer drafts blames (inr (inr is, drops)) =
         let stays = stays-dropped count counts answer drops
         (λ failed. let clash : answers.Fault faults.Memory ≡ answers.Fault faults.Disk = sym is ∙ failed in cc) in
         record {
@@ -351,11 +359,12 @@ module _ {D : Type 0} {g : Ghosts D} {begun mid : Session D g} (old new : Sessio
               (may-change g (view old) (reply_of (answers.Fault faults.Memory)) (view new) command change (inr (inr (inl (refl, stays)))));
           onward = record { disk_later = later-dropped count counts answer drops };
         }
-    settles-finish_alone (Err why) answer drafts (is, drops) = record {
+    settles-finish_alone (Err why) answer drafts blames (is, drops) = record {
       settles = λ known line state spelled served at.
           unmade-alone count counts answer drops known change spelled at
           (subst (λ (a : Answer). IsStopped command begun mid.store.base.disk.now a) (sym is) drafts);
       may = λ none. may-unmade count counts answer drops none command change
-          (subst (λ (a : Answer). IsStopped command begun mid.store.base.disk.now a) (sym is) drafts);
+          (subst (λ (a : Answer). IsStopped command begun mid.store.base.disk.now a) (sym is) drafts)
+          (subst (λ (a : Answer). BlamesSeen begun a) (sym is) blames);
       onward = record { disk_later = later-dropped count counts answer drops };
     }

@@ -45,6 +45,7 @@ pub mod ReaderSteps
 pub mod Reasons
 pub mod Reopening
 pub mod Running
+pub mod SeenDamage
 pub mod Spelling
 pub mod Stands
 pub mod States

@@ -4,14 +4,13 @@ use Rattle.std.proofs.Math.Nat.{min-eq_left}
 use Rattle.fault_count.specs.Cause.{Rose}
 use Rattle.disk_model.specs.declared.disk.Disk.{Ghosts}
 use Rattle.plain_graph.specs.Changes.{Changes, Weighs, most_weight, start_weight}
-use Rattle.plain_graph.specs.Graph.{Graph, UsesName}
+use Rattle.plain_graph.specs.Graph.{Graph}
 use Rattle.plain_graph.specs.LineChanges.{LineChanges, LineWeighs, asked_changes, first_refused, line_reasons, mutated_reply, read_items}
 use Rattle.plain_graph.specs.Mutations.{RefusesEach, changes_of}
 use Rattle.plain_graph.specs.Refusals.{FirstReason}
 use Rattle.plain_graph.specs.Reply.{Reply}
 use Rattle.plain_graph.specs.declared.command.Command.{Command}
 use Rattle.plain_graph.specs.declared.command.Command.TheVariants as commands
-use Rattle.plain_graph.specs.declared.command.Target.{Target}
 use Rattle.plain_graph.specs.declared.command.Target.TheVariants as targets
 use Rattle.plain_graph.specs.declared.item.Item.{Item}
 use Rattle.plain_graph.specs.declared.mutation.Mutation.{Mutation}
@@ -22,22 +21,18 @@ use Rattle.plain_graph.proofs.LineLaws.{HasIndexOf, change_first, change_free, m
 use Rattle.rec_bytes.specs.Space.{SameButReads, State as Space}
 use Rattle.store_rules.specs.Views.{Records}
 use Rattle.store_rules.specs.Writes.{WritesAtMost}
-use Rattle.name_store.specs.Interning.{interned}
 use Rattle.txn_core.specs.OnlyReading.{only_reads_base_on}
 use Rattle.txn_core.specs.Store as store
 use Rattle.change_parts.specs.Change.{IsRefusal, IsRefusedBy, MakesChange, full_of}
 use Rattle.change_parts.specs.ChangeFault.{HasChangeCause}
-use Rattle.graph_ops.specs.Mutating.{BlamesDeletion, IsListRefusal, MakesMutation, most_told}
+use Rattle.graph_ops.specs.Mutating.{IsListRefusal, MakesMutation, most_told}
 use Rattle.change_parts.specs.Store.{IsStore, graph_in}
 use Rattle.change_parts.specs.declared.change_fault.ChangeFault.{ChangeFault}
 use Rattle.change_parts.specs.declared.change_fault.ChangeFault.TheVariants as faults
-use Rattle.change_parts.specs.Damage.{BlamesMaking}
 use Rattle.change_parts.specs.Degrees.{HasDegree}
 use Rattle.node_changes.specs.NodeDeleting.{IsUnused}
 use Rattle.graph_session.specs.Answering.{reply_of}
-use Rattle.graph_session.specs.ChangeDamage.{Blames}
 use Rattle.graph_session.specs.ChangeLeft.{LeavesRecords}
-use Rattle.graph_session.specs.Console.{BeginWith}
 use Rattle.graph_session.specs.Drafting.{Drafts, HasStore, IsStopped, MakesLine, OnlyDrafts, answer_for, drafted_by}
 use Rattle.graph_session.specs.MayStep.{TellsMade}
 use Rattle.graph_session.specs.declared.answer.Answer.{Answer}
@@ -155,11 +150,6 @@ module _ (old mid : Space) (same : SameButReads old mid) where
         by faults.Disk why = why
         by (faults.Damaged damage) why = why
 
-  -- what a deletion says of the space that was read
-  pub deletion-blames : (target : Target) (left : Space) (fault : ChangeFault) → BlamesDeletion mid left target fault → BlamesDeletion old left target fault
-  deletion-blames (targets.Node id) left fault blames = subst (λ (space : Space). BlamesDeletion space left (targets.Node id) fault) same blames
-  deletion-blames (targets.Edge id) left fault blames = subst (λ (space : Space). BlamesDeletion space left (targets.Edge id) fault) same blames
-
   pub writes-read : {weight : ℕ} {new : Space} → WritesAtMost weight mid new → WritesAtMost weight old new
   writes-read {weight = weight} {new = new} writes =
       let there = subst (λ (space : Space). WritesAtMost weight space new) same writes in
@@ -192,29 +182,27 @@ module _ {D : Type 0} {g : Ghosts D} (old mid : Session D g) (same : SameButRead
 
 module _ {D : Type 0} {g : Ghosts D} (command : Command) (old : Session D g) (now : D) where
   -- by the fault of a call that changes
-  pub change-stopped : (left : Space) (names : List (List ℕ)) → BeginWith names old.names.names → (fault : ChangeFault)
+  pub change-stopped : (fault : ChangeFault)
       → (g.tells_reads → HasStore old → IsRefusedBy line_reasons (store.state_of old.store).shape.limit (graph_in (store.state_of old.store)) command fault)
-      → (g.tells_reads → Blames command (store.state_of old.store) left old.names.names names fault)
       → (fault ≡ faults.Disk → Rose (g.faults old.store.base.disk.now) (g.faults now)) → (answer : Answer) → answer ≡ answer_for fault
       → IsStopped command old now answer
-  change-stopped left names brought fault why blames rose answer is = subst (λ (a : Answer). IsStopped command old now a) (sym is) (by fault why blames rose)
+  change-stopped fault why rose answer is = subst (λ (a : Answer). IsStopped command old now a) (sym is) (by fault why rose)
     where
       by : (fault : ChangeFault) → (g.tells_reads → HasStore old → IsRefusedBy line_reasons (store.state_of old.store).shape.limit
           (graph_in (store.state_of old.store)) command fault)
-          → (g.tells_reads → Blames command (store.state_of old.store) left old.names.names names fault)
           → (fault ≡ faults.Disk → Rose (g.faults old.store.base.disk.now) (g.faults now)) → IsStopped command old now (answer_for fault)
-      by (faults.NoNode id) why blames rose = why
-      by (faults.NoEdge id) why blames rose = why
-      by (faults.HasRelationships id degree) why blames rose = why
-      by faults.IndexThere why blames rose = why
-      by faults.TooManyIndexes why blames rose = why
-      by (faults.IndexTooLarge count) why blames rose = why
-      by (faults.Full file live) why blames rose = why
-      by (faults.NamesFull count) why blames rose = why
-      by (faults.PropsFull count) why blames rose = why
-      by faults.Memory why blames rose = tt
-      by faults.Disk why blames rose = rose refl
-      by (faults.Damaged damage) why blames rose = (why, λ told. record { left = left; now = names; brought = brought; blames = blames told })
+      by (faults.NoNode id) why rose = why
+      by (faults.NoEdge id) why rose = why
+      by (faults.HasRelationships id degree) why rose = why
+      by faults.IndexThere why rose = why
+      by faults.TooManyIndexes why rose = why
+      by (faults.IndexTooLarge count) why rose = why
+      by (faults.Full file live) why rose = why
+      by (faults.NamesFull count) why rose = why
+      by (faults.PropsFull count) why rose = why
+      by faults.Memory why rose = tt
+      by faults.Disk why rose = rose refl
+      by (faults.Damaged damage) why rose = why
 
 -- ---- a call that makes a single change
 
@@ -227,24 +215,16 @@ module _ {D : Type 0} {g : Ghosts D} {T : Type 0} (answer : T → Answer) (weigh
       → IfOk outcome (λ made. weight made + start_weight ≤ most_weight)
       → IfOk outcome (λ made. WritesAtMost (weight made) (store.state_of old.store) (store.state_of new.store))
       → (g.tells_reads → HasStore old → IfErr outcome (IsRefusal (store.state_of old.store).shape.limit (graph_in (store.state_of old.store)) command))
-      → (g.tells_reads → IfErr outcome (Blames command (store.state_of old.store) (store.state_of new.store) old.names.names new.names.names))
       → ((made : T) → outcome ≡ Ok made → g.tells_reads → LeavesRecords command (store.drafted old.store) (store.drafted new.store))
       → HasChangeCause (g.faults old.store.base.disk.now) (g.faults new.store.base.disk.now) outcome → Drafts command old new (drafted_by answer weight outcome)
-  drafts-call (Ok made) makes light writes refused blames left cause = change-drafts command (reply_of (answer made)) (tells made) (λ told has. makes told has)
+  drafts-call (Ok made) makes light writes refused left cause = change-drafts command (reply_of (answer made)) (tells made) (λ told has. makes told has)
       light writes
       (left made refl)
-  drafts-call (Err fault) makes light writes refused blames left cause =
+  drafts-call (Err fault) makes light writes refused left cause =
       let limit = (store.state_of old.store).shape.limit in
-      change-stopped command old new.store.base.disk.now (store.state_of new.store) new.names.names only.brought fault
-      (λ told has. change-refused limit (graph_in (store.state_of old.store)) command fault (refused told has)) (λ told. blames told)
+      change-stopped command old new.store.base.disk.now fault
+      (λ told has. change-refused limit (graph_in (store.state_of old.store)) command fault (refused told has))
       (λ is. cause.disk (ap Err is)) (answer_for fault) refl
-
--- what a call that makes an index says for the names by then
-pub index-blames : {T : Type 0} (label key : List ℕ) (found left : Space) (names now : List (List ℕ)) (outcome : Result T ChangeFault)
-    → ((known : List (List ℕ)) → UsesName names label known → IfErr outcome (BlamesMaking found (interned (interned found names label) known key)))
-    → IfErr outcome (Blames (commands.Index label key) found left names now)
-index-blames label key found left names now (Ok made) blames = tt
-index-blames label key found left names now (Err fault) blames = blames
 
 -- what one that deletes a node leaves
 pub deletion-left : (id : ℕ) (old new : Records) (outcome : Result ℕ ChangeFault) → OnOk outcome (HasDegree old id 0) → OnOk outcome (IsUnused new id)

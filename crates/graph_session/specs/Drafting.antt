@@ -11,12 +11,15 @@ use Rattle.plain_graph.specs.Reply.{Reply}
 use Rattle.plain_graph.specs.declared.command.Command.{Command}
 use Rattle.plain_graph.specs.declared.refusal.Refusal.{Refusal}
 use Rattle.plain_graph.specs.declared.refusal.Refusal.TheVariants as refusals
+use Rattle.rec_bytes.specs.declared.damage.Damage.{Damage}
 use Rattle.rec_bytes.specs.declared.key.Key.{Key}
 use Rattle.rec_bytes.specs.declared.record.Rec.{Rec}
 use Rattle.rec_bytes.specs.Pairs.{IsOrdered, Pairs, merged}
 use Rattle.rec_bytes.specs.Space.{State as Space, laid_over}
 use Rattle.rec_bytes.specs.declared.fault.Fault.TheVariants as read_faults
 use Rattle.record_file.specs.Redone.{Redoes}
+use Rattle.store_rules.specs.Breaking.{BreaksAny}
+use Rattle.store_rules.specs.Indexes.{IsIndexed}
 use Rattle.store_rules.specs.Writes.{WritesAtMost}
 use Rattle.snap_store.specs.Keeping.{EndsFor, KeepsHeld}
 use Rattle.txn_core.specs.Base.{OnlyReadsBase, SameBeneath, SameStore}
@@ -31,9 +34,11 @@ use Rattle.change_parts.specs.declared.added.Added.{Added}
 use Rattle.change_parts.specs.declared.change_fault.ChangeFault.{ChangeFault}
 use Rattle.change_parts.specs.declared.change_fault.ChangeFault.TheVariants as faults
 use Rattle.graph_session.specs.Answering.{reply_of}
-use Rattle.graph_session.specs.ChangeDamage.{IsBlamed}
+use Rattle.graph_session.specs.ChangeDamage.{IsSeenDamage}
 use Rattle.graph_session.specs.ChangeLeft.{LeavesRecords}
+use Rattle.graph_session.specs.Console.{HasNoDraft}
 use Rattle.graph_session.specs.MayStep.{TellsMade}
+use Rattle.graph_session.specs.Session.{view}
 use Rattle.graph_session.specs.declared.answer.Answer.{Answer}
 use Rattle.graph_session.specs.declared.answer.Answer.TheVariants as answers
 use Rattle.graph_session.specs.declared.changing.Begun.{Begun}
@@ -139,8 +144,13 @@ module _ {D : Type 0} {g : Ghosts D} where
   IsStopped command old now (answers.Fault read_faults.Disk) =
       Rose (g.faults old.store.base.disk.now) (g.faults now)
   IsStopped command old now (answers.Fault (read_faults.Damaged damage)) =
-      (g.tells_reads → HasStore old → ⊥)
-      × (g.tells_reads → IsBlamed command (state_of old.store) old.names.names damage)
+      g.tells_reads → HasStore old → ⊥
+
+  -- A record that is called damaged is so in what the line sees.
+  abbrev pub BlamesSeen : Session D g → Answer → Type 0
+  BlamesSeen old (answers.Fault (read_faults.Damaged damage)) =
+      g.tells_reads → HasNoDraft (view old) → IsSeenDamage (view old).console damage
+  BlamesSeen old _ = Unit {0}
 
   -- what came of drafting
   abbrev pub Drafts : Command → Session D g → Session D g → Result Drafted Answer → Type 0
@@ -186,6 +196,21 @@ module _ {D : Type 0} {g : Ghosts D} where
     pub weight : new.weight ≡ old.weight
     pub health : new.health ≡ old.health
     pub snaps : new.snaps ≡ old.snaps
+
+  -- The draft was dropped, with the names past so many. What is beneath it was only read.
+  pub record ReadsBeneath (count : ℕ) (old new : Session D g) : Type 0 where
+    pub base : OnlyReadsBase old.store.base new.store.base
+    pub names : new.names.names ≡ take count old.names.names
+    pub weight : new.weight ≡ old.weight
+    pub health : new.health ≡ old.health
+    pub snaps : new.snaps ≡ old.snaps
+
+  -- The record breaks a rule in what is beneath the draft. Or all rules hold there, and it is the
+  -- one that was met.
+  abbrev pub IsBrokenBeneath : Session D g → Damage → Damage → Type 0
+  IsBrokenBeneath session met damage =
+      BreaksAny (working session.store) session.store.base.shape damage
+      ⊎ ((damage ≡ met) × IsIndexed (working session.store) session.store.base.shape)
 
   -- The transaction has the draft.
   pub record KeepsDraft (more : ℕ) (old new : Session D g) : Type 0 where

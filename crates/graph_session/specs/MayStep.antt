@@ -28,7 +28,7 @@ use Rattle.txn_core.specs.Again.{RefusesAgain}
 use Rattle.txn_core.specs.declared.again_fault.AgainFault.TheVariants as again_faults
 use Rattle.gremlin_parse.specs.Lines.{IsLeftmostFault}
 use Rattle.gremlin_parse.specs.declared.line_fault.LineFault.{LineFault}
-use Rattle.graph_session.specs.ChangeDamage.{IsChangeDamage}
+use Rattle.graph_session.specs.ChangeDamage.{IsSeenDamage}
 use Rattle.graph_session.specs.ChangeLeft.{LeavesRecords}
 use Rattle.graph_session.specs.Console.{ConsoleView, SessionView}
 use Rattle.graph_session.specs.Effects.{Begins, Commits, CommitsAlone, CommitsFrom, Drops}
@@ -148,11 +148,12 @@ module _ {D : Type 0} (g : Ghosts D) (old : SessionView D) (reply : Reply) (new 
     TellsDiskFault = (reply ≡ Faulted [] DiskFailed) × Rose (g.faults old.disk) (g.faults new.disk)
 
     -- The reply says that a record is damaged, and has no results. Where the disk tells its reads,
-    -- the record is what the change calls so.
-    abbrev pub TellsDamage : Command → Type 0
-    TellsDamage command =
+    -- the record breaks a rule in what the line sees, or the names in memory are not those of the
+    -- records.
+    abbrev pub TellsDamage : Type 0
+    TellsDamage =
         (damage : Damage) × (reply ≡ Faulted [] (DamagedRecord damage.file damage.id))
-        × (g.tells_reads → IsChangeDamage command old.console damage)
+        × (g.tells_reads → IsSeenDamage old.console damage)
 
     -- A change that is answered as made is made. One that is not, and is not stopped by the disk,
     -- leaves all as it was.
@@ -163,7 +164,7 @@ module _ {D : Type 0} (g : Ghosts D) (old : SessionView D) (reply : Reply) (new 
         → LeavesRecords command (seen_records old.console) (seen_records new.console)))
         ⊎ (((why : Refusal) × (reply ≡ Refused why)) × Stays g old new)
         ⊎ ((reply ≡ Faulted [] NoMemory) × Stays g old new)
-        ⊎ (TellsDamage command × Stays g old new)
+        ⊎ (TellsDamage × Stays g old new)
         ⊎ (TellsDiskFault × HasFailedChange g old new)
 
     abbrev pub MayBegin : Type 0

@@ -8,7 +8,7 @@ ghost use Rattle.plain_graph.specs.declared.command.Command.TheVariants as comma
 ghost use Rattle.plain_graph.specs.declared.mutation.Mutation.{Mutation as AMutation};
 ghost use Rattle.plain_graph.proofs.LineLaws.{HasIndexOf};
 ghost use Rattle.rec_bytes.specs.Pairs.{merged};
-ghost use Rattle.rec_bytes.specs.Space.{SameButReads};
+ghost use Rattle.rec_bytes.specs.Space.{HasCause, SameButReads};
 ghost use Rattle.txn_core.specs.Base.{SameBeneath};
 ghost use Rattle.txn_core.specs.Shipped.{AllShip};
 ghost use Rattle.txn_core.specs.Store.{drafted, working};
@@ -32,8 +32,9 @@ use graph_ops::{
     unset,
 };
 use plain_graph::{Item, MOST_WEIGHT, Mutation, Query, Refusal, START_WEIGHT, Target};
-use rec_bytes::{Fault, SpaceFault, WriteSet};
+use rec_bytes::{Damage, Fault, SpaceFault, WriteSet};
 use std::alloc::AllocError;
+use store_check::{Verdict, check};
 use traversal_run::items_of;
 use txn_core::Store;
 
@@ -58,6 +59,7 @@ impl<'d, D: Disk> Session<'d, D> {
     ghost use Rattle.txn_core.specs.Store.{state_of};
     ghost use Rattle.graph_session.specs.Drafting.{
       BeginsChange,
+      BlamesSeen,
       Discards,
       Drafts,
       DraftsChanged,
@@ -67,10 +69,12 @@ impl<'d, D: Disk> Session<'d, D> {
       Finishes,
       FinishesAlone,
       HasStore,
+      IsBrokenBeneath,
       IsStopped,
       IsUnkept,
       KeepsDraft,
       OnlyDrafts,
+      ReadsBeneath,
       TriesCommit,
     };
     ghost use Rattle.graph_session.specs.Session.{HaveSameDisk, shared_view, view};
@@ -134,6 +138,7 @@ impl<'d, D: Disk> Session<'d, D> {
         requires { HasForm (change_command change) }
         ensures only { OnlyDrafts self.old self.new }
         ensures drafts { Drafts (change_command change.entry) self.old self.new result }
+        ensures blames { IfErr result (BlamesSeen self.old) }
         ensures changed { begun.alone ≡ true → DraftsChanged result self.new }
     {
         if begun.alone {
@@ -149,6 +154,7 @@ impl<'d, D: Disk> Session<'d, D> {
         requires { HasForm (change_command change) }
         ensures only { OnlyDrafts self.old self.new }
         ensures drafts { Drafts (change_command change.entry) self.old self.new result }
+        ensures blames { IfErr result (BlamesSeen self.old) }
         ensures changed { DraftsChanged result self.new }
     {
         match self.draft(change) {
@@ -174,8 +180,43 @@ impl<'d, D: Disk> Session<'d, D> {
         }
     }
 
-    // The change in the draft.
+    // The change in the draft. Where a damaged record stops it, another one may be blamed: one that
+    // breaks a rule in what the line sees.
     fn draft(&mut self, change: Change<'_>) -> Result<Drafted, Answer>
+        requires { HasForm (change_command change) }
+        ensures only { OnlyDrafts self.old self.new }
+        ensures drafts { Drafts (change_command change.entry) self.old self.new result }
+        ensures blames { IfErr result (BlamesSeen self.old) }
+    {
+        let names = self.names.count();
+        match self.draft_any(change) {
+            Ok(drafted) => Ok(drafted),
+            Err(Answer::Fault(Fault::Damaged(met))) => match self.broken_record(met, names) {
+                Ok(damage) => Err(Answer::Fault(Fault::Damaged(damage))),
+                Err(SpaceFault::Memory) => Err(Answer::Fault(Fault::Memory)),
+                Err(SpaceFault::Disk) => Err(Answer::Fault(Fault::Disk)),
+            },
+            Err(answer) => Err(answer),
+        }
+    }
+
+    // A record that breaks a rule beneath the draft, which is dropped with the names that it
+    // brought. Where all rules hold there, it is the one that was met.
+    fn broken_record(&mut self, met: Damage, names: u32) -> Result<Damage, SpaceFault>
+        ensures drops { ReadsBeneath names self.old self.new }
+        ensures broken { D.tells_reads → IfOk result (IsBrokenBeneath self.old met) }
+        ensures cause { HasCause (D.faults self.old.store.base.disk.now)
+            (D.faults self.new.store.base.disk.now) result }
+    {
+        self.drop_draft(names);
+        match check(self.alloc, &mut self.store)? {
+            Verdict::Sound => Ok(met),
+            Verdict::Broken(damage) => Ok(damage),
+        }
+    }
+
+    // The change in the draft, by the call that makes it.
+    fn draft_any(&mut self, change: Change<'_>) -> Result<Drafted, Answer>
         requires { HasForm (change_command change) }
         ensures only { OnlyDrafts self.old self.new }
         ensures drafts { Drafts (change_command change.entry) self.old self.new result }
@@ -316,7 +357,8 @@ impl<'d, D: Disk> Session<'d, D> {
 
     // Drops the draft with the names that it brought.
     fn drop_draft(&mut self, names: u32)
-        ensures { Discards names self.old self.new }
+        ensures discards { Discards names self.old self.new }
+        ensures base { self.new.store.base ≡ self.old.store.base }
     {
         self.store.discard();
         self.names.cut(names);

@@ -9,7 +9,7 @@ pub returns-clause-settles : goal.returns-clause-settles
 returns-clause-settles g c =
     let drafted = c.draft_begun-drafted in
     settles-change (is_change c.args.change) c.requires.live c.end_change.new.self c.begin_change-begun.result c.begin_change-begun.ensures
-    drafted.ensures.only drafted.result drafted.ensures.drafts c.end_change.result c.end_change.ensures.ends
+    drafted.ensures.only drafted.result drafted.ensures.drafts drafted.ensures.blames c.end_change.result c.end_change.ensures.ends
 
 pub returns-clause-keeps : goal.returns-clause-keeps
 returns-clause-keeps g c =

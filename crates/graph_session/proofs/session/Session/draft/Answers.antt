@@ -1,95 +1,27 @@
-use Rattle.std.proofs.Common.{ℕ, [], refl, sym}
-use Rattle.std.proofs.lemmas.List.{append-nil}
-use Rattle.plain_graph.specs.declared.command.Command.TheVariants as commands
-use Rattle.change_parts.specs.declared.added.Added.{Added}
-use Rattle.txn_core.specs.Store.{state_of}
+use Rattle.std.proofs.Common.{subst}
+use Rattle.rec_bytes.specs.declared.fault.Fault.{Fault}
+use Rattle.graph_session.specs.Drafting.{IsStopped}
+use Rattle.graph_session.specs.Jobs.{change_command}
 use Rattle.graph_session.specs.declared.answer.Answer.TheVariants as answers
-use Rattle.graph_session.proofs.LineDrafts.{drafts-call, index-blames}
+use Rattle.graph_session.proofs.SeenDamage.{drafts-dropped, seen-beneath}
 use Rattle.graph_session.proofs.session.Session.draft.Goals as goal
 
-pub returns-in-Node-clause-only : goal.returns-in-Node-clause-only
-returns-in-Node-clause-only g c =
-    let met = c.add_node.ensures in
-    record { base = met.onward; weight = refl; health = refl; snaps = refl; brought = met.prefix; later = met.cause.later }
+pub returns-in-Ok-broken_record-clause-only : goal.returns-in-Ok-broken_record-clause-only
+returns-in-Ok-broken_record-clause-only g c =
+    drafts-dropped c.draft_any.ensures.only c.count-names.result c.count-names.ensures.value c.broken_record.ensures.drops c.broken_record.ensures.cause.later
 
-pub returns-in-Node-clause-drafts : goal.returns-in-Node-clause-drafts
-returns-in-Node-clause-drafts g c =
-    let met = c.add_node.ensures in
-    rw (c.in-Node.is, c.drafted_node.ensures)
-    (drafts-call (λ (added : Added). answers.NodeMade added.id) (λ (added : Added). added.weight) (commands.Node c.in-Node.label.now c.in-Node.pairs.now)
-    (λ added. (added.id, refl)) (returns-in-Node-clause-only g c) c.add_node.result (λ told. met.made told) met.light met.writes
-    (λ told has. met.refused told has) (λ told. met.damaged told) (λ made is told. tt) met.cause)
+pub returns-in-Ok-broken_record-clause-blames : goal.returns-in-Ok-broken_record-clause-blames
+returns-in-Ok-broken_record-clause-blames g c = λ told none.
+    let met = c.in-Err-Fault-Damaged in
+    let stopped = IsStopped (change_command c.args.change) c.args.self.now c.draft_any.new.self.store.base.disk.now in
+    seen-beneath c.draft_any.ensures.only
+    ((subst (λ (f : Fault). stopped (answers.Fault f)) met.field-0-0-is (subst stopped met.field-0-is met.ensures.drafts)) told) met.met
+    c.in-Ok-broken_record.damage (c.in-Ok-broken_record.ensures.broken told) none
 
-pub returns-in-Edge-clause-only : goal.returns-in-Edge-clause-only
-returns-in-Edge-clause-only g c =
-    let met = c.add_edge.ensures in
-    record { base = met.onward; weight = refl; health = refl; snaps = refl; brought = met.prefix; later = met.cause.later }
+pub returns-in-Err-Memory-clause-only : goal.returns-in-Err-Memory-clause-only
+returns-in-Err-Memory-clause-only g c =
+    drafts-dropped c.draft_any.ensures.only c.count-names.result c.count-names.ensures.value c.broken_record.ensures.drops c.broken_record.ensures.cause.later
 
-pub returns-in-Edge-clause-drafts : goal.returns-in-Edge-clause-drafts
-returns-in-Edge-clause-drafts g c =
-    let met = c.add_edge.ensures in
-    rw (c.in-Edge.is, c.drafted_edge.ensures)
-    (drafts-call (λ (added : Added). answers.EdgeMade added.id) (λ (added : Added). added.weight) (commands.Edge c.in-Edge.from c.in-Edge.label.now c.in-Edge.to
-    c.in-Edge.pairs.now) (λ added. (added.id, refl)) (returns-in-Edge-clause-only g c) c.add_edge.result (λ told. met.made told) met.light met.writes
-    (λ told has. met.refused told has) (λ told. met.damaged told) (λ made is told. tt) met.cause)
-
-pub returns-in-Set-clause-only : goal.returns-in-Set-clause-only
-returns-in-Set-clause-only g c =
-    let met = c.set.ensures in
-    record { base = met.onward; weight = refl; health = refl; snaps = refl; brought = met.prefix; later = met.cause.later }
-
-pub returns-in-Set-clause-drafts : goal.returns-in-Set-clause-drafts
-returns-in-Set-clause-drafts g c =
-    let met = c.set.ensures in
-    rw (c.in-Set.is, c.drafted_done.ensures)
-    (drafts-call (λ (weight : ℕ). answers.Done) (λ (weight : ℕ). weight) (commands.Set c.in-Set.target c.in-Set.key.now c.in-Set.value.now) (λ weight. refl)
-    (returns-in-Set-clause-only g c) c.set.result (λ told. met.made told) met.light met.writes
-    (λ told has. met.refused told has) (λ told. met.damaged told) (λ made is told. tt) met.cause)
-
-pub returns-in-Unset-clause-only : goal.returns-in-Unset-clause-only
-returns-in-Unset-clause-only g c =
-    let met = c.unset.ensures in
-    record {
-      base = met.onward;
-      weight = refl;
-      health = refl;
-      snaps = refl;
-      brought = ([], sym (append-nil c.args.self.now.names.names));
-      later =
-          met.cause.later;
-    }
-
-pub returns-in-Unset-clause-drafts : goal.returns-in-Unset-clause-drafts
-returns-in-Unset-clause-drafts g c =
-    let met = c.unset.ensures in
-    rw (c.in-Unset.is, c.drafted_done-in-Unset.ensures)
-    (drafts-call (λ (weight : ℕ). answers.Done) (λ (weight : ℕ). weight) (commands.Unset c.in-Unset.target c.in-Unset.key.now) (λ weight. refl)
-    (returns-in-Unset-clause-only g c) c.unset.result (λ told. met.made told) met.light met.writes
-    (λ told has. met.refused told has) (λ told. met.damaged told) (λ made is told. tt) met.cause)
-
-pub returns-in-Delete-clause-only : goal.returns-in-Delete-clause-only
-returns-in-Delete-clause-only g c = c.draft_deletion.ensures.only
-
-pub returns-in-Delete-clause-drafts : goal.returns-in-Delete-clause-drafts
-returns-in-Delete-clause-drafts g c = rw c.in-Delete.is c.draft_deletion.ensures.drafts
-
-pub returns-in-Index-clause-only : goal.returns-in-Index-clause-only
-returns-in-Index-clause-only g c =
-    let met = c.index.ensures in
-    record { base = met.onward; weight = refl; health = refl; snaps = refl; brought = met.prefix; later = met.cause.later }
-
-pub returns-in-Index-clause-drafts : goal.returns-in-Index-clause-drafts
-returns-in-Index-clause-drafts g c =
-    let met = c.index.ensures in
-    rw (c.in-Index.is, c.drafted_done-in-Index.ensures)
-    (drafts-call (λ (weight : ℕ). answers.Done) (λ (weight : ℕ). weight) (commands.Index c.in-Index.label.now c.in-Index.key.now) (λ weight. refl)
-    (returns-in-Index-clause-only g c) c.index.result (λ told. met.made told) met.light met.writes
-    (λ told has. met.refused told has)
-    (λ told. index-blames c.in-Index.label.now c.in-Index.key.now (state_of c.args.self.now.store) (state_of c.index.new.space) c.args.self.now.names.names
-    c.index.new.names.names c.index.result (met.damaged told)) (λ made is told. tt) met.cause)
-
-pub returns-in-Mutate-clause-only : goal.returns-in-Mutate-clause-only
-returns-in-Mutate-clause-only g c = c.draft_mutation.ensures.only
-
-pub returns-in-Mutate-clause-drafts : goal.returns-in-Mutate-clause-drafts
-returns-in-Mutate-clause-drafts g c = rw c.in-Mutate.is c.draft_mutation.ensures.drafts
+pub returns-in-Err-Disk-clause-only : goal.returns-in-Err-Disk-clause-only
+returns-in-Err-Disk-clause-only g c =
+    drafts-dropped c.draft_any.ensures.only c.count-names.result c.count-names.ensures.value c.broken_record.ensures.drops c.broken_record.ensures.cause.later

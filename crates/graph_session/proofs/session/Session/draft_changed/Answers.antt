@@ -1,4 +1,4 @@
-use Rattle.graph_session.proofs.ChangedDrafts.{drafts-changed, only-changed}
+use Rattle.graph_session.proofs.ChangedDrafts.{drafts-changed, only-changed, unchanged-blames}
 use Rattle.graph_session.proofs.session.Session.draft_changed.Goals as goal
 
 pub returns-else-drafted-clause-drafts : goal.returns-else-drafted-clause-drafts
@@ -8,3 +8,7 @@ returns-else-drafted-clause-drafts g c =
 
 pub returns-else-drafted-clause-changed : goal.returns-else-drafted-clause-changed
 returns-else-drafted-clause-changed g c = only-changed c.drop_unchanged.ensures.only c.in-Ok.drafted c.drop_unchanged.result c.drop_unchanged.ensures.drops
+
+pub returns-else-drafted-clause-blames : goal.returns-else-drafted-clause-blames
+returns-else-drafted-clause-blames g c =
+    unchanged-blames c.drop_unchanged.ensures.only c.args.self.now c.in-Ok.drafted c.drop_unchanged.result c.drop_unchanged.ensures.drops

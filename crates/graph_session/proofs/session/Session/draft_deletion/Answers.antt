@@ -26,7 +26,7 @@ returns-in-Node-clause-drafts g c =
     rw (c.in-Node.is, c.drafted_done.ensures)
     (drafts-call (λ (weight : ℕ). answers.Done) (λ (weight : ℕ). weight) (commands.Delete (targets.Node c.in-Node.id)) (λ weight. refl)
     (returns-in-Node-clause-only g c) c.delete_node.result (λ told. met.made told) met.light met.writes
-    (λ told has. met.refused told has) (λ told. met.found told)
+    (λ told has. met.refused told has)
     (λ made is told. deletion-left c.in-Node.id (drafted c.args.self.now.store) (drafted c.delete_node.new.space) c.delete_node.result (met.lone told)
     (met.gone told) made is) met.cause)
 
@@ -49,4 +49,4 @@ returns-in-Edge-clause-drafts g c =
     rw (c.in-Edge.is, c.drafted_done-in-Edge.ensures)
     (drafts-call (λ (weight : ℕ). answers.Done) (λ (weight : ℕ). weight) (commands.Delete (targets.Edge c.in-Edge.id)) (λ weight. refl)
     (returns-in-Edge-clause-only g c) c.delete_edge.result (λ told. met.made told) met.light met.writes
-    (λ told has. met.refused told has) (λ told. met.damaged told) (λ made is told. tt) met.cause)
+    (λ told has. met.refused told has) (λ made is told. tt) met.cause)

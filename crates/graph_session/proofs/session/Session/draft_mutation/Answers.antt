@@ -1,10 +1,8 @@
-use Rattle.std.proofs.Common.{◌∙◌, ℕ, Err, List, ◌++◌, ap, inr, refl, subst}
+use Rattle.std.proofs.Common.{Err, ap, refl}
 use Rattle.std.proofs.lemmas.Result.{err_from_is_err_and}
-use Rattle.plain_graph.specs.Mutations.{changes_of}
 use Rattle.plain_graph.specs.declared.command.Command.TheVariants as commands
 use Rattle.txn_core.specs.Store.{state_of}
-use Rattle.graph_ops.specs.Mutating.{IsListCaused}
-use Rattle.graph_session.proofs.LineDrafts.{change-stopped, deletion-blames, has-read, mutation-made, mutation-refused, writes-read}
+use Rattle.graph_session.proofs.LineDrafts.{change-stopped, has-read, mutation-made, mutation-refused, writes-read}
 use Rattle.graph_session.proofs.Streams.{Rose-from}
 use Rattle.graph_session.proofs.session.Session.draft_mutation.Goals as goal
 
@@ -36,23 +34,10 @@ returns-in-Err-clause-drafts g c =
     let mid = c.read_items.new.self in
     let read = c.in_ok-items.ensures in
     let met = c.in-Err.ensures in
-    let left = c.mutate.new.space in
-    change-stopped (commands.Mutate c.args.reading.now c.args.mutation.now) old left.base.disk.now (state_of left) c.mutate.new.names.names
-    (met.prefix.0, met.prefix.1 ∙ ap (λ (known : List (List ℕ)). known ++ met.prefix.0) read.names) c.in-Err.fault
+    change-stopped (commands.Mutate c.args.reading.now c.args.mutation.now) old c.mutate.new.space.base.disk.now c.in-Err.fault
     (λ told has.
     mutation-refused (state_of old.store) (state_of mid.store) read.same c.args.reading.now c.args.mutation.now (read.there told has) _ (read.items told has)
     c.in-Err.fault
     (met.refused told (has-read old mid read.same read.names has)))
-    (λ told. inr (record {
-      items = c.in_ok-items.items.items;
-      caused =
-          subst (λ (known : List (List ℕ)). IsListCaused (changes_of c.args.mutation.now c.in_ok-items.items.items) (state_of left)
-          known c.mutate.new.names.names c.in-Err.fault)
-          read.names (met.still told);
-      deletions = met.blamed told;
-      lone = λ target drops one. deletion-blames (state_of old.store) (state_of mid.store) read.same target (state_of left) c.in-Err.fault
-          (met.lone told target drops one);
-    }))
-    (λ e. Rose-from (g.D.Disk.faults old.store.base.disk.now) (g.D.Disk.faults mid.store.base.disk.now) (g.D.Disk.faults left.base.disk.now) read.only.later
-    (met.cause.disk (ap Err e))) c.from.result
-    c.from.ensures
+    (λ e. Rose-from (g.D.Disk.faults old.store.base.disk.now) (g.D.Disk.faults mid.store.base.disk.now) (g.D.Disk.faults c.mutate.new.space.base.disk.now)
+    read.only.later (met.cause.disk (ap Err e))) c.from.result c.from.ensures

@@ -1,4 +1,4 @@
-use Rattle.std.proofs.Common.{◌≡◌, ◌∙◌, Err, Option, [], ap, inl, refl, subst, sym}
+use Rattle.std.proofs.Common.{◌≡◌, ◌∙◌, Err, Option, [], ap, refl, subst, sym}
 use Rattle.std.proofs.lemmas.List.{append-nil}
 use Rattle.plain_graph.specs.Lines.{index_of_reading}
 use Rattle.plain_graph.specs.Refusals.{lacks_index}
@@ -10,7 +10,6 @@ use Rattle.prop_index.specs.Looking.{BlamesBroken}
 use Rattle.prop_index.specs.declared.lookup_fault.LookupFault.{LookupFault}
 use Rattle.prop_index.specs.declared.lookup_fault.LookupFault.TheVariants as faults
 use Rattle.rec_bytes.specs.declared.damage.Damage.{Damage}
-use Rattle.store_rules.specs.Breaking.{BreaksAny}
 use Rattle.store_rules.specs.Graph.{names_of}
 use Rattle.store_rules.proofs.Breaches.{none_at_all}
 use Rattle.change_parts.specs.Store.{IsStore, graph_in}
@@ -64,8 +63,6 @@ returns-in-Err-clause-stopped g c = λ mutation.
     mutation_unindexed s.shape.limit (graph_in s) reading mutation refusals.NoIndex
     (subst (λ (r : Option Query). lacks_index (index_of_reading r) (graph_in s) refusals.NoIndex) (sym c.in-Some.is) lacks))
     tt (λ disk. met.cause.disk (ap Err disk))
-    (λ damage is.
-    let broken : g.D.Disk.tells_reads → BreaksAny s.records s.shape damage = λ told. subst (BlamesBroken s.records s.shape) is (met.damaged told) in (
-      λ told has. none_at_all s.records s.shape (record { store = has.store.store; indexes = has.store.indexes }) damage (broken told),
-      λ told. record { left = s; now = old.names.names; brought = ([], sym (append-nil old.names.names)); blames = inl (broken told) },
-    )))
+    (λ damage is told has.
+    none_at_all s.records s.shape (record { store = has.store.store; indexes = has.store.indexes }) damage
+    (subst (BlamesBroken s.records s.shape) is (met.damaged told))))

@@ -1,0 +1,93 @@
+use Rattle.std.proofs.Common.{ℕ, [], refl, sym}
+use Rattle.std.proofs.lemmas.List.{append-nil}
+use Rattle.plain_graph.specs.declared.command.Command.TheVariants as commands
+use Rattle.change_parts.specs.declared.added.Added.{Added}
+use Rattle.graph_session.specs.declared.answer.Answer.TheVariants as answers
+use Rattle.graph_session.proofs.LineDrafts.{drafts-call}
+use Rattle.graph_session.proofs.session.Session.draft_any.Goals as goal
+
+pub returns-in-Node-clause-only : goal.returns-in-Node-clause-only
+returns-in-Node-clause-only g c =
+    let met = c.add_node.ensures in
+    record { base = met.onward; weight = refl; health = refl; snaps = refl; brought = met.prefix; later = met.cause.later }
+
+pub returns-in-Node-clause-drafts : goal.returns-in-Node-clause-drafts
+returns-in-Node-clause-drafts g c =
+    let met = c.add_node.ensures in
+    rw (c.in-Node.is, c.drafted_node.ensures)
+    (drafts-call (λ (added : Added). answers.NodeMade added.id) (λ (added : Added). added.weight) (commands.Node c.in-Node.label.now c.in-Node.pairs.now)
+    (λ added. (added.id, refl)) (returns-in-Node-clause-only g c) c.add_node.result (λ told. met.made told) met.light met.writes
+    (λ told has. met.refused told has) (λ made is told. tt) met.cause)
+
+pub returns-in-Edge-clause-only : goal.returns-in-Edge-clause-only
+returns-in-Edge-clause-only g c =
+    let met = c.add_edge.ensures in
+    record { base = met.onward; weight = refl; health = refl; snaps = refl; brought = met.prefix; later = met.cause.later }
+
+pub returns-in-Edge-clause-drafts : goal.returns-in-Edge-clause-drafts
+returns-in-Edge-clause-drafts g c =
+    let met = c.add_edge.ensures in
+    rw (c.in-Edge.is, c.drafted_edge.ensures)
+    (drafts-call (λ (added : Added). answers.EdgeMade added.id) (λ (added : Added). added.weight) (commands.Edge c.in-Edge.from c.in-Edge.label.now c.in-Edge.to
+    c.in-Edge.pairs.now) (λ added. (added.id, refl)) (returns-in-Edge-clause-only g c) c.add_edge.result (λ told. met.made told) met.light met.writes
+    (λ told has. met.refused told has) (λ made is told. tt) met.cause)
+
+pub returns-in-Set-clause-only : goal.returns-in-Set-clause-only
+returns-in-Set-clause-only g c =
+    let met = c.set.ensures in
+    record { base = met.onward; weight = refl; health = refl; snaps = refl; brought = met.prefix; later = met.cause.later }
+
+pub returns-in-Set-clause-drafts : goal.returns-in-Set-clause-drafts
+returns-in-Set-clause-drafts g c =
+    let met = c.set.ensures in
+    rw (c.in-Set.is, c.drafted_done.ensures)
+    (drafts-call (λ (weight : ℕ). answers.Done) (λ (weight : ℕ). weight) (commands.Set c.in-Set.target c.in-Set.key.now c.in-Set.value.now) (λ weight. refl)
+    (returns-in-Set-clause-only g c) c.set.result (λ told. met.made told) met.light met.writes
+    (λ told has. met.refused told has) (λ made is told. tt) met.cause)
+
+pub returns-in-Unset-clause-only : goal.returns-in-Unset-clause-only
+returns-in-Unset-clause-only g c =
+    let met = c.unset.ensures in
+    record {
+      base = met.onward;
+      weight = refl;
+      health = refl;
+      snaps = refl;
+      brought = ([], sym (append-nil c.args.self.now.names.names));
+      later =
+          met.cause.later;
+    }
+
+pub returns-in-Unset-clause-drafts : goal.returns-in-Unset-clause-drafts
+returns-in-Unset-clause-drafts g c =
+    let met = c.unset.ensures in
+    rw (c.in-Unset.is, c.drafted_done-in-Unset.ensures)
+    (drafts-call (λ (weight : ℕ). answers.Done) (λ (weight : ℕ). weight) (commands.Unset c.in-Unset.target c.in-Unset.key.now) (λ weight. refl)
+    (returns-in-Unset-clause-only g c) c.unset.result (λ told. met.made told) met.light met.writes
+    (λ told has. met.refused told has) (λ made is told. tt) met.cause)
+
+pub returns-in-Delete-clause-only : goal.returns-in-Delete-clause-only
+returns-in-Delete-clause-only g c = c.draft_deletion.ensures.only
+
+pub returns-in-Delete-clause-drafts : goal.returns-in-Delete-clause-drafts
+returns-in-Delete-clause-drafts g c = rw c.in-Delete.is c.draft_deletion.ensures.drafts
+
+pub returns-in-Index-clause-only : goal.returns-in-Index-clause-only
+returns-in-Index-clause-only g c =
+    let met = c.index.ensures in
+    record { base = met.onward; weight = refl; health = refl; snaps = refl; brought = met.prefix; later = met.cause.later }
+
+pub returns-in-Index-clause-drafts : goal.returns-in-Index-clause-drafts
+returns-in-Index-clause-drafts g c =
+    let met = c.index.ensures in
+    rw (c.in-Index.is, c.drafted_done-in-Index.ensures)
+    (drafts-call (λ (weight : ℕ). answers.Done) (λ (weight : ℕ). weight) (commands.Index c.in-Index.label.now c.in-Index.key.now) (λ weight. refl)
+    (returns-in-Index-clause-only g c) c.index.result (λ told. met.made told) met.light met.writes
+    (λ told has. met.refused told has)
+    (λ made is told. tt) met.cause)
+
+pub returns-in-Mutate-clause-only : goal.returns-in-Mutate-clause-only
+returns-in-Mutate-clause-only g c = c.draft_mutation.ensures.only
+
+pub returns-in-Mutate-clause-drafts : goal.returns-in-Mutate-clause-drafts
+returns-in-Mutate-clause-drafts g c = rw c.in-Mutate.is c.draft_mutation.ensures.drafts
