@@ -16,7 +16,7 @@ use Rattle.rec_bytes.specs.Key.{IsKey, key_eq}
 use Rattle.record_file.specs.Records.{SameButRecord, record_at}
 use Rattle.record_file.proofs.Records.{record_at-other}
 use Rattle.page_cache.specs.declared.page.PageKey.{PageKey}
-use Rattle.page_cache.specs.Pages.{Agrees, IsPage, IsUsed, KeepsPage, Pages, kept_page, page_eq, page_of, record_in, used_last, with_page}
+use Rattle.page_cache.specs.Pages.{Agrees, IsLastUsed, IsPage, IsUsed, KeepsPage, Pages, kept_page, page_eq, page_of, record_in, used_last, with_page}
 use Rattle.page_cache.proofs.RecordInPage.{record_in-is}
 
 pub page_eq-true : (a b : PageKey) → page_eq a b ≡ true → a ≡ b
@@ -106,7 +106,7 @@ agrees_forgotten old new key page before after its same once then is agrees = re
 -- as many pages may be there as before
 IsUsed-room : (key : Key) (old new : Pages) → IsUsed key old new → new.cap ≡ old.cap
 IsUsed-room key old new used = ⊎_elim
-    (λ (same : new ≡ old). ap (λ (pages : Pages). pages.cap) same)
+    (λ (same : IsLastUsed key old × (new ≡ old)). ap (λ (pages : Pages). pages.cap) same.1)
     (λ (moved : new ≡ used_last key old). ap (λ (pages : Pages). pages.cap) moved)
     used
 

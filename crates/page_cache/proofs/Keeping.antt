@@ -11,9 +11,9 @@ use Rattle.lru.proofs.CallerLemmas.{lookup-put_entries}
 use Rattle.lru.specs.LruCache.{promoted}
 use Rattle.rec_bytes.specs.declared.key.Key.{Key}
 use Rattle.page_cache.specs.declared.page.PageKey.{PageKey}
-use Rattle.page_cache.specs.Pages.{IsUsed, KeepsPage, Pages, kept_page, page_eq, page_of, used_last, with_page}
+use Rattle.page_cache.specs.Pages.{IsLastUsed, IsUsed, KeepsPage, Pages, kept_page, page_eq, page_of, used_last, with_page}
 use Rattle.page_cache.specs.Staying.{StayKept}
-use Rattle.page_cache.proofs.Agreement.{page_laws, unused_cases}
+use Rattle.page_cache.proofs.Agreement.{page_laws, unused, unused_cases}
 use Rattle.page_cache.proofs.LastPages.{lookup-promoted}
 
 pub stay_none : (pages : Pages) → StayKept pages pages
@@ -22,7 +22,7 @@ stay_none pages = record { room = refl; full = λ full. full; stay = λ key kept
 -- a page that is used keeps its bytes, as each other does
 pub kept_used : (key : Key) (old new : Pages) → IsUsed key old new → (other : Key) → kept_page other new ≡ kept_page other old
 kept_used key old new used other = ⊎_elim
-    (λ (same : new ≡ old). ap (λ (pages : Pages). kept_page other pages) same)
+    (λ (same : IsLastUsed key old × (new ≡ old)). ap (λ (pages : Pages). kept_page other pages) same.1)
     (λ (moved : new ≡ used_last key old). ap (λ (pages : Pages). kept_page other pages) moved ∙ lookup-promoted (page_of key) (page_of other) old.entries)
     used
 
@@ -58,7 +58,7 @@ stay_moved key pages = record {
 
 pub stay_used : (key : Key) (old new : Pages) → IsUsed key old new → StayKept old new
 stay_used key old new used = ⊎_elim
-    (λ (same : new ≡ old). subst (StayKept old) (sym same) (stay_none old))
+    (λ (same : IsLastUsed key old × (new ≡ old)). subst (StayKept old) (sym same.1) (stay_none old))
     (λ (moved : new ≡ used_last key old). subst (StayKept old) (sym moved) (stay_moved key old))
     used
 
@@ -105,6 +105,11 @@ stay_missed key old new none keeps = ⊎_elim
     (unused_cases (page_eq (page_of key)) old.entries none) in
     subst (StayKept old) (sym (put.1 ∙ is)) (stay_pushed (page_of key) put.0 old))
     keeps
+
+-- where no page came, though the one of the record wasn't kept
+pub keeps_missed : (key : Key) (old new : Pages) → kept_page key old ≡ None → new ≡ old → KeepsPage key old new
+keeps_missed key old new none same =
+    inl (inr (same ∙ ap (λ (entries : List (PageKey × List ℕ)). record old { entries = entries }) (sym (unused (page_eq (page_of key)) old.entries none))))
 
 -- a page is kept now exactly if it was put in
 pub told_kept : (key : Key) (bytes : List ℕ) (old new : Pages) (kept : Bool) → kept_page key old ≡ None → (IsTrue kept → new ≡ with_page key bytes old)

@@ -1,17 +1,16 @@
--- The last page of each file stays among the pages.
+-- The last page of each file stays the first of that file's pages.
 use Rattle.std.proofs.Common.{◌≡◌, ◌∙◌, ⊎_elim, ℕ, zero, suc, ◌+◌, ◌-◌, ◌<◌, ◌≤◌, Bool, true, false, cond, List, []}
-use Rattle.std.proofs.Common.{◌∷◌, length, take, Option, Some, None, is_some, ap, sym, refl, arith, slice_get}
+use Rattle.std.proofs.Common.{◌∷◌, length, take, Option, Some, None, is_some, ap, sym, refl, arith, nat_eq, slice_get}
 use Rattle.std.proofs.lemmas.Bool.{false≢true}
 use Rattle.std.proofs.lemmas.Bool.Decides.{nat_tests}
 use Rattle.std.specs.Map.{lookup, lookup_entry, remove_entry}
 use Rattle.std.specs.Option.{option_map_or}
-use Rattle.lru.proofs.CallerLemmas.{lookup-put_entries}
 use Rattle.lru.specs.LruCache.{displaced, lru_cache, promoted, put_entries}
 use Rattle.page_cache.specs.declared.last_pages.LastPage.{LastPage}
 use Rattle.page_cache.specs.declared.page.PageKey.{PageKey}
-use Rattle.page_cache.specs.LastPages.{AreLastKept, ForgetsGone, ForgetsLast, PutsLast}
-use Rattle.page_cache.specs.Pages.{Pages, page_eq}
-use Rattle.page_cache.proofs.Agreement.{page_eq-same, page_eq-true, page_laws}
+use Rattle.page_cache.specs.LastPages.{AreFirst, ForgetsGone, ForgetsLast, PutsLast, last_page}
+use Rattle.page_cache.specs.Pages.{Pages, first_of, page_eq}
+use Rattle.page_cache.proofs.Agreement.{page_eq-same, page_eq-true}
 
 abbrev Entries : Type 0
 Entries = List (PageKey × List ℕ)
@@ -33,14 +32,14 @@ lookup-without gone page (entry ∷ rest) other = pick (page_eq gone entry.0) re
     pick true is later = sym (ap (λ b. cond b (Some entry.1) (lookup (page_eq page) rest)) (apart_from gone page entry.0 is other))
     pick false is later = ap (λ found. cond (page_eq page entry.0) (Some entry.1) found) later
 
+some_is : {X : Type 0} (a b : X) → Some a ≡ Some b → a ≡ b
+some_is a b e = cc
+
 -- a page that is found is the one that is sought
 found_is : (wanted : PageKey) (entries : Entries) (entry : PageKey × List ℕ) → lookup_entry (page_eq wanted) entries ≡ Some entry → wanted ≡ entry.0
 found_is wanted [] entry is = absurd (false≢true (ap is_some is))
 found_is wanted (first ∷ rest) entry is = pick (page_eq wanted first.0) refl is (λ e. found_is wanted rest entry e)
   where
-    some_is : {X : Type 0} (a b : X) → Some a ≡ Some b → a ≡ b
-    some_is a b e = cc
-
     pick : (here : Bool) → page_eq wanted first.0 ≡ here → cond here (Some first) (lookup_entry (page_eq wanted) rest) ≡ Some entry
         → (lookup_entry (page_eq wanted) rest ≡ Some entry → wanted ≡ entry.0) → wanted ≡ entry.0
     pick true same e later = page_eq-true wanted first.0 same ∙ ap (λ (x : PageKey × List ℕ). x.0) (some_is first entry e)
@@ -78,26 +77,67 @@ lookup-promoted wanted page entries = pick (lookup_entry (page_eq wanted) entrie
     pick None is = refl
     pick (Some entry) is = by entry is (page_eq page entry.0) refl
 
--- a look-up of another page than the one that goes for want of room
-lookup-take : (n : ℕ) (page : PageKey) (bytes : List ℕ) (entries : Entries) → lookup (page_eq page) entries ≡ Some bytes → length entries ≤ n + 1
-    → ((gone : PageKey × List ℕ) → slice_get entries n ≡ Some gone → page_eq gone.0 page ≡ false) → lookup (page_eq page) (take n entries) ≡ Some bytes
-lookup-take n page bytes [] is fits other = absurd (false≢true (ap is_some is))
-lookup-take zero page bytes (entry ∷ []) is fits other = absurd (only (page_eq page entry.0) (turned entry.0 page (other entry refl)) is)
+-- the first entry that passes a test, with another page taken out
+lookup_entry-without : (test : PageKey → Bool) (gone : PageKey) (entries : Entries) (entry : PageKey × List ℕ) → lookup_entry test entries ≡ Some entry
+    → page_eq gone entry.0 ≡ false → lookup_entry test (remove_entry (page_eq gone) entries) ≡ Some entry
+lookup_entry-without test gone [] entry is other = absurd (false≢true (ap is_some is))
+lookup_entry-without test gone (first ∷ rest) entry is other =
+    pick (page_eq gone first.0) refl (λ e. lookup_entry-without test gone rest entry e other)
   where
-    turned : (x y : PageKey) → page_eq x y ≡ false → page_eq y x ≡ false
-    turned x y e = grind (arith, nat_tests)
+    keep : (here : Bool) → cond here (Some first) (lookup_entry test rest) ≡ Some entry
+        → (lookup_entry test rest ≡ Some entry → lookup_entry test (remove_entry (page_eq gone) rest) ≡ Some entry)
+        → cond here (Some first) (lookup_entry test (remove_entry (page_eq gone) rest)) ≡ Some entry
+    keep true e later = e
+    keep false e later = later e
 
-    only : (here : Bool) → here ≡ false → cond here (Some entry.1) None ≡ Some bytes → ⊥
-    only true e h = false≢true (sym e)
-    only false e h = false≢true (ap is_some h)
-lookup-take zero page bytes (entry ∷ next ∷ rest) is fits other = absurd (omega (arith, fits))
-lookup-take (suc n) page bytes (entry ∷ rest) is fits other = pick (page_eq page entry.0) is (λ e. lookup-take n page bytes rest e (omega (arith, fits)) other)
+    past : (here : Bool) → cond here (Some first) (lookup_entry test rest) ≡ Some entry → page_eq gone first.0 ≡ true → lookup_entry test rest ≡ Some entry
+    past true e same = absurd (false≢true (sym other ∙ ap (λ (x : PageKey × List ℕ). page_eq gone x.0) (sym (some_is first entry e)) ∙ same))
+    past false e same = e
+
+    pick : (out : Bool) → page_eq gone first.0 ≡ out
+        → (lookup_entry test rest ≡ Some entry → lookup_entry test (remove_entry (page_eq gone) rest) ≡ Some entry)
+        → lookup_entry test (cond out rest (first ∷ remove_entry (page_eq gone) rest)) ≡ Some entry
+    pick true same later = past (test first.0) is same
+    pick false same later = keep (test first.0) is later
+
+-- the same where another page goes for want of room
+lookup_entry-take : (n : ℕ) (test : PageKey → Bool) (entries : Entries) (entry : PageKey × List ℕ) → lookup_entry test entries ≡ Some entry
+    → length entries ≤ n + 1 → ((gone : PageKey × List ℕ) → slice_get entries n ≡ Some gone → page_eq gone.0 entry.0 ≡ false)
+    → lookup_entry test (take n entries) ≡ Some entry
+lookup_entry-take n test [] entry is fits other = absurd (false≢true (ap is_some is))
+lookup_entry-take zero test (first ∷ []) entry is fits other = absurd (only (test first.0) is)
   where
-    pick : (here : Bool) → cond here (Some entry.1) (lookup (page_eq page) rest) ≡ Some bytes
-        → (lookup (page_eq page) rest ≡ Some bytes → lookup (page_eq page) (take n rest) ≡ Some bytes)
-        → cond here (Some entry.1) (lookup (page_eq page) (take n rest)) ≡ Some bytes
+    only : (here : Bool) → cond here (Some first) None ≡ Some entry → ⊥
+    only true e =
+        false≢true (sym (other first refl) ∙ ap (λ (x : PageKey × List ℕ). page_eq first.0 x.0) (sym (some_is first entry e)) ∙ page_eq-same first.0)
+    only false e = false≢true (ap is_some e)
+lookup_entry-take zero test (first ∷ next ∷ rest) entry is fits other = absurd (omega (arith, fits))
+lookup_entry-take (suc n) test (first ∷ rest) entry is fits other =
+    pick (test first.0) is (λ e. lookup_entry-take n test rest entry e (omega (arith, fits)) other)
+  where
+    pick : (here : Bool) → cond here (Some first) (lookup_entry test rest) ≡ Some entry
+        → (lookup_entry test rest ≡ Some entry → lookup_entry test (take n rest) ≡ Some entry)
+        → cond here (Some first) (lookup_entry test (take n rest)) ≡ Some entry
     pick true e later = e
     pick false e later = later e
+
+-- the page that stands first of its file is kept
+pub first_kept : (page : PageKey) (bytes : List ℕ) (entries : Entries) → lookup_entry (λ (p : PageKey). nat_eq p.file page.file) entries ≡ Some (page, bytes)
+    → lookup (page_eq page) entries ≡ Some bytes
+first_kept page bytes [] is = absurd (false≢true (ap is_some is))
+first_kept page bytes (first ∷ rest) is = pick (nat_eq first.0.file page.file) refl is (first_kept page bytes rest)
+  where
+    apart : nat_eq first.0.file page.file ≡ false → page_eq page first.0 ≡ false
+    apart e = grind (arith, nat_tests)
+
+    pick : (here : Bool) → nat_eq first.0.file page.file ≡ here
+        → cond here (Some first) (lookup_entry (λ (p : PageKey). nat_eq p.file page.file) rest) ≡ Some (page, bytes)
+        → (lookup_entry (λ (p : PageKey). nat_eq p.file page.file) rest ≡ Some (page, bytes) → lookup (page_eq page) rest ≡ Some bytes)
+        → lookup (page_eq page) (first ∷ rest) ≡ Some bytes
+    pick true same e later =
+        ap (λ (x : PageKey × List ℕ). lookup (page_eq page) (x ∷ rest)) (some_is first (page, bytes) e)
+        ∙ ap (λ b. cond b (Some bytes) (lookup (page_eq page) rest)) (page_eq-same page)
+    pick false same e later = ap (λ b. cond b (Some first.1) (lookup (page_eq page) rest)) (apart same) ∙ later e
 
 -- a page that isn't found has no bytes
 lookup-unfound : (wanted : PageKey) (entries : Entries) → lookup_entry (page_eq wanted) entries ≡ None → lookup (page_eq wanted) entries ≡ None
@@ -110,67 +150,87 @@ lookup-unfound wanted (first ∷ rest) e = by (page_eq wanted first.0) e (λ h. 
     by true h later = absurd (false≢true (sym (ap is_some h)))
     by false h later = later h
 
--- and with one put in
-lookup-pushed : (pages : Pages) (key page : PageKey) (held bytes : List ℕ) → page_eq key page ≡ false → lookup (page_eq page) pages.entries ≡ Some bytes
-    → length pages.entries ≤ pages.cap → 0 < pages.cap
-    → ((gone : PageKey × List ℕ) → displaced page_eq pages key held ≡ Some gone → page_eq gone.0 page ≡ false)
-    → lookup (page_eq page) (put_entries page_eq pages key held) ≡ Some bytes
-lookup-pushed pages key page held bytes apart is fits room other = pick (lookup_entry (page_eq key) pages.entries) refl
-  where
-    turned : (x y : PageKey) → page_eq x y ≡ false → page_eq y x ≡ false
-    turned x y e = grind (arith, nat_tests)
+-- pages of two files are two
+files_apart : (a b : PageKey) → nat_eq a.file b.file ≡ false → page_eq a b ≡ false
+files_apart a b e = grind (arith, nat_tests)
 
-    past : (first : PageKey × List ℕ) (rest : Entries) → page_eq page first.0 ≡ false → lookup (page_eq page) (first ∷ rest) ≡ lookup (page_eq page) rest
-    past first rest e = ap (λ b. cond b (Some first.1) (lookup (page_eq page) rest)) e
-
-    pick : (found : Option (PageKey × List ℕ)) → lookup_entry (page_eq key) pages.entries ≡ found
-        → lookup (page_eq page) (option_map_or (λ e. (e.0, held) ∷ remove_entry (page_eq key) pages.entries) found ((key, held) ∷ take (pages.cap - 1)
-        pages.entries)) ≡ Some bytes
-    pick None none =
-        past (key, held) (take (pages.cap - 1) pages.entries) (turned key page apart)
-        ∙ lookup-take (pages.cap - 1) page bytes pages.entries is (omega (arith, fits, room))
-        (λ gone at. other gone (ap (λ (o : Option (List ℕ)). option_map_or (λ old. Some (key, old)) o (slice_get pages.entries (pages.cap - 1)))
-        (lookup-unfound key pages.entries none) ∙ at))
-    pick (Some entry) found =
-        past (entry.0, held) (remove_entry (page_eq key) pages.entries)
-        (ap (λ (p : PageKey). page_eq page p) (sym (found_is key pages.entries entry found)) ∙ turned key page apart)
-        ∙ lookup-without key page pages.entries apart ∙ is
-
-pub last_promoted : (files : List (Option LastPage)) (pages : Pages) (wanted : PageKey) → AreLastKept files pages
-    → AreLastKept files (record pages { entries = promoted (page_eq wanted) pages.entries })
-last_promoted files pages wanted kept page bytes is = lookup-promoted wanted page pages.entries ∙ kept page bytes is
-
-pub last_put : (old new : List (Option LastPage)) (pages : Pages) (page : PageKey) (held : List ℕ) → lookup (page_eq page) pages.entries ≡ Some held
-    → AreLastKept old pages → PutsLast page held old new → AreLastKept new pages
-last_put old new pages page held found kept puts other bytes is = ⊎_elim
-    (λ this. ap (λ (p : PageKey). lookup (page_eq p) pages.entries) this.0 ∙ found ∙ ap Some (sym this.1))
-    (λ was. kept other bytes was.1)
+-- a page that comes to the front is the first of its file; of another file, what was the first stays so
+put_front : (old new : List (Option LastPage)) (page : PageKey) (held : List ℕ) (rest : Entries) → PutsLast page held old new → (other : PageKey)
+    (bytes : List ℕ) → last_page new other ≡ Some bytes
+    → (nat_eq page.file other.file ≡ false → last_page old other ≡ Some bytes
+    → lookup_entry (λ (p : PageKey). nat_eq p.file other.file) rest ≡ Some (other, bytes))
+    → lookup_entry (λ (p : PageKey). nat_eq p.file other.file) ((page, held) ∷ rest) ≡ Some (other, bytes)
+put_front old new page held rest puts other bytes is later = ⊎_elim
+    (λ (this : (other ≡ page) × (bytes ≡ held)).
+    ap (λ b. cond b (Some (page, held)) (lookup_entry (λ (p : PageKey). nat_eq p.file other.file) rest)) (one_file this.0)
+    ∙ ap Some (ap (λ (p : PageKey). (p, held)) (sym this.0) ∙ ap (λ (b : List ℕ). (other, b)) (sym this.1)))
+    (λ (was : (nat_eq page.file other.file ≡ false) × (last_page old other ≡ Some bytes)).
+    ap (λ b. cond b (Some (page, held)) (lookup_entry (λ (p : PageKey). nat_eq p.file other.file) rest)) was.0 ∙ later was.0 was.1)
     (puts other bytes is)
+  where
+    equal : (n : ℕ) → nat_eq n n ≡ true
+    equal n = grind (arith, nat_tests)
 
-pub last_forgotten : (old new : List (Option LastPage)) (pages : Pages) (page : PageKey) → AreLastKept old pages → ForgetsLast page old new
-    → AreLastKept new (record pages { entries = remove_entry (page_eq page) pages.entries })
-last_forgotten old new pages page kept forgets other bytes is =
+    one_file : other ≡ page → nat_eq page.file other.file ≡ true
+    one_file e = ap (λ (p : PageKey). nat_eq page.file p.file) e ∙ equal page.file
+
+-- a page is used
+pub last_used : (old new : List (Option LastPage)) (pages : Pages) (wanted : PageKey) (held : List ℕ) → lookup (page_eq wanted) pages.entries ≡ Some held
+    → AreFirst old pages → PutsLast wanted held old new → AreFirst new (record pages { entries = promoted (page_eq wanted) pages.entries })
+last_used old new pages wanted held found firsts puts other bytes is = pick (lookup_entry (page_eq wanted) pages.entries) refl
+  where
+    by : (entry : PageKey × List ℕ) → lookup_entry (page_eq wanted) pages.entries ≡ Some entry
+        → lookup_entry (λ (p : PageKey). nat_eq p.file other.file) (entry ∷ remove_entry (page_eq wanted) pages.entries) ≡ Some (other, bytes)
+    by entry at =
+        let value : entry.1 ≡ held = some_is entry.1 held (sym (lookup_found wanted pages.entries entry at) ∙ found) in
+        let its : (wanted, held) ≡ entry
+        = ap (λ (p : PageKey). (p, held)) (found_is wanted pages.entries entry at) ∙ ap (λ (b : List ℕ). (entry.0, b)) (sym value) in
+        ap (λ (e : PageKey × List ℕ). lookup_entry (λ (p : PageKey). nat_eq p.file other.file) (e ∷ remove_entry (page_eq wanted) pages.entries)) (sym its)
+        ∙ put_front old new wanted held (remove_entry (page_eq wanted) pages.entries) puts other bytes is
+        (λ apart was. lookup_entry-without (λ (p : PageKey). nat_eq p.file other.file) wanted pages.entries (other, bytes) (firsts other bytes was)
+        (files_apart wanted other apart))
+
+    pick : (at : Option (PageKey × List ℕ)) → lookup_entry (page_eq wanted) pages.entries ≡ at
+        → lookup_entry (λ (p : PageKey). nat_eq p.file other.file) (option_map_or (λ e. e ∷ remove_entry (page_eq wanted) pages.entries) at pages.entries)
+        ≡ Some (other, bytes)
+    pick None none = absurd (false≢true (ap is_some (sym (lookup-unfound wanted pages.entries none) ∙ found)))
+    pick (Some entry) at = by entry at
+
+pub last_forgotten : (old new : List (Option LastPage)) (pages : Pages) (page : PageKey) → AreFirst old pages → ForgetsLast page old new
+    → AreFirst new (record pages { entries = remove_entry (page_eq page) pages.entries })
+last_forgotten old new pages page firsts forgets other bytes is =
     let was = forgets other bytes is in
-    lookup-without page other pages.entries was.0 ∙ kept other bytes was.1
+    lookup_entry-without (λ (p : PageKey). nat_eq p.file other.file) page pages.entries (other, bytes) (firsts other bytes was.1) was.0
 
 pub last_pushed : (old mid new : List (Option LastPage)) (pages after : Pages) (key : PageKey) (held : List ℕ) (went : Option (PageKey × List ℕ))
     → length pages.entries ≤ pages.cap → 0 < pages.cap
-    → AreLastKept old pages → PutsLast key held old mid → went ≡ displaced page_eq pages key held → ForgetsGone went mid new
-    → after ≡ lru_cache (put_entries page_eq pages key held) pages.cap → AreLastKept new after
-last_pushed old mid new pages after key held went fits room kept puts gone_is forgets after_is other bytes is =
-    let stays = forgets other bytes is in
-    ap (λ (p : Pages). lookup (page_eq other) p.entries) after_is
-    ∙ ⊎_elim
-    (λ this. ap (λ (p : PageKey). lookup (page_eq p) (put_entries page_eq pages key held)) this.0 ∙ lookup-put_entries page_eq pages key held page_laws
-    ∙ ap Some (sym this.1))
-    (λ was. lookup-pushed pages key other held bytes was.0 (kept other bytes was.1) fits room (λ pair at. stays.0 pair (gone_is ∙ at)))
-    (puts other bytes stays.1)
+    → AreFirst old pages → PutsLast key held old mid → went ≡ displaced page_eq pages key held → ForgetsGone went mid new
+    → after ≡ lru_cache (put_entries page_eq pages key held) pages.cap → AreFirst new after
+last_pushed old mid new pages after key held went fits room firsts puts gone_is forgets after_is other bytes is =
+    ap (λ (p : Pages). first_of other.file p) after_is ∙ pick (lookup_entry (page_eq key) pages.entries) refl
+  where
+    pick : (at : Option (PageKey × List ℕ)) → lookup_entry (page_eq key) pages.entries ≡ at
+        → lookup_entry (λ (p : PageKey). nat_eq p.file other.file) (option_map_or (λ e. (e.0, held) ∷ remove_entry (page_eq key) pages.entries) at
+        ((key, held) ∷ take (pages.cap - 1) pages.entries)) ≡ Some (other, bytes)
+    pick None none =
+        put_front old mid key held (take (pages.cap - 1) pages.entries) puts other bytes (forgets other bytes is).1
+        (λ apart was. lookup_entry-take (pages.cap - 1) (λ (p : PageKey). nat_eq p.file other.file) pages.entries (other, bytes) (firsts other bytes was)
+        (omega (arith, fits, room))
+        (λ gone there. (forgets other bytes is).0 gone (gone_is
+        ∙ ap (λ (o : Option (List ℕ)). option_map_or (λ old. Some (key, old)) o (slice_get pages.entries (pages.cap - 1)))
+        (lookup-unfound key pages.entries none) ∙ there)))
+    pick (Some entry) at =
+        ap (λ (k : PageKey). lookup_entry (λ (p : PageKey). nat_eq p.file other.file) ((k, held) ∷ remove_entry (page_eq key) pages.entries))
+        (sym (found_is key pages.entries entry at))
+        ∙ put_front old mid key held (remove_entry (page_eq key) pages.entries) puts other bytes (forgets other bytes is).1
+        (λ apart was. lookup_entry-without (λ (p : PageKey). nat_eq p.file other.file) key pages.entries (other, bytes) (firsts other bytes was)
+        (files_apart key other apart))
 
-pub last_refused : (old mid new : List (Option LastPage)) (pages : Pages) (key : PageKey) (held : List ℕ) → AreLastKept old pages → PutsLast key held old mid
-    → ForgetsLast key mid new → AreLastKept new pages
-last_refused old mid new pages key held kept puts forgets other bytes is =
+pub last_refused : (old mid new : List (Option LastPage)) (pages : Pages) (key : PageKey) (held : List ℕ) → AreFirst old pages → PutsLast key held old mid
+    → ForgetsLast key mid new → AreFirst new pages
+last_refused old mid new pages key held firsts puts forgets other bytes is =
     let was = forgets other bytes is in
     ⊎_elim
     (λ this. absurd (false≢true (sym was.0 ∙ ap (λ (p : PageKey). page_eq key p) this.0 ∙ page_eq-same key)))
-    (λ before. kept other bytes before.1)
+    (λ before. firsts other bytes before.1)
     (puts other bytes was.1)

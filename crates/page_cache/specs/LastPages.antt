@@ -1,7 +1,6 @@
 -- Of each file the page that was used last.
 use Rattle.std.specs.Prelude.{◌≡◌, ◌⊎◌, ℕ, List, Option, Some, None, cond, false, nat_eq, slice_get}
-use Rattle.std.specs.Map.{lookup}
-use Rattle.page_cache.specs.Pages.{Pages, page_eq}
+use Rattle.page_cache.specs.Pages.{Pages, first_of, page_eq}
 use Rattle.page_cache.specs.declared.page.PageKey.{PageKey}
 use Rattle.page_cache.specs.declared.last_pages.LastPage.{LastPage}
 
@@ -15,10 +14,10 @@ numbered number None = None
 abbrev pub last_page : List (Option LastPage) → PageKey → Option (List ℕ)
 last_page files page = numbered page.number (slice_get files page.file)
 
--- the last page of each file is among the pages
-abbrev pub AreLastKept : List (Option LastPage) → Pages → Type 0
-AreLastKept files pages = (page : PageKey) (bytes : List ℕ) → last_page files page ≡ Some bytes
-    → lookup (page_eq page) pages.entries ≡ Some bytes
+-- the last page of each file stands first, of that file's pages
+abbrev pub AreFirst : List (Option LastPage) → Pages → Type 0
+AreFirst files pages = (page : PageKey) (bytes : List ℕ) → last_page files page ≡ Some bytes
+    → first_of page.file pages ≡ Some (page, bytes)
 
 -- each last page was one before, and isn't this one
 abbrev pub ForgetsLast : PageKey → List (Option LastPage) → List (Option LastPage) → Type 0
@@ -32,9 +31,9 @@ ForgetsGone gone old new = (other : PageKey) (bytes : List ℕ) → last_page ne
     → ((pair : PageKey × List ℕ) → gone ≡ Some pair → page_eq pair.0 other ≡ false)
     × (last_page old other ≡ Some bytes)
 
--- each last page is this one, with these bytes, or another that was one before
+-- each last page is this one, with these bytes, or one of another file that was one before
 abbrev pub PutsLast : PageKey → List ℕ → List (Option LastPage) → List (Option LastPage) → Type 0
 PutsLast page held old new = (other : PageKey) (bytes : List ℕ)
     → last_page new other ≡ Some bytes
     → ((other ≡ page) × (bytes ≡ held))
-    ⊎ ((page_eq page other ≡ false) × (last_page old other ≡ Some bytes))
+    ⊎ ((nat_eq page.file other.file ≡ false) × (last_page old other ≡ Some bytes))

@@ -13,12 +13,13 @@ use Rattle.std.specs.Prelude.{
   ◌∷◌,
   Contains,
   Option,
+  Some,
   nat_eq,
   length,
   take,
   drop,
 }
-use Rattle.std.specs.Map.{lookup, remove_entry}
+use Rattle.std.specs.Map.{lookup, lookup_entry, remove_entry}
 use Rattle.lru.specs.LruCache.{LruCache, promoted, put_entries}
 use Rattle.disk_model.specs.Contents.{Files, Holds}
 use Rattle.rec_bytes.specs.declared.key.Key.{Key}
@@ -74,12 +75,21 @@ abbrev pub without_pages : Pairs → Pages → Pages
 without_pages [] pages = pages
 without_pages (pair ∷ rest) pages = without_pages rest (without_page pair.0 pages)
 
--- The page of the record, if it is kept, is the first, or each page stays in its place. No page
--- comes or goes, and each has its bytes.
-abbrev pub IsUsed : Key → Pages → Pages → Type 0
-IsUsed key old new = (new ≡ old) ⊎ (new ≡ used_last key old)
+-- of the pages of a file, the one that stands first in the list, with its bytes
+abbrev pub first_of : ℕ → Pages → Option (PageKey × List ℕ)
+first_of file pages = lookup_entry (λ page. nat_eq page.file file) pages.entries
 
--- the page of a record was put in, or no page came or went
+-- of the kept pages of its file, the page of the record is the one that was used last
+abbrev pub IsLastUsed : Key → Pages → Type 0
+IsLastUsed key pages = (bytes : List ℕ) × (first_of key.file pages ≡ Some (page_of key, bytes))
+
+-- A hit puts the page of the record first. Only where that page was used last, of those of its
+-- file, may each page stay in its place. No page comes or goes, and each has its bytes. If the page
+-- isn't kept, the list stays as it is.
+abbrev pub IsUsed : Key → Pages → Pages → Type 0
+IsUsed key old new = (IsLastUsed key old × (new ≡ old)) ⊎ (new ≡ used_last key old)
+
+-- the page of the record was used or put in, and no other came
 abbrev pub KeepsPage : Key → Pages → Pages → Type 0
 KeepsPage key old new = IsUsed key old new ⊎ ((bytes : List ℕ) × (new ≡ with_page key bytes old))
 

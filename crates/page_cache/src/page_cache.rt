@@ -24,7 +24,8 @@ use std::num::NonZeroUsize;
 #[derive(Drop)]
 pub struct PageCache {
     pages: LruCache<PageKey, Page>,
-    // Of each file the page that was used last, where it is among the pages.
+    // Of each file the page that was used last, where it is among the pages: the first of the list
+    // that is of this file.
     last: LastPages,
     // The memory of a page that went, for the next one.
     spare: Option<Page>,
@@ -33,13 +34,13 @@ pub struct PageCache {
 
 impl Model for PageCache {
     ghost use Rattle.page_cache.specs.Pages.{Pages};
-    ghost use Rattle.page_cache.specs.LastPages.{AreLastKept};
+    ghost use Rattle.page_cache.specs.LastPages.{AreFirst};
 
     ghost Value = { Pages };
 
     ghost view = { λ c. c.pages };
 
-    ghost invariant = { λ c. AreLastKept c.last.files c.pages };
+    ghost invariant = { λ c. AreFirst c.last.files c.pages };
 }
 
 impl PageCache {
@@ -69,7 +70,7 @@ impl PageCache {
     /// The record at a key, as it stands in its file. If its page is kept, no call of the disk is
     /// made, and otherwise one. A page that was read is kept, if there is memory for it, and the
     /// last one of the list goes. A hit puts its page first there, but for one on the page that was
-    /// the last of its file already, which neither hashes nor moves a page.
+    /// used last of its file already, which neither hashes nor moves a page.
     pub fn get<D: Disk>(&mut self, disk: &mut D, key: Key) -> Result<Rec, DiskFault>
         requires { IsKey key }
         ensures record { D.tells_reads → Agrees (D.reads disk.old) self.old
@@ -207,7 +208,7 @@ impl PageCache {
         ensures err { OnErr result (rec.new ≡ rec.old) }
         ensures agrees { D.tells_reads → Agrees (D.reads disk.old) self.old
             → Agrees (D.reads disk.new) self.new }
-        ensures pages { KeepsPage key self.old self.new }
+        ensures pages { kept_page key self.old ≡ None → KeepsPage key self.old self.new }
         ensures told { kept_page key self.old ≡ None
             → IfOk result (λ kept. kept ≡ is_some (kept_page key self.new)) }
         ensures only_reads { OnlyReads D.Disk disk.old disk.new }

@@ -1,6 +1,6 @@
 -- Reads of one record, by where it is found.
-use Rattle.std.proofs.Common.{◌≡◌, ◌∙◌, ap, inl, sym, refl, subst, Bool, true, false, ◌||◌}
-use Rattle.std.proofs.lemmas.Bool.{or_left, or_right}
+use Rattle.std.proofs.Common.{◌≡◌, ◌∙◌, ap, sym, refl, subst, Bool, IsTrue, true, false, ◌||◌}
+use Rattle.std.proofs.lemmas.Bool.{false≢true, or_left, or_right}
 use Rattle.disk_model.specs.declared.disk.Disk.{Ghosts}
 use Rattle.rec_bytes.specs.declared.key.Key.{Key}
 use Rattle.page_cache.proofs.Keeping.{stay_none}
@@ -25,12 +25,12 @@ neither changed meta none no_meta = no_meta ∙ ap (λ (b : Bool). b || meta) no
 
 module _ {D : Type 0} {g : Ghosts D} (key : Key) where
   -- the record was in memory
-  pub through_none : (in_memory : Bool) (b : Base D g) → ReadsThrough in_memory key b b true
-  through_none in_memory b = record {
+  pub through_none : (in_memory : Bool) (b : Base D g) → IsTrue in_memory → ReadsThrough in_memory key b b true
+  through_none in_memory b there = record {
     memory = λ _. (refl, refl);
     hit = λ _. (refl, refl);
-    used = λ _. inl refl;
-    pages = inl (inl refl);
+    used = λ none _. absurd (false≢true (sym none ∙ there));
+    pages = λ none. absurd (false≢true (sym none ∙ there));
     stay = stay_none b.cache;
   }
 

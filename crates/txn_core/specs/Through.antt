@@ -1,5 +1,5 @@
 -- Which records are at hand, and what reading one leaves of the pages.
-use Rattle.std.specs.Prelude.{◌≡◌, Bool, true, ◌||◌, IsSome, IsTrue, is_some}
+use Rattle.std.specs.Prelude.{◌≡◌, Bool, true, false, ◌||◌, IsSome, IsTrue, is_some}
 use Rattle.disk_model.specs.declared.disk.Disk.{Ghosts}
 use Rattle.rec_bytes.specs.declared.key.Key.{Key}
 use Rattle.rec_bytes.specs.Pairs.{Pairs, find_pair}
@@ -32,14 +32,15 @@ module _ {D : Type 0} {g : Ghosts D} where
   at_hand in_memory key b = in_memory || is_some (kept_page key b.cache)
 
   -- What reading the record of a key leaves, and whether it is sure to succeed. Where the record is
-  -- in memory, all is as it was. Where its page is kept, the disk is as it was, and no page comes
-  -- or goes. Else its page is the only one that may come. No page goes unless as many are kept as
-  -- there may be.
+  -- in memory, all is as it was. Else, where its page is kept, the disk is as it was, no page comes
+  -- or goes, and its page goes to the front, or was the one of its file that was used last. Else its
+  -- page is the only one that may come. No page goes unless as many are kept as there may be.
   pub record ReadsThrough (in_memory : Bool) (key : Key) (old new : Base D g) (succeeds : Bool)
       : Type 0 where
     pub memory : IsTrue in_memory → (succeeds ≡ true) × (new ≡ old)
     pub hit : IsSome (kept_page key old.cache)
         → (succeeds ≡ true) × (new.disk.now ≡ old.disk.now)
-    pub used : IsSome (kept_page key old.cache) → IsUsed key old.cache new.cache
-    pub pages : KeepsPage key old.cache new.cache
+    pub used : in_memory ≡ false → IsSome (kept_page key old.cache)
+        → IsUsed key old.cache new.cache
+    pub pages : in_memory ≡ false → KeepsPage key old.cache new.cache
     pub stay : StayKept old.cache new.cache

@@ -1,7 +1,7 @@
 use Rattle.std.proofs.Common.{ap, sym, subst, List, ℕ}
 use Rattle.lru.specs.LruCache.{LruCache}
 use Rattle.page_cache.specs.declared.page.PageKey.{PageKey}
-use Rattle.page_cache.specs.LastPages.{AreLastKept}
+use Rattle.page_cache.specs.LastPages.{AreFirst}
 use Rattle.page_cache.specs.Pages.{Agrees}
 use Rattle.page_cache.proofs.Agreement.{agrees_forgotten, gone_forgotten}
 use Rattle.page_cache.proofs.LastPages.{last_forgotten}
@@ -21,5 +21,5 @@ returns-clause-gone c bytes =
 
 pub invariant_of-self : goal.invariant_of-self
 invariant_of-self c =
-    subst (AreLastKept c.forget.new.self.files) (sym c.pop.ensures.entries)
+    subst (AreFirst c.forget.new.self.files) (sym c.pop.ensures.entries)
     (last_forgotten c.self.inside.last.files c.forget.new.self.files c.self.inside.pages c.of-page.result c.self.invariant c.forget.ensures)

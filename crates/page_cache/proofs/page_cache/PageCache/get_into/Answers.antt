@@ -1,7 +1,7 @@
 use Rattle.std.proofs.Common.{◌≡◌, ◌∙◌, ap, is_some, subst, sym}
 use Rattle.page_cache.specs.Pages.{KeepsPage, Pages, kept_page}
 use Rattle.page_cache.specs.Staying.{StayKept}
-use Rattle.page_cache.proofs.Keeping.{kept_used, none_kept, stay_missed, stay_none, stay_used}
+use Rattle.page_cache.proofs.Keeping.{keeps_missed, kept_used, none_kept, stay_missed, stay_none, stay_used}
 use Rattle.page_cache.proofs.page_cache.PageCache.get_into.Goals as goal
 
 pub returns-then-find_into-clause-told : goal.returns-then-find_into-clause-told
@@ -14,8 +14,22 @@ returns-then-find_into-clause-stay g c = stay_used c.args.key c.args.self.now c.
 
 pub returns-in-Ok-clause-pages : goal.returns-in-Ok-clause-pages
 returns-in-Ok-clause-pages g c =
-    subst (λ pages. KeepsPage c.args.key pages c.load.new.self) (c.spare_page.ensures ∙ (c.find_into.ensures.absent c.if-find_into.false).1)
-    c.load.ensures.pages
+    let same : c.spare_page.new.self ≡ c.args.self.now = c.spare_page.ensures ∙ (c.find_into.ensures.absent c.if-find_into.false).1 in
+    let none = none_kept c.args.key c.args.self.now (sym c.if-find_into.false ∙ c.find_into.ensures.kept) in
+    subst (λ pages. KeepsPage c.args.key pages c.load.new.self) same
+    (c.load.ensures.pages (ap (λ (pages : Pages). kept_page c.args.key pages) same ∙ none))
+
+pub returns-in_ok-rec-in-Err-clause-pages : goal.returns-in_ok-rec-in-Err-clause-pages
+returns-in_ok-rec-in-Err-clause-pages g c =
+    let same : c.spare_page.new.self ≡ c.args.self.now = c.spare_page.ensures ∙ (c.find_into.ensures.absent c.if-find_into.false).1 in
+    keeps_missed c.args.key c.args.self.now c.spare_page.new.self
+    (none_kept c.args.key c.args.self.now (sym c.if-find_into.false ∙ c.find_into.ensures.kept)) same
+
+pub returns-in_err-rec-in-Err-clause-pages : goal.returns-in_err-rec-in-Err-clause-pages
+returns-in_err-rec-in-Err-clause-pages g c =
+    let same : c.spare_page.new.self ≡ c.args.self.now = c.spare_page.ensures ∙ (c.find_into.ensures.absent c.if-find_into.false).1 in
+    keeps_missed c.args.key c.args.self.now c.spare_page.new.self
+    (none_kept c.args.key c.args.self.now (sym c.if-find_into.false ∙ c.find_into.ensures.kept)) same
 
 pub returns-in-Ok-clause-told : goal.returns-in-Ok-clause-told
 returns-in-Ok-clause-told g c =
@@ -26,8 +40,10 @@ returns-in-Ok-clause-told g c =
 pub returns-in-Ok-clause-stay : goal.returns-in-Ok-clause-stay
 returns-in-Ok-clause-stay g c =
     let same : c.spare_page.new.self ≡ c.args.self.now = c.spare_page.ensures ∙ (c.find_into.ensures.absent c.if-find_into.false).1 in
-    stay_missed c.args.key c.args.self.now c.load.new.self (none_kept c.args.key c.args.self.now (sym c.if-find_into.false ∙ c.find_into.ensures.kept))
-    (subst (λ pages. KeepsPage c.args.key pages c.load.new.self) same c.load.ensures.pages)
+    let none = none_kept c.args.key c.args.self.now (sym c.if-find_into.false ∙ c.find_into.ensures.kept) in
+    stay_missed c.args.key c.args.self.now c.load.new.self none
+    (subst (λ pages. KeepsPage c.args.key pages c.load.new.self) same
+    (c.load.ensures.pages (ap (λ (pages : Pages). kept_page c.args.key pages) same ∙ none)))
 
 pub returns-in_ok-rec-in-Err-clause-told : goal.returns-in_ok-rec-in-Err-clause-told
 returns-in_ok-rec-in-Err-clause-told g c =

@@ -1,5 +1,5 @@
 use Rattle.std.proofs.Common.{sym, subst}
-use Rattle.page_cache.specs.LastPages.{AreLastKept}
+use Rattle.page_cache.specs.LastPages.{AreFirst}
 use Rattle.page_cache.proofs.LastPages.{last_pushed, last_refused}
 use Rattle.page_cache.proofs.page_cache.PageCache.keep.Goals as goal
 
@@ -11,6 +11,6 @@ invariant_of-self c =
 
 pub invariant_of-self-in-Err : goal.invariant_of-self-in-Err
 invariant_of-self-in-Err c =
-    subst (AreLastKept c.forget.new.self.files) (sym c.in-Err.ensures.err)
+    subst (AreFirst c.forget.new.self.files) (sym c.in-Err.ensures.err)
     (last_refused c.self.inside.last.files c.put.new.self.files c.forget.new.self.files c.self.inside.pages c.args.key c.args.page c.self.invariant
     c.put.ensures c.forget.ensures)

@@ -1,5 +1,5 @@
 use Rattle.std.proofs.Common.{◌∙◌, ap, is_some, refl, sym, false, Bool, Option, None, Some, ◌||◌, ◌≡◌}
-use Rattle.std.proofs.lemmas.Bool.{false≢true}
+use Rattle.std.proofs.lemmas.Bool.{false≢true, or_left, or_right}
 use Rattle.std.proofs.lemmas.Result.{IfOk-weaker}
 use Rattle.record_file.specs.MetaFile.{find_meta}
 use Rattle.page_cache.specs.Pages.{kept_page}
@@ -17,7 +17,10 @@ pub invariant_of-self-clause-cached : goal.invariant_of-self-clause-cached
 invariant_of-self-clause-cached g c = λ reads. c.get_into.ensures.agrees reads (c.args.self.now.cached reads)
 
 pub returns-then-found_into-clause-through : goal.returns-then-found_into-clause-through
-returns-then-found_into-clause-through g c = through_none c.args.key (holds_committed c.args.self.now c.args.key) c.args.self.now
+returns-then-found_into-clause-through g c =
+    let b = c.args.self.now in
+    through_none c.args.key (holds_committed b c.args.key) b
+    (or_left (has_key b.changed.pairs c.args.key) (is_some (find_meta b.metas.records c.args.key)) (sym c.found_into.ensures.found ∙ c.if-found_into.true))
 
 pub returns-then-found_into-clause-told : goal.returns-then-found_into-clause-told
 returns-then-found_into-clause-told g c =
@@ -26,7 +29,10 @@ returns-then-found_into-clause-told g c =
     (sym c.if-found_into.true ∙ c.found_into.ensures.found)
 
 pub returns-in-Some-clause-through : goal.returns-in-Some-clause-through
-returns-in-Some-clause-through g c = through_none c.args.key (holds_committed c.args.self.now c.args.key) c.args.self.now
+returns-in-Some-clause-through g c =
+    let b = c.args.self.now in
+    through_none c.args.key (holds_committed b c.args.key) b
+    (or_right (has_key b.changed.pairs c.args.key) (is_some (find_meta b.metas.records c.args.key)) (sym (ap is_some c.in-Some.ensures)))
 
 pub returns-in-Some-clause-told : goal.returns-in-Some-clause-told
 returns-in-Some-clause-told g c =
@@ -48,8 +54,8 @@ returns-clause-through g c =
     record {
       memory = λ yes. absurd (false≢true (none ∙ yes));
       hit = c.get_into.ensures.hit;
-      used = c.get_into.ensures.used;
-      pages = c.get_into.ensures.pages;
+      used = λ _. c.get_into.ensures.used;
+      pages = λ _. c.get_into.ensures.pages;
       stay = c.get_into.ensures.stay;
     }
 

@@ -1,4 +1,5 @@
 use Rattle.std.proofs.Common.{◌∙◌, ap, is_ok, is_some, sym, false, Bool, ◌||◌, ◌≡◌}
+use Rattle.std.proofs.lemmas.Bool.{or_left}
 use Rattle.std.proofs.lemmas.Result.{IfOk-weaker}
 use Rattle.rec_bytes.specs.Pairs.{Held}
 use Rattle.page_cache.specs.Pages.{kept_page}
@@ -7,7 +8,10 @@ use Rattle.txn_core.proofs.Through.{through_beneath, through_none, told_beneath,
 use Rattle.txn_core.proofs.base.Base.fetch_into.Goals as goal
 
 pub returns-then-found_into-clause-through : goal.returns-then-found_into-clause-through
-returns-then-found_into-clause-through g c = through_none c.args.key (holds_working c.args.self.now c.args.key) c.args.self.now
+returns-then-found_into-clause-through g c =
+    let b = c.args.self.now in
+    through_none c.args.key (holds_working b c.args.key) b
+    (or_left (has_key b.own.pairs c.args.key) (holds_committed b c.args.key) (sym c.found_into.ensures.found ∙ c.if-found_into.true))
 
 pub returns-then-found_into-clause-told : goal.returns-then-found_into-clause-told
 returns-then-found_into-clause-told g c =

@@ -1,4 +1,5 @@
 use Rattle.std.proofs.Common.{◌∙◌, is_ok, is_some, refl, sym, Bool, ◌||◌, ◌≡◌}
+use Rattle.std.proofs.lemmas.Bool.{or_left}
 use Rattle.std.proofs.lemmas.Result.{IfOk-weaker}
 use Rattle.page_cache.specs.Pages.{kept_page}
 use Rattle.txn_core.specs.Base.{working}
@@ -8,7 +9,10 @@ use Rattle.txn_core.proofs.Through.{through_beneath, through_none, told_beneath,
 use Rattle.txn_core.proofs.store.Store.read_into.Goals as goal
 
 pub returns-then-found_into-clause-through : goal.returns-then-found_into-clause-through
-returns-then-found_into-clause-through g c = through_none c.args.key (holds_drafted c.args.self.now c.args.key) c.args.self.now.base
+returns-then-found_into-clause-through g c =
+    let s = c.args.self.now in
+    through_none c.args.key (holds_drafted s c.args.key) s.base
+    (or_left (has_key s.draft.pairs c.args.key) (holds_working s.base c.args.key) (sym c.found_into.ensures.found ∙ c.if-found_into.true))
 
 pub returns-then-found_into-clause-told : goal.returns-then-found_into-clause-told
 returns-then-found_into-clause-told g c =
