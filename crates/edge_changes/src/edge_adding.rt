@@ -9,7 +9,9 @@ ghost use Rattle.plain_graph.specs.Reply.{EdgeMade};
 ghost use Rattle.plain_graph.specs.declared.command.Command.TheVariants as commands;
 ghost use Rattle.plain_graph.specs.declared.command.Target.TheVariants as targets;
 ghost use Rattle.plain_graph.specs.declared.pairs.Pair.{Pair};
-ghost use Rattle.rec_bytes.specs.Space.{SameButReads};
+ghost use Rattle.rec_bytes.specs.Format.{relationships_file};
+ghost use Rattle.rec_bytes.specs.Space.{SameButReads, meta_of};
+ghost use Rattle.id_freelist.specs.Taking.{taken_id};
 ghost use Rattle.store_rules.specs.Writes.{WritesAtMost};
 ghost use Rattle.change_parts.specs.Causes.{IsCaused, IsStillCaused};
 ghost use Rattle.change_parts.specs.Change.{IsCounted, IsRefusal, MakesChange};
@@ -45,6 +47,9 @@ pub fn add_edge<S: Space>(
     ensures made { S.tells → IfOk result (λ added. IsStore (S.state space.old) names.old.names
         → MakesChange (commands.Edge from label.now to pairs.now) (EdgeMade added.id) added.weight
         (S.state space.old) (S.state space.new) names.new.names) }
+    // its identifier is the free one that was given back last, or else the mark
+    ensures taken { S.tells → IfOk result (λ added.
+        added.id ≡ taken_id (meta_of (S.state space.old) relationships_file)) }
     ensures refused { S.tells → IsStore (S.state space.old) names.old.names
         → IfErr result (IsRefusal (S.state space.old).shape.limit (graph_in (S.state space.old))
         (commands.Edge from label.now to pairs.now)) }

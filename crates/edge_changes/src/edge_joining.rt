@@ -8,11 +8,11 @@ ghost use Rattle.rec_bytes.specs.declared.key.Key.{Key};
 ghost use Rattle.rec_bytes.specs.Key.{IsKey};
 ghost use Rattle.rec_bytes.specs.RecordFiles.{meta_key_of, room_of};
 ghost use Rattle.rec_bytes.specs.Record.{field};
-ghost use Rattle.rec_bytes.specs.Space.{SameButReads, State, WritesOnly, after_put};
+ghost use Rattle.rec_bytes.specs.Space.{SameButReads, State, WritesOnly, after_put, meta_of};
 ghost use Rattle.rec_bytes.specs.declared.record.Rec.{Rec};
 ghost use Rattle.id_freelist.specs.FreeLists.{IsFreeList};
 ghost use Rattle.id_freelist.specs.ListDamage.{HarmsNoList, IsListDamage};
-ghost use Rattle.id_freelist.specs.Taking.{HasTaken, taken};
+ghost use Rattle.id_freelist.specs.Taking.{HasTaken, taken, taken_id};
 ghost use Rattle.rel_store.specs.Loading.{rel_mark};
 ghost use Rattle.rel_store.specs.RelRecord.{rel_key};
 ghost use Rattle.store_rules.specs.Rules.{KeepsRules, first_of};
@@ -57,6 +57,8 @@ pub(crate) fn join_edge<S: Space>(
         → CanJoin (S.state space.old) names label ends → slice_get names label ≡ Some text
         → PutsEdge (S.state space.old) (S.state space.new) names (source_of ends).node text
         (target_of ends).node id) }
+    ensures is { IfOk result
+        (λ id. id ≡ taken_id (meta_of (S.state space.old) relationships_file)) }
     ensures sound { S.tells → (names : List (List ℕ)) (text : List ℕ)
         → CanJoin (S.state space.old) names label ends → slice_get names label ≡ Some text
         → HasRoom (S.state space.old) relationships_file 1 → IfErr result IsOutside }
@@ -88,6 +90,8 @@ pub(crate) fn join_edge<S: Space>(
 fn place<S: Space>(space: &mut S, label: u32, from: u32, to: u32) -> Result<u32, ChangeFault>
     ensures placed { S.tells → IfOk result (λ id.
         HasPlaced (S.state space.old) (S.state space.new) label from to id) }
+    ensures is { IfOk result
+        (λ id. id ≡ taken_id (meta_of (S.state space.old) relationships_file)) }
     ensures sound { S.tells → (most : ℕ) (empty : List ℕ)
         → KeepsRules (S.state space.old).records (S.state space.old).shape most empty
         → HasRoom (S.state space.old) relationships_file 1 → IfErr result IsOutside }
@@ -128,6 +132,8 @@ fn take_id<S: Space>(space: &mut S) -> Result<u32, ChangeFault>
         → IsFreeList (S.state space.old).records relationships_file free
         → HasTaken (S.state space.old).records (S.state space.new).records
         relationships_file id free) }
+    ensures is { IfOk result
+        (λ id. id ≡ taken_id (meta_of (S.state space.old) relationships_file)) }
     ensures sound { S.tells → (most : ℕ) (empty : List ℕ)
         → KeepsRules (S.state space.old).records (S.state space.old).shape most empty
         → HasRoom (S.state space.old) relationships_file 1 → IfErr result IsOutside }

@@ -5,7 +5,8 @@ ghost use Rattle.std.specs.Prelude.{slice_get};
 ghost use Rattle.plain_graph.specs.declared.command.Target.TheVariants as targets;
 ghost use Rattle.rec_bytes.specs.Format.{nodes_file, relationships_file};
 ghost use Rattle.rec_bytes.specs.Key.{IsKey};
-ghost use Rattle.rec_bytes.specs.Space.{SameButReads};
+ghost use Rattle.rec_bytes.specs.Space.{SameButReads, meta_of};
+ghost use Rattle.id_freelist.specs.Taking.{taken_id};
 ghost use Rattle.rel_store.specs.RelRecord.{rel_key};
 ghost use Rattle.store_rules.specs.Views.{key_in};
 ghost use Rattle.store_rules.specs.Writes.{WritesAtMost, WritesBeside};
@@ -57,6 +58,8 @@ pub(crate) fn put_edge<S: Space>(space: &mut S, joint: Joint) -> Result<u32, Cha
         → AtEach (HasEndDegree (S.state space.old).records) joint.ends
         → PutsEdge (S.state space.old) (S.state space.new) names (from_of joint) text
         (to_of joint) id) }
+    ensures is { S.tells → IfOk result
+        (λ id. id ≡ taken_id (meta_of (S.state space.old) relationships_file)) }
     ensures sound { S.tells → joint.threshold ≡ (S.state space.old).shape.threshold
         → (names : List (List ℕ)) (text : List ℕ)
         → IsMidway (S.state space.old) names → slice_get names joint.label ≡ Some text

@@ -6,7 +6,8 @@ use Rattle.plain_graph.specs.Reply.{EdgeMade}
 use Rattle.plain_graph.specs.declared.command.Command.TheVariants as commands
 use Rattle.plain_graph.specs.declared.command.Target.TheVariants as targets
 use Rattle.rec_bytes.specs.Format as format
-use Rattle.rec_bytes.specs.Space.{State}
+use Rattle.rec_bytes.specs.Space.{State, meta_of}
+use Rattle.id_freelist.specs.Taking.{taken_id}
 use Rattle.rec_bytes.specs.declared.shape.Shape.{Shape}
 use Rattle.rel_store.specs.RelRecord.{rel_key}
 use Rattle.store_rules.specs.Writes.{WritesBeside}
@@ -307,6 +308,12 @@ returns-clause-made g c tells whole =
     refl
     (c.ends_weight-moved.ensures.is ∙ ends_weigh c.shape-threshold.result.threshold c.args.from c.args.to ends c.in_ok-ends.ensures.ends
     ∙ ap (λ (h : Shape). degrees_weight h.threshold c.args.from (source_of ends).degree c.args.to (target_of ends).degree) c.shape-threshold.ensures.is)))
+
+-- the ends were only read before, the names were given numbers, and the relationships' meta record stayed
+pub returns-clause-taken : goal.returns-clause-taken
+returns-clause-taken g c tells =
+    c.in_ok-id.ensures.is tells ∙ ap taken_id ((c.in_ok-prepared.ensures.metas tells).edges
+    ∙ ap (λ (z : State). meta_of z format.relationships_file) c.end_degrees.ensures.state)
 
 -- its properties leave it in its place
 pub returns-clause-first : goal.returns-clause-first
@@ -663,6 +670,9 @@ returns-in_err-ends-clause-made g c _ = never_ok c.from_residual.result _ _ c.fr
 pub returns-in_err-ends-clause-weight : goal.returns-in_err-ends-clause-weight
 returns-in_err-ends-clause-weight g c _ _ _ _ _ = never_ok c.from_residual.result _ _ c.from_residual.ensures.1
 
+pub returns-in_err-ends-clause-taken : goal.returns-in_err-ends-clause-taken
+returns-in_err-ends-clause-taken g c _ = never_ok c.from_residual.result _ _ c.from_residual.ensures.1
+
 pub returns-in_err-ends-clause-first : goal.returns-in_err-ends-clause-first
 returns-in_err-ends-clause-first g c _ = never_ok c.from_residual.result _ _ c.from_residual.ensures.1
 
@@ -681,6 +691,9 @@ returns-in_err-test_room-clause-made g c _ = never_ok c.from_residual-in_err-tes
 pub returns-in_err-test_room-clause-weight : goal.returns-in_err-test_room-clause-weight
 returns-in_err-test_room-clause-weight g c _ _ _ _ _ = never_ok c.from_residual-in_err-test_room.result _ _ c.from_residual-in_err-test_room.ensures.1
 
+pub returns-in_err-test_room-clause-taken : goal.returns-in_err-test_room-clause-taken
+returns-in_err-test_room-clause-taken g c _ = never_ok c.from_residual-in_err-test_room.result _ _ c.from_residual-in_err-test_room.ensures.1
+
 pub returns-in_err-test_room-clause-first : goal.returns-in_err-test_room-clause-first
 returns-in_err-test_room-clause-first g c _ = never_ok c.from_residual-in_err-test_room.result _ _ c.from_residual-in_err-test_room.ensures.1
 
@@ -695,6 +708,9 @@ returns-in_err-prepared-clause-made g c _ = never_ok c.from_residual-in_err-prep
 
 pub returns-in_err-prepared-clause-weight : goal.returns-in_err-prepared-clause-weight
 returns-in_err-prepared-clause-weight g c _ _ _ _ _ = never_ok c.from_residual-in_err-prepared.result _ _ c.from_residual-in_err-prepared.ensures.1
+
+pub returns-in_err-prepared-clause-taken : goal.returns-in_err-prepared-clause-taken
+returns-in_err-prepared-clause-taken g c _ = never_ok c.from_residual-in_err-prepared.result _ _ c.from_residual-in_err-prepared.ensures.1
 
 pub returns-in_err-prepared-clause-first : goal.returns-in_err-prepared-clause-first
 returns-in_err-prepared-clause-first g c _ = never_ok c.from_residual-in_err-prepared.result _ _ c.from_residual-in_err-prepared.ensures.1
@@ -711,6 +727,9 @@ returns-in_err-id-clause-made g c _ = never_ok c.from_residual-in_err-id.result 
 pub returns-in_err-id-clause-weight : goal.returns-in_err-id-clause-weight
 returns-in_err-id-clause-weight g c _ _ _ _ _ = never_ok c.from_residual-in_err-id.result _ _ c.from_residual-in_err-id.ensures.1
 
+pub returns-in_err-id-clause-taken : goal.returns-in_err-id-clause-taken
+returns-in_err-id-clause-taken g c _ = never_ok c.from_residual-in_err-id.result _ _ c.from_residual-in_err-id.ensures.1
+
 pub returns-in_err-id-clause-first : goal.returns-in_err-id-clause-first
 returns-in_err-id-clause-first g c _ = never_ok c.from_residual-in_err-id.result _ _ c.from_residual-in_err-id.ensures.1
 
@@ -726,6 +745,9 @@ returns-in_err-put_properties-clause-made g c _ = never_ok c.from_residual-in_er
 pub returns-in_err-put_properties-clause-weight : goal.returns-in_err-put_properties-clause-weight
 returns-in_err-put_properties-clause-weight g c _ _ _ _ _ =
     never_ok c.from_residual-in_err-put_properties.result _ _ c.from_residual-in_err-put_properties.ensures.1
+
+pub returns-in_err-put_properties-clause-taken : goal.returns-in_err-put_properties-clause-taken
+returns-in_err-put_properties-clause-taken g c _ = never_ok c.from_residual-in_err-put_properties.result _ _ c.from_residual-in_err-put_properties.ensures.1
 
 pub returns-in_err-put_properties-clause-first : goal.returns-in_err-put_properties-clause-first
 returns-in_err-put_properties-clause-first g c _ = never_ok c.from_residual-in_err-put_properties.result _ _ c.from_residual-in_err-put_properties.ensures.1

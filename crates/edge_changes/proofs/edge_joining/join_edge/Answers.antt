@@ -73,6 +73,9 @@ returns-in_err-join_ends-clause-damaged g c tells heads has =
 pub returns-in_err-id-clause-joined : goal.returns-in_err-id-clause-joined
 returns-in_err-id-clause-joined g c _ = never_ok c.from_residual.result _ _ c.from_residual.ensures.1
 
+pub returns-in_err-id-clause-is : goal.returns-in_err-id-clause-is
+returns-in_err-id-clause-is g c = never_ok c.from_residual.result _ _ c.from_residual.ensures.1
+
 pub returns-in_err-id-clause-key : goal.returns-in_err-id-clause-key
 returns-in_err-id-clause-key g c = never_ok c.from_residual.result _ _ c.from_residual.ensures.1
 
@@ -84,6 +87,9 @@ returns-in_err-id-clause-onward g c = search rules
 
 pub returns-in_err-join_ends-clause-joined : goal.returns-in_err-join_ends-clause-joined
 returns-in_err-join_ends-clause-joined g c _ = never_ok c.from_residual-in_err-join_ends.result _ _ c.from_residual-in_err-join_ends.ensures.1
+
+pub returns-in_err-join_ends-clause-is : goal.returns-in_err-join_ends-clause-is
+returns-in_err-join_ends-clause-is g c = never_ok c.from_residual-in_err-join_ends.result _ _ c.from_residual-in_err-join_ends.ensures.1
 
 pub returns-in_err-join_ends-clause-key : goal.returns-in_err-join_ends-clause-key
 returns-in_err-join_ends-clause-key g c = never_ok c.from_residual-in_err-join_ends.result _ _ c.from_residual-in_err-join_ends.ensures.1

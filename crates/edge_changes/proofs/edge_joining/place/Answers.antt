@@ -104,6 +104,9 @@ returns-in_err-id-clause-placed g c _ = never_ok c.from_residual.result _ _ c.fr
 pub returns-in_err-id-clause-heads : goal.returns-in_err-id-clause-heads
 returns-in_err-id-clause-heads g c _ = never_ok c.from_residual.result _ _ c.from_residual.ensures.1
 
+pub returns-in_err-id-clause-is : goal.returns-in_err-id-clause-is
+returns-in_err-id-clause-is g c = never_ok c.from_residual.result _ _ c.from_residual.ensures.1
+
 pub returns-in_err-id-clause-key : goal.returns-in_err-id-clause-key
 returns-in_err-id-clause-key g c = never_ok c.from_residual.result _ _ c.from_residual.ensures.1
 
@@ -118,6 +121,9 @@ returns-in_err-save-clause-placed g c _ = never_ok c.from_residual-in_err-save.r
 
 pub returns-in_err-save-clause-heads : goal.returns-in_err-save-clause-heads
 returns-in_err-save-clause-heads g c _ = never_ok c.from_residual-in_err-save.result _ _ c.from_residual-in_err-save.ensures.1
+
+pub returns-in_err-save-clause-is : goal.returns-in_err-save-clause-is
+returns-in_err-save-clause-is g c = never_ok c.from_residual-in_err-save.result _ _ c.from_residual-in_err-save.ensures.1
 
 pub returns-in_err-save-clause-key : goal.returns-in_err-save-clause-key
 returns-in_err-save-clause-key g c = never_ok c.from_residual-in_err-save.result _ _ c.from_residual-in_err-save.ensures.1

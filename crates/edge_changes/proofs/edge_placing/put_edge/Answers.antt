@@ -1,10 +1,11 @@
 use Rattle.std.specs.Prelude.{slice_get}
-use Rattle.std.proofs.Common.{◌≡◌, ◌+◌, ℕ, List, Some, ap, subst, inl, arith}
+use Rattle.std.proofs.Common.{◌≡◌, ◌∙◌, ◌+◌, ℕ, List, Some, ap, subst, inl, arith}
 use Rattle.rec_bytes.specs.declared.meta.Meta.{Meta}
 use Rattle.rec_bytes.specs.declared.record.Rec.{Rec}
 use Rattle.rec_bytes.specs.Format as format
 use Rattle.rec_bytes.specs.Meta as metas
 use Rattle.rel_store.specs.RelRecord.{rel_key}
+use Rattle.id_freelist.specs.Taking.{taken_id}
 use Rattle.store_rules.specs.Writes.{WritesBeside}
 use Rattle.group_store.proofs.OwnGroups.{if_ok}
 use Rattle.change_parts.specs.ChangeFault.{IsOutside}
@@ -64,6 +65,15 @@ returns-clause-put g c tells limit =
     (subst (λ n. PutsEdge t u names n text (to_of c.args.joint) id) nodes.0 (subst (λ n. PutsEdge t u names (source_of c.in_ok-ends.ends).node text n id)
     nodes.1 (joined names text opens.can at))))
     (c.join_edge.ensures.joined tells)
+
+-- the ends' heads are found or made before, and the relationships' meta record stays
+pub returns-clause-is : goal.returns-clause-is
+returns-clause-is g c tells =
+    let same = ap (λ (r : Rec). taken_id (metas.meta_of r)) (c.in_ok-ends.ensures.beside tells) in
+    if_ok c.join_edge.result _ _ (λ id taken. taken ∙ same) c.join_edge.ensures.is
+
+pub returns-in_err-ends-clause-is : goal.returns-in_err-ends-clause-is
+returns-in_err-ends-clause-is g c _ = never_ok c.from_residual.result _ _ c.from_residual.ensures.1
 
 pub returns-clause-sound : goal.returns-clause-sound
 returns-clause-sound g c tells limit names text store at degrees room =
