@@ -9,7 +9,7 @@ ghost use Rattle.plain_graph.specs.Refusals.{most_names};
 ghost use Rattle.plain_graph.specs.Reply.{NodeMade};
 ghost use Rattle.plain_graph.specs.declared.command.Command.TheVariants as commands;
 ghost use Rattle.rec_bytes.specs.Format.{index_file, nodes_file};
-ghost use Rattle.id_freelist.specs.Taking.{IsTakeDamage};
+ghost use Rattle.id_freelist.specs.Taking.{IsTakeDamage, taken_id};
 ghost use Rattle.prop_store.specs.FileChange.{IsSameBeside};
 ghost use Rattle.rec_bytes.specs.Key.{IsKey};
 ghost use Rattle.rec_bytes.specs.Space.{meta_of};
@@ -46,6 +46,9 @@ pub fn add_node<S: Space>(
     ensures made { S.tells → IfOk result (λ added. IsStore (S.state space.old) names.old.names
         → MakesChange (commands.Node label.now pairs.now) (NodeMade added.id) added.weight
         (S.state space.old) (S.state space.new) names.new.names) }
+    // its identifier is the free one that was given back last, or else the mark
+    ensures taken { S.tells → IfOk result (λ added.
+        added.id ≡ taken_id (meta_of (S.state space.old) nodes_file)) }
     ensures refused { S.tells → IsStore (S.state space.old) names.old.names
         → IfErr result (IsRefusal (S.state space.old).shape.limit (graph_in (S.state space.old))
         (commands.Node label.now pairs.now)) }
@@ -109,6 +112,7 @@ fn put_node<S: Space>(space: &mut S, label: u32) -> Result<u32, ChangeFault>
     ensures put { S.tells → IfOk result (λ id. (names : List (List ℕ)) (text : List ℕ)
         → IsMidway (S.state space.old) names → slice_get names label ≡ Some text
         → PutsNode (S.state space.old) (S.state space.new) names label text id) }
+    ensures is { IfOk result (λ id. id ≡ taken_id (meta_of (S.state space.old) nodes_file)) }
     ensures sound { S.tells → (names : List (List ℕ)) → IsMidway (S.state space.old) names
         → HasRoom (S.state space.old) nodes_file 1 → IfErr result IsOutside }
     ensures failure { S.tells → HasRoom (S.state space.old) nodes_file 1

@@ -17,6 +17,7 @@ use Rattle.rec_bytes.specs.declared.meta.Meta.{Meta}
 use Rattle.rec_bytes.specs.Space.{State, meta_of}
 use Rattle.rec_bytes.specs.Format as format
 use Rattle.store_rules.specs.Indexes.{AreIndexed, IsIndexed, wanted_in}
+use Rattle.id_freelist.specs.Taking.{taken_id}
 use Rattle.store_rules.specs.Views.{high, key_in}
 use Rattle.store_rules.specs.Writes.{WritesAtMost, WritesBeside}
 use Rattle.prop_index.specs.Listing.{pair_of}
@@ -647,6 +648,10 @@ returns-clause-made g c tells whole =
     (1 + prepared.weight + 3 * c.entry_count-entries.result) (ap (λ n. 1 + prepared.weight + 3 * n) (many g after tells whole)))
 
 -- its properties and entries leave it sparse
+-- the names were given numbers before, and the nodes' meta record stayed
+pub returns-clause-taken : goal.returns-clause-taken
+returns-clause-taken g c tells = c.in_ok-id.ensures.is ∙ ap taken_id (nodes_meta g (goal.at.returns-clause-taken g c).After-listed_pairs tells)
+
 pub returns-clause-sparse : goal.returns-clause-sparse
 returns-clause-sparse g c tells whole =
     let after = (goal.at.returns-clause-sparse g c).After-enter_values in
@@ -891,6 +896,9 @@ returns-in_err-put_properties-clause-still g c tells =
 pub returns-in_err-test_room-clause-made : goal.returns-in_err-test_room-clause-made
 returns-in_err-test_room-clause-made g c _ = never_ok c.from_residual.result _ _ c.from_residual.ensures.1
 
+pub returns-in_err-test_room-clause-taken : goal.returns-in_err-test_room-clause-taken
+returns-in_err-test_room-clause-taken g c _ = never_ok c.from_residual.result _ _ c.from_residual.ensures.1
+
 pub returns-in_err-test_room-clause-weight : goal.returns-in_err-test_room-clause-weight
 returns-in_err-test_room-clause-weight g c = never_ok c.from_residual.result _ _ c.from_residual.ensures.1
 
@@ -912,6 +920,9 @@ returns-in_err-test_room-clause-onward g c = search rules
 pub returns-in_err-prepared-clause-made : goal.returns-in_err-prepared-clause-made
 returns-in_err-prepared-clause-made g c _ = never_ok c.from_residual-in_err-prepared.result _ _ c.from_residual-in_err-prepared.ensures.1
 
+pub returns-in_err-prepared-clause-taken : goal.returns-in_err-prepared-clause-taken
+returns-in_err-prepared-clause-taken g c _ = never_ok c.from_residual-in_err-prepared.result _ _ c.from_residual-in_err-prepared.ensures.1
+
 pub returns-in_err-prepared-clause-weight : goal.returns-in_err-prepared-clause-weight
 returns-in_err-prepared-clause-weight g c = never_ok c.from_residual-in_err-prepared.result _ _ c.from_residual-in_err-prepared.ensures.1
 
@@ -929,6 +940,9 @@ returns-in_err-prepared-clause-writes g c = never_ok c.from_residual-in_err-prep
 
 pub returns-in_err-listed-clause-made : goal.returns-in_err-listed-clause-made
 returns-in_err-listed-clause-made g c _ = never_ok c.from_residual-in_err-listed.result _ _ c.from_residual-in_err-listed.ensures.1
+
+pub returns-in_err-listed-clause-taken : goal.returns-in_err-listed-clause-taken
+returns-in_err-listed-clause-taken g c _ = never_ok c.from_residual-in_err-listed.result _ _ c.from_residual-in_err-listed.ensures.1
 
 pub returns-in_err-listed-clause-weight : goal.returns-in_err-listed-clause-weight
 returns-in_err-listed-clause-weight g c = never_ok c.from_residual-in_err-listed.result _ _ c.from_residual-in_err-listed.ensures.1
@@ -948,6 +962,9 @@ returns-in_err-listed-clause-writes g c = never_ok c.from_residual-in_err-listed
 pub returns-in_err-test_room-2-clause-made : goal.returns-in_err-test_room-2-clause-made
 returns-in_err-test_room-2-clause-made g c _ = never_ok c.from_residual-in_err-test_room-2.result _ _ c.from_residual-in_err-test_room-2.ensures.1
 
+pub returns-in_err-test_room-2-clause-taken : goal.returns-in_err-test_room-2-clause-taken
+returns-in_err-test_room-2-clause-taken g c _ = never_ok c.from_residual-in_err-test_room-2.result _ _ c.from_residual-in_err-test_room-2.ensures.1
+
 pub returns-in_err-test_room-2-clause-weight : goal.returns-in_err-test_room-2-clause-weight
 returns-in_err-test_room-2-clause-weight g c = never_ok c.from_residual-in_err-test_room-2.result _ _ c.from_residual-in_err-test_room-2.ensures.1
 
@@ -965,6 +982,9 @@ returns-in_err-test_room-2-clause-writes g c = never_ok c.from_residual-in_err-t
 
 pub returns-in_err-id-clause-made : goal.returns-in_err-id-clause-made
 returns-in_err-id-clause-made g c _ = never_ok c.from_residual-in_err-id.result _ _ c.from_residual-in_err-id.ensures.1
+
+pub returns-in_err-id-clause-taken : goal.returns-in_err-id-clause-taken
+returns-in_err-id-clause-taken g c _ = never_ok c.from_residual-in_err-id.result _ _ c.from_residual-in_err-id.ensures.1
 
 pub returns-in_err-id-clause-weight : goal.returns-in_err-id-clause-weight
 returns-in_err-id-clause-weight g c = never_ok c.from_residual-in_err-id.result _ _ c.from_residual-in_err-id.ensures.1
@@ -984,6 +1004,9 @@ returns-in_err-id-clause-writes g c = never_ok c.from_residual-in_err-id.result 
 pub returns-in_err-put_properties-clause-made : goal.returns-in_err-put_properties-clause-made
 returns-in_err-put_properties-clause-made g c _ = never_ok c.from_residual-in_err-put_properties.result _ _ c.from_residual-in_err-put_properties.ensures.1
 
+pub returns-in_err-put_properties-clause-taken : goal.returns-in_err-put_properties-clause-taken
+returns-in_err-put_properties-clause-taken g c _ = never_ok c.from_residual-in_err-put_properties.result _ _ c.from_residual-in_err-put_properties.ensures.1
+
 pub returns-in_err-put_properties-clause-weight : goal.returns-in_err-put_properties-clause-weight
 returns-in_err-put_properties-clause-weight g c = never_ok c.from_residual-in_err-put_properties.result _ _ c.from_residual-in_err-put_properties.ensures.1
 
@@ -1002,6 +1025,9 @@ returns-in_err-put_properties-clause-writes g c = never_ok c.from_residual-in_er
 
 pub returns-in_err-enter_values-clause-made : goal.returns-in_err-enter_values-clause-made
 returns-in_err-enter_values-clause-made g c _ = never_ok c.from_residual-in_err-enter_values.result _ _ c.from_residual-in_err-enter_values.ensures.1
+
+pub returns-in_err-enter_values-clause-taken : goal.returns-in_err-enter_values-clause-taken
+returns-in_err-enter_values-clause-taken g c _ = never_ok c.from_residual-in_err-enter_values.result _ _ c.from_residual-in_err-enter_values.ensures.1
 
 pub returns-in_err-enter_values-clause-weight : goal.returns-in_err-enter_values-clause-weight
 returns-in_err-enter_values-clause-weight g c = never_ok c.from_residual-in_err-enter_values.result _ _ c.from_residual-in_err-enter_values.ensures.1

@@ -108,6 +108,9 @@ returns-in_err-save-clause-still g c tells =
 pub returns-in_err-id-clause-put : goal.returns-in_err-id-clause-put
 returns-in_err-id-clause-put g c _ = never_ok c.from_residual.result _ _ c.from_residual.ensures.1
 
+pub returns-in_err-id-clause-is : goal.returns-in_err-id-clause-is
+returns-in_err-id-clause-is g c = never_ok c.from_residual.result _ _ c.from_residual.ensures.1
+
 pub returns-in_err-id-clause-beside : goal.returns-in_err-id-clause-beside
 returns-in_err-id-clause-beside g c _ = never_ok c.from_residual.result _ _ c.from_residual.ensures.1
 
@@ -122,6 +125,9 @@ returns-in_err-id-clause-onward g c = search rules
 
 pub returns-in_err-save-clause-put : goal.returns-in_err-save-clause-put
 returns-in_err-save-clause-put g c _ = never_ok c.from_residual-in_err-save.result _ _ c.from_residual-in_err-save.ensures.1
+
+pub returns-in_err-save-clause-is : goal.returns-in_err-save-clause-is
+returns-in_err-save-clause-is g c = never_ok c.from_residual-in_err-save.result _ _ c.from_residual-in_err-save.ensures.1
 
 pub returns-in_err-save-clause-beside : goal.returns-in_err-save-clause-beside
 returns-in_err-save-clause-beside g c _ = never_ok c.from_residual-in_err-save.result _ _ c.from_residual-in_err-save.ensures.1
