@@ -19,6 +19,7 @@ use Rattle.txn_core.specs.Store as store
 use Rattle.txn_core.proofs.Shipped.{merged-none}
 use Rattle.txn_core.proofs.StoreRecords.{working-read}
 use Rattle.change_parts.specs.Store.{graph_in}
+use Rattle.graph_session.specs.Answering.{reply_of}
 use Rattle.graph_session.specs.ChangeLeft.{LeavesRecords}
 use Rattle.graph_session.specs.Drafting.{BlamesSeen, Drafts, DraftsChanged, DropsUnchanged, IsStopped, KeepsOnlyChanged, MakesLine, OnlyDrafts}
 use Rattle.graph_session.specs.SnapshotEffects.{DifferJustAt}
@@ -74,7 +75,7 @@ module _ {D : Type 0} {g : Ghosts D} {mid new : Session D g} (more : OnlyDrafts 
         makes-same command _ made.weight (store.state_of old.store) (store.state_of mid.store) (store.state_of new.store) mid.names.names new.names.names
         (drafted-changed kept told) more.base.shape kept.names (drafts.1 told has),
     λ few. fewer (drafts.2 few),
-    λ told. subst (λ (r : Records). LeavesRecords command (store.drafted old.store) r) (sym (drafted-changed kept told)) (drafts.3 told),
+    λ told. subst (λ (r : Records). LeavesRecords command (reply_of made.answer) (store.drafted old.store) r) (sym (drafted-changed kept told)) (drafts.3 told),
   )
     where
       fewer : WritesAtMost made.weight (store.state_of old.store) (store.state_of mid.store)

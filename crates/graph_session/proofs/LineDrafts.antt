@@ -8,7 +8,7 @@ use Rattle.plain_graph.specs.Graph.{Graph}
 use Rattle.plain_graph.specs.LineChanges.{LineChanges, LineWeighs, asked_changes, first_refused, line_reasons, mutated_reply, read_items}
 use Rattle.plain_graph.specs.Mutations.{RefusesEach, changes_of}
 use Rattle.plain_graph.specs.Refusals.{FirstReason}
-use Rattle.plain_graph.specs.Reply.{Reply}
+use Rattle.plain_graph.specs.Reply.{Done, Reply}
 use Rattle.plain_graph.specs.declared.command.Command.{Command}
 use Rattle.plain_graph.specs.declared.command.Command.TheVariants as commands
 use Rattle.plain_graph.specs.declared.command.Target.TheVariants as targets
@@ -78,9 +78,9 @@ change-made command reply weight old new names made light = record {
 -- so is its draft
 change-drafts : {tells : Type 0} (command : Command) (reply : Reply) {weight : ℕ} {old new : Space} {before after : List (List ℕ)} → TellsMade command reply
     → (tells → IsStore old before → MakesChange command reply weight old new after) → weight + start_weight ≤ most_weight → WritesAtMost weight old new
-    → (tells → LeavesRecords command old.records new.records)
+    → (tells → LeavesRecords command reply old.records new.records)
     → TellsMade command reply × (tells → IsStore old before → MakesLine command reply weight old new after) × (weight < most_told → WritesAtMost weight old new)
-    × (tells → LeavesRecords command old.records new.records)
+    × (tells → LeavesRecords command reply old.records new.records)
 change-drafts command reply {weight = weight} {old = old} {new = new} {after = after} tells made light writes left =
     (tells, λ told has. change-made command reply weight old new after (made told has) light, λ few. writes, left)
 
@@ -215,7 +215,8 @@ module _ {D : Type 0} {g : Ghosts D} {T : Type 0} (answer : T → Answer) (weigh
       → IfOk outcome (λ made. weight made + start_weight ≤ most_weight)
       → IfOk outcome (λ made. WritesAtMost (weight made) (store.state_of old.store) (store.state_of new.store))
       → (g.tells_reads → HasStore old → IfErr outcome (IsRefusal (store.state_of old.store).shape.limit (graph_in (store.state_of old.store)) command))
-      → ((made : T) → outcome ≡ Ok made → g.tells_reads → LeavesRecords command (store.drafted old.store) (store.drafted new.store))
+      → ((made : T) → outcome ≡ Ok made → g.tells_reads → LeavesRecords command (reply_of (answer made)) (store.drafted old.store)
+      (store.drafted new.store))
       → HasChangeCause (g.faults old.store.base.disk.now) (g.faults new.store.base.disk.now) outcome → Drafts command old new (drafted_by answer weight outcome)
   drafts-call (Ok made) makes light writes refused left cause = change-drafts command (reply_of (answer made)) (tells made) (λ told has. makes told has)
       light writes
@@ -226,8 +227,12 @@ module _ {D : Type 0} {g : Ghosts D} {T : Type 0} (answer : T → Answer) (weigh
       (λ told has. change-refused limit (graph_in (store.state_of old.store)) command fault (refused told has))
       (λ is. cause.disk (ap Err is)) (answer_for fault) refl
 
+-- what holds of all that is made
+pub ok-has : {T E : Type 0} (P : T → Type 0) (outcome : Result T E) → IfOk outcome P → (made : T) → outcome ≡ Ok made → P made
+ok-has {T = T} {E = E} P outcome has made is = subst (λ (r : Result T E). IfOk r P) is has
+
 -- what one that deletes a node leaves
 pub deletion-left : (id : ℕ) (old new : Records) (outcome : Result ℕ ChangeFault) → OnOk outcome (HasDegree old id 0) → OnOk outcome (IsUnused new id)
-    → (made : ℕ) → outcome ≡ Ok made → LeavesRecords (commands.Delete (targets.Node id)) old new
+    → (made : ℕ) → outcome ≡ Ok made → LeavesRecords (commands.Delete (targets.Node id)) Done old new
 deletion-left id old new (Ok weight) lone gone made is = (lone, gone)
 deletion-left id old new (Err fault) lone gone made is = let clash : Err fault ≡ Ok made = is in cc

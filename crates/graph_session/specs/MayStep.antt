@@ -161,7 +161,8 @@ module _ {D : Type 0} (g : Ghosts D) (old : SessionView D) (reply : Reply) (new 
     MayChange command =
         (TellsMade command reply × HasChanged g old new
         × (g.tells_reads
-        → LeavesRecords command (seen_records old.console) (seen_records new.console)))
+        → LeavesRecords command reply (seen_records old.console)
+        (seen_records new.console)))
         ⊎ (((why : Refusal) × (reply ≡ Refused why)) × Stays g old new)
         ⊎ ((reply ≡ Faulted [] NoMemory) × Stays g old new)
         ⊎ (TellsDamage × Stays g old new)

@@ -1,9 +1,14 @@
-use Rattle.std.proofs.Common.{ℕ, [], refl, sym}
+use Rattle.std.proofs.Common.{◌≡◌, ℕ, [], ap, refl, sym}
 use Rattle.std.proofs.lemmas.List.{append-nil}
 use Rattle.plain_graph.specs.declared.command.Command.TheVariants as commands
+use Rattle.plain_graph.specs.Reply.{EdgeMade, NodeMade}
+use Rattle.rec_bytes.specs.Format as format
+use Rattle.rec_bytes.specs.Space.{meta_in}
+use Rattle.id_freelist.specs.Taking.{taken_id}
+use Rattle.txn_core.specs.Store.{drafted}
 use Rattle.change_parts.specs.declared.added.Added.{Added}
 use Rattle.graph_session.specs.declared.answer.Answer.TheVariants as answers
-use Rattle.graph_session.proofs.LineDrafts.{drafts-call}
+use Rattle.graph_session.proofs.LineDrafts.{drafts-call, ok-has}
 use Rattle.graph_session.proofs.session.Session.draft_any.Goals as goal
 
 pub returns-in-Node-clause-only : goal.returns-in-Node-clause-only
@@ -17,7 +22,9 @@ returns-in-Node-clause-drafts g c =
     rw (c.in-Node.is, c.drafted_node.ensures)
     (drafts-call (λ (added : Added). answers.NodeMade added.id) (λ (added : Added). added.weight) (commands.Node c.in-Node.label.now c.in-Node.pairs.now)
     (λ added. (added.id, refl)) (returns-in-Node-clause-only g c) c.add_node.result (λ told. met.made told) met.light met.writes
-    (λ told has. met.refused told has) (λ made is told. tt) met.cause)
+    (λ told has. met.refused told has)
+    (λ made is told. ap NodeMade (ok-has (λ (added : Added). added.id ≡ taken_id (meta_in (drafted c.args.self.now.store) format.nodes_file))
+    c.add_node.result (met.taken told) made is)) met.cause)
 
 pub returns-in-Edge-clause-only : goal.returns-in-Edge-clause-only
 returns-in-Edge-clause-only g c =
@@ -30,7 +37,9 @@ returns-in-Edge-clause-drafts g c =
     rw (c.in-Edge.is, c.drafted_edge.ensures)
     (drafts-call (λ (added : Added). answers.EdgeMade added.id) (λ (added : Added). added.weight) (commands.Edge c.in-Edge.from c.in-Edge.label.now c.in-Edge.to
     c.in-Edge.pairs.now) (λ added. (added.id, refl)) (returns-in-Edge-clause-only g c) c.add_edge.result (λ told. met.made told) met.light met.writes
-    (λ told has. met.refused told has) (λ made is told. tt) met.cause)
+    (λ told has. met.refused told has)
+    (λ made is told. ap EdgeMade (ok-has (λ (added : Added). added.id ≡ taken_id (meta_in (drafted c.args.self.now.store) format.relationships_file))
+    c.add_edge.result (met.taken told) made is)) met.cause)
 
 pub returns-in-Set-clause-only : goal.returns-in-Set-clause-only
 returns-in-Set-clause-only g c =
