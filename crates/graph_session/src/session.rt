@@ -35,7 +35,7 @@ use crate::question::Question;
 use crate::questions::reply_question;
 use crate::{Health, Turn};
 use disk_model::Disk;
-use gremlin_parse::{Parsed, named_session, parse_line};
+use gremlin_parse::{ParsedLine, parse_line};
 use name_store::Names;
 use plain_graph::{Command, Refusal, mark_of};
 use rec_bytes::WriteSet;
@@ -160,11 +160,16 @@ impl<'d, D: Disk> Session<'d, D> {
         ensures no_draft { HasNoDraft (view self.old) → HasNoDraft (view self.new) }
         ensures same_disk { HaveSameDisk self.old self.new }
     {
-        let prefix = mark_of(named_session(line));
-        match parse_line(self.alloc, line) {
-            Ok(Parsed { session, command }) => {
-                self.answer(session, &command, prefix.as_bytes(), output, tap)
-            }
+        let ParsedLine { session, command } = parse_line(self.alloc, line);
+        let prefix = mark_of(session);
+        match command {
+            Ok(command) => self.answer(
+                session.unwrap_or(WRITER),
+                &command,
+                prefix.as_bytes(),
+                output,
+                tap,
+            ),
             Err(fault) => give_reply(
                 &mut self.buffer,
                 prefix.as_bytes(),

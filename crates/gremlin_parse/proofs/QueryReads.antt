@@ -1,6 +1,6 @@
 -- What the readers of queries have read, from place to place.
-use Rattle.std.proofs.Common.{◌≡◌, ◌≢◌, ◌≤◌, ◌<◌, ◌+◌, inl, inr, ℕ, nat_eq, cond, Bool, true, false, Option, Some, None}
-use Rattle.std.proofs.Common.{IfSome, IfNone, List, [], ◌∷◌, ◌++◌, length, codes, refl, sym, ap, ◌∙◌, subst, ⊎_elim}
+use Rattle.std.proofs.Common.{◌≡◌, ◌≢◌, ◌≤◌, ◌<◌, ◌+◌, inl, inr, ℕ, nat_eq, cond, Bool, true, false, Some, None}
+use Rattle.std.proofs.Common.{List, [], ◌∷◌, ◌++◌, length, codes, refl, sym, ap, ◌∙◌, subst, ⊎_elim}
 use Rattle.std.proofs.Common.{length-append, arith}
 use Rattle.std.proofs.lemmas.Bool.{cases_Bool}
 use borrow.Author.Tests.{eqb-true}
@@ -9,7 +9,7 @@ use Rattle.plain_graph.specs.declared.command.Command.TheVariants as commands
 use Rattle.gremlin_parse.specs.Grammar.{most_id, most_limit, quote_byte}
 use Rattle.gremlin_parse.specs.Reading.{first_byte}
 use Rattle.gremlin_parse.specs.Symbols.{OneWord, AnyClosed, AnyNumber, AnyValue, AnyBlanks, Sign, Reads, ReadsToken, ReadsId, Leaves}
-use Rattle.gremlin_parse.specs.Keywords.{Entry, whole_word, TakesWord}
+use Rattle.gremlin_parse.specs.Keywords.{Entry, TakesWord}
 use Rattle.gremlin_parse.specs.Stopping.{StopsWith}
 use Rattle.plain_graph.specs.declared.mutation.Mutation.{Mutation}
 use Rattle.plain_graph.specs.declared.query.BodyStep.{BodyStep}
@@ -22,7 +22,6 @@ use Rattle.plain_graph.specs.declared.filter.Relation.{Relation}
 use Rattle.plain_graph.specs.declared.filter.Relation.TheVariants as relations
 use Rattle.plain_graph.specs.declared.value.Value.{Value}
 use Rattle.gremlin_parse.specs.Comparisons.{ReadsRelation, later}
-use Rattle.gremlin_parse.specs.declared.bad_token.BadToken.{BadToken}
 use Rattle.gremlin_parse.specs.declared.source.SourceKind.{SourceKind}
 use Rattle.gremlin_parse.specs.declared.source.SourceKind.TheVariants as sources
 use Rattle.gremlin_parse.specs.declared.step_word.BareStep.{BareStep}
@@ -32,7 +31,7 @@ use Rattle.gremlin_parse.specs.declared.step_word.ChangeWord.{ChangeWord}
 use Rattle.gremlin_parse.specs.declared.step_word.ChangeWord.TheVariants as changes
 use Rattle.gremlin_parse.specs.declared.step_word.StepWord.TheVariants as words
 use Rattle.gremlin_parse.specs.Stages.{is_by, stage_of, step_fault, steps_of}
-use Rattle.gremlin_parse.specs.Turns.{Turn, LeavesWords, IsBadWord, sign_at, KeptFrom}
+use Rattle.gremlin_parse.specs.Turns.{Turn, LeavesWords, sign_at, KeptFrom}
 use Rattle.gremlin_parse.specs.Queries.{Into, OfQuery, OfBody, NamesFor, OfStep, OfHop, OfLabels, Quoted, OneName, Key}
 use Rattle.gremlin_parse.specs.Queries.{OrderKey, Place, Start, SourceName, Opening, FirstId, AfterId, NextId, Steps}
 use Rattle.gremlin_parse.specs.Queries.{query_from, StepName, Opens, Closing, FirstName, AfterName, AfterKey, ValueOf}
@@ -50,7 +49,7 @@ use Rattle.gremlin_parse.specs.declared.stop.Stop.{Stop}
 use Rattle.gremlin_parse.specs.declared.stop.Stop.TheVariants as stops
 use Rattle.gremlin_parse.proofs.Turns.{NoSign}
 use Rattle.gremlin_parse.proofs.Walks.{kept_end, stop_after_blanks, Skips, LeavesOther, LeavesPlace, reaches_next, reaches_on, stop_at_place}
-use Rattle.gremlin_parse.proofs.Tables.{IsWordTable, all_in, lookup_in, whole_word_of}
+use Rattle.gremlin_parse.proofs.Tables.{IsWordTable, all_in, lookup_in}
 use Rattle.gremlin_parse.proofs.Later.{leaves_either}
 use Rattle.gremlin_parse.proofs.QueryPlaces.{are, some, step_table, ordered_table, no_signs}
 
@@ -375,46 +374,10 @@ stop_of_memory place bytes stop memory = subst (StopsFrom place bytes) (sym memo
 
 -- ---- the name of a step
 
--- A word of the table that stands whole, with its fault.
-pub whole_word_fault : (stage : Stage) (is_ordered : Bool) (bytes : List ℕ) (word : StepWord) → whole_word (words_after is_ordered) bytes ≡ Some word
-    → (kind : BadToken) → step_fault stage word bytes ≡ Some kind → IsBadWord (words_after is_ordered) (step_fault stage) kind (length bytes) bytes
-whole_word_fault stage is_ordered bytes word is kind bad = (word, is, bad, refl)
-
-pub no_word_fault : (stage : Stage) (is_ordered : Bool) (bytes : List ℕ) (word : StepWord) → whole_word (words_after is_ordered) bytes ≡ Some word
-    → step_fault stage word bytes ≡ None → (kind : BadToken) (place : ℕ) → ¬ IsBadWord (words_after is_ordered) (step_fault stage) kind place bytes
-no_word_fault stage is_ordered bytes word is none kind place = λ (other, stands, bad, at).
-    let same : Some other ≡ Some word = sym stands ∙ is in
-    let one : other ≡ word = cc in
-    let clash : None ≡ Some kind = sym none ∙ ap (λ w. step_fault stage w bytes) (sym one) ∙ bad in
-    cc
-
--- the fault that was found
-pub fault_is_some : (stage : Stage) (is_ordered : Bool) (bytes : List ℕ) (word : StepWord) (found : Option BadToken)
-    → whole_word (words_after is_ordered) bytes ≡ Some word → found ≡ step_fault stage word bytes
-    → IfSome found (λ kind. IsBadWord (words_after is_ordered) (step_fault stage) kind (length bytes) bytes)
-fault_is_some stage is_ordered bytes word None is same = tt
-fault_is_some stage is_ordered bytes word (Some kind) is same = whole_word_fault stage is_ordered bytes word is kind (sym same)
-
-pub fault_is_none : (stage : Stage) (is_ordered : Bool) (bytes : List ℕ) (word : StepWord) (found : Option BadToken)
-    → whole_word (words_after is_ordered) bytes ≡ Some word → found ≡ step_fault stage word bytes
-    → IfNone found ((kind : BadToken) (place : ℕ) → ¬ IsBadWord (words_after is_ordered) (step_fault stage) kind place bytes)
-fault_is_none stage is_ordered bytes word None is same = no_word_fault stage is_ordered bytes word is (sym same)
-fault_is_none stage is_ordered bytes word (Some kind) is same = tt
-
-table_after : (is_ordered : Bool) → IsWordTable (words_after is_ordered)
+-- the words that may stand there, each once
+pub table_after : (is_ordered : Bool) → IsWordTable (words_after is_ordered)
 table_after true = ordered_table
 table_after false = step_table
-
--- A name that was read without a fault has none.
-pub read_faultless : (stage : Stage) (is_ordered : Bool) (bytes rest : List ℕ) (word : StepWord)
-    → ((kind : BadToken) (place : ℕ) → ¬ IsBadWord (words_after is_ordered) (step_fault stage) kind place bytes)
-    → TakesWord (words_after is_ordered) bytes word rest → step_fault stage word bytes ≡ None
-read_faultless stage is_ordered bytes rest word no_bad takes = by_fault (step_fault stage word bytes) refl
-  where
-    by_fault : (found : Option BadToken) → step_fault stage word bytes ≡ found → step_fault stage word bytes ≡ None
-    by_fault None is = is
-    by_fault (Some kind) is = absurd (no_bad kind (length bytes) (whole_word_fault stage is_ordered bytes word (whole_word_of (words_after is_ordered)
-        (table_after is_ordered) bytes rest word takes) kind is))
 
 -- No step has the name `by`.
 pub by_is_ordered : (is_ordered : Bool) (bytes rest : List ℕ) (word : StepWord) → TakesWord (words_after is_ordered) bytes word rest → word ≡ words.By

@@ -23,7 +23,7 @@ use Rattle.gremlin_parse.specs.Productions.{with_all, property_of, properties_of
 use Rattle.gremlin_parse.specs.Productions.{AreFrom, takes, counts, Fit, given, count_all, takes_change, change_count}
 use Rattle.gremlin_parse.specs.Queries.{OfQuery, OfStep, OfMaps, Subject, NewVertex, NewEdges, Elements, PairFor}
 use Rattle.gremlin_parse.specs.Queries.{OfChange, OfSource, EdgeType, FoundLabel, VertexLabel, PairKey, Start, Opening}
-use Rattle.gremlin_parse.specs.Queries.{FirstId, AfterId, NextId, Steps, StepName, Opens, Most, Closing, Quote}
+use Rattle.gremlin_parse.specs.Queries.{FirstId, AfterId, Steps, StepName, Opens, Most, Closing, Quote}
 use Rattle.gremlin_parse.specs.Queries.{AfterFoundLabel, VertexCloses, TypeCloses, AfterType, ToWord, OpensTo, ToFirst}
 use Rattle.gremlin_parse.specs.Queries.{ToAnonymous, ToVertex, OpensId, ToId, IdCloses, ToCloses, DropCloses, Dropped}
 use Rattle.gremlin_parse.specs.Queries.{Changed, PropertyName, OpensProperty, AfterPairKey, PairValue, PairCloses}

@@ -1,5 +1,5 @@
-//! The grammar of the console's lines, and the reader that gives a line's command or the leftmost
-//! fault with its place. A line is read once; each of its names and texts is copied once.
+//! The grammar of the console's lines, and the reader that gives a line's session, and its command
+//! or the leftmost fault with its place. A line is read once; each of its names and texts is copied once.
 #![tactic(auto)]
 
 mod argument;
@@ -18,7 +18,7 @@ mod mutation;
 mod number;
 mod order;
 mod pair;
-mod parsed;
+mod parsed_line;
 mod parts;
 mod query;
 mod quoted_name;
@@ -39,6 +39,5 @@ mod word;
 pub use grammar_laws::queries_are_produced;
 pub use laws::views_make_again;
 pub use line_fault::LineFault;
-pub use parsed::Parsed;
+pub use parsed_line::ParsedLine;
 pub use reader::parse_line;
-pub use tag::named_session;

@@ -1,5 +1,5 @@
 ghost use Rattle.std.specs.Prelude.{◌≡◌, ◌≢◌, ◌≤◌, ◌<◌, ◌+◌, [], List, ℕ, None, Some, length};
-ghost use Rattle.std.specs.Prelude.{IfOk, IfErr, IfSome, IfNone};
+ghost use Rattle.std.specs.Prelude.{IfOk, IfErr};
 ghost use Rattle.plain_graph.specs.declared.command.Command.TheVariants as commands;
 ghost use Rattle.plain_graph.specs.declared.pairs.Pair.{Pair};
 ghost use Rattle.plain_graph.specs.declared.query.Query.{Query};
@@ -10,19 +10,17 @@ ghost use Rattle.gremlin_parse.specs.Queries.{VertexLabel, after_pair};
 ghost use Rattle.gremlin_parse.specs.Queries.{LeadsTo, StopsFrom, changed, is_loose, opened};
 ghost use Rattle.gremlin_parse.specs.Queries.{property_words, steps_before, turn};
 ghost use Rattle.gremlin_parse.specs.Stages.{late_fault, steps_of};
-ghost use Rattle.gremlin_parse.specs.Turns.{IsBadWord, KeptFrom, LeavesWords};
+ghost use Rattle.gremlin_parse.specs.Turns.{KeptFrom, LeavesWords};
 ghost use Rattle.gremlin_parse.specs.Values.{value_of};
-ghost use Rattle.gremlin_parse.specs.declared.bad_token.BadToken.{BadToken};
 ghost use Rattle.gremlin_parse.specs.declared.step_word.ChangeWord.TheVariants as changes;
 ghost use Rattle.gremlin_parse.specs.declared.step_word.StepWord.TheVariants as words;
 
-use crate::bad_token::BadToken;
-use crate::keyword::{read_keyword, whole_word};
+use crate::keyword::read_keyword;
 use crate::pair::push_pair;
 use crate::parts::{copy_name, read_end, read_token, skip_blanks};
 use crate::quoted_name::{read_either, read_quoted_name};
 use crate::source::read_id;
-use crate::stage::late_fault;
+use crate::stage::late_word_fault;
 use crate::step_word::{ChangeWord, StepWord};
 use crate::stop::Stop;
 use crate::value::{WrittenValue, read_value};
@@ -220,26 +218,13 @@ fn read_property_word(before: usize, bytes: &[u8]) -> Result<(StepWord, &[u8]), 
     ensures no_fault { IfOk result (λ r. late_fault before ≡ None) }
     ensures err { IfErr result (LeavesWords property_words (λ _ _. late_fault before) bytes.now) }
 {
-    if let Some(token) = property_fault(before, bytes) {
+    if let Some(token) = late_word_fault(before, bytes, &PROPERTY) {
         return Err(Stop::Bad {
             token,
             left: bytes.len(),
         });
     }
     read_keyword(bytes, &PROPERTY)
-}
-
-/// The fault of the word that stands whole at the head, if it has one.
-fn property_fault(before: usize, bytes: &[u8]) -> Option<BadToken>
-    ensures some { IfSome result (λ kind.
-        IsBadWord property_words (λ _ _. late_fault before) kind (length bytes.now) bytes.now) }
-    ensures none { IfNone result ((kind : BadToken) (place : ℕ) →
-        ¬ IsBadWord property_words (λ _ _. late_fault before) kind place bytes.now) }
-{
-    match whole_word(bytes, &PROPERTY) {
-        Some(_) => late_fault(before),
-        None => None,
-    }
 }
 
 /// A key between quotes and its value up to the closing parenthesis, and the bytes after it.

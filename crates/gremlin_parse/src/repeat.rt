@@ -1,5 +1,5 @@
 ghost use Rattle.std.specs.Prelude.{◌≡◌, ◌≤◌, ◌<◌, ◌+◌, ◌++◌, ◌∷◌, [], cond, List, ℕ};
-ghost use Rattle.std.specs.Prelude.{None, length, IfOk, IfErr, IfSome, IfNone, OnOk};
+ghost use Rattle.std.specs.Prelude.{None, length, IfOk, IfErr, OnOk};
 ghost use Rattle.plain_graph.specs.declared.query.BodyStep.{BodyStep};
 ghost use Rattle.plain_graph.specs.declared.query.Query.{Query};
 ghost use Rattle.plain_graph.specs.declared.query.Step.TheVariants as steps;
@@ -9,15 +9,13 @@ ghost use Rattle.gremlin_parse.specs.Queries.{LeadsTo, StopsFrom, LeavesBoth, wi
 ghost use Rattle.gremlin_parse.specs.Queries.{body_words, count_before};
 ghost use Rattle.gremlin_parse.specs.Stages.{steps_of, step_count, late_fault};
 ghost use Rattle.gremlin_parse.specs.Symbols.{ReadsToken};
-ghost use Rattle.gremlin_parse.specs.Turns.{IsBadWord, LeavesWords};
-ghost use Rattle.gremlin_parse.specs.declared.bad_token.BadToken.{BadToken};
+ghost use Rattle.gremlin_parse.specs.Turns.{LeavesWords};
 
-use crate::bad_token::BadToken;
-use crate::keyword::{read_keyword, whole_word};
+use crate::keyword::read_keyword;
 use crate::number::read_times;
 use crate::parts::{read_token, skip_blanks};
 use crate::quoted_name::read_either;
-use crate::stage::late_fault;
+use crate::stage::late_word_fault;
 use crate::step::read_body_arguments;
 use crate::step_word::BodyWord;
 use crate::stop::Stop;
@@ -116,26 +114,13 @@ fn read_body_word(before: usize, bytes: &[u8]) -> Result<(BodyWord, &[u8]), Stop
     ensures no_fault { IfOk result (λ r. late_fault before ≡ None) }
     ensures err { IfErr result (LeavesWords body_words (λ _ _. late_fault before) bytes.now) }
 {
-    if let Some(token) = body_name_fault(before, bytes) {
+    if let Some(token) = late_word_fault(before, bytes, &BODY) {
         return Err(Stop::Bad {
             token,
             left: bytes.len(),
         });
     }
     read_keyword(bytes, &BODY)
-}
-
-/// The fault of the name that stands whole at the head, if it has one.
-fn body_name_fault(before: usize, bytes: &[u8]) -> Option<BadToken>
-    ensures some { IfSome result (λ kind.
-        IsBadWord body_words (λ _ _. late_fault before) kind (length bytes.now) bytes.now) }
-    ensures none { IfNone result ((kind : BadToken) (place : ℕ) →
-        ¬ IsBadWord body_words (λ _ _. late_fault before) kind place bytes.now) }
-{
-    match whole_word(bytes, &BODY) {
-        Some(_) => late_fault(before),
-        None => None,
-    }
 }
 
 /// Adds the step after the others.

@@ -1,9 +1,13 @@
-ghost use Rattle.std.specs.Prelude.{◌≡◌, ◌≤◌};
+ghost use Rattle.std.specs.Prelude.{◌≡◌, ◌≤◌, ℕ, length, IfSome, IfNone};
+ghost use Rattle.gremlin_parse.specs.Keywords.{words_of};
 ghost use Rattle.gremlin_parse.specs.Stages.{fits, first_items, is_by, items_after, step_fault};
 ghost use Rattle.gremlin_parse.specs.Stages.{added_count, are_elements, late_fault, mapped};
 ghost use Rattle.gremlin_parse.specs.Stages.{maps_count, step_count};
+ghost use Rattle.gremlin_parse.specs.Turns.{IsBadWord};
+ghost use Rattle.gremlin_parse.specs.declared.bad_token.BadToken.{BadToken};
 
 use crate::bad_token::BadToken;
+use crate::keyword::whole_word;
 use crate::order::has_key;
 use crate::step_word::{BareStep, BodyWord, ChangeWord, NamesStep, StepWord};
 use plain_graph::{Source, Step, Texts};
@@ -119,6 +123,22 @@ pub(crate) fn late_fault(before: usize) -> Option<BadToken>
     } else {
         Some(BadToken::LateStep)
     }
+}
+
+/// The same of the word of the table that stands whole at the head.
+pub(crate) fn late_word_fault<K: Copy>(
+    before: usize,
+    bytes: &[u8],
+    table: &[(&[u8], K)],
+) -> Option<BadToken>
+    ensures some { IfSome result (λ kind. IsBadWord (words_of table.now)
+        (λ _ _. late_fault before) kind (length bytes.now) bytes.now) }
+    ensures none { IfNone result ((kind : BadToken) (place : ℕ) → ¬ IsBadWord
+        (words_of table.now) (λ _ _. late_fault before) kind place bytes.now) }
+{
+    let token = late_fault(before)?;
+    whole_word(bytes, table)?;
+    Some(token)
 }
 
 /// Whether it is `by`, which is no step: it belongs to the order before it.

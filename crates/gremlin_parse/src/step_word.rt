@@ -1,11 +1,10 @@
-ghost use Rattle.std.specs.Prelude.{◌≡◌, ℕ, length, None, IfOk, IfErr, IfSome, IfNone};
-ghost use Rattle.gremlin_parse.specs.Keywords.{TakesWord, words_of};
+ghost use Rattle.std.specs.Prelude.{◌≡◌, None, IfOk, IfErr};
+ghost use Rattle.gremlin_parse.specs.Keywords.{LeavesTable, TakesWord, words_of};
 ghost use Rattle.gremlin_parse.specs.Queries.{words_after};
 ghost use Rattle.gremlin_parse.specs.Stages.{step_fault};
-ghost use Rattle.gremlin_parse.specs.Turns.{IsBadWord, LeavesWords};
-ghost use Rattle.gremlin_parse.specs.declared.bad_token.BadToken.{BadToken};
+ghost use Rattle.gremlin_parse.specs.Stopping.{StopsWith};
+ghost use Rattle.gremlin_parse.specs.Turns.{LeavesWords};
 
-use crate::bad_token::BadToken;
 use crate::keyword::{read_keyword, whole_word};
 use crate::stage::{Stage, step_fault};
 use crate::stop::Stop;
@@ -117,25 +116,33 @@ pub(crate) fn read_step_word(
     ensures no_fault { IfOk result (λ r. step_fault stage r.0 bytes.now ≡ None) }
     ensures err { IfErr result (LeavesWords (words_after is_ordered) (step_fault stage) bytes.now) }
 {
-    if let Some(token) = name_fault(stage, is_ordered, bytes) {
-        return Err(Stop::Bad {
-            token,
-            left: bytes.len(),
-        });
+    match read_keyword(bytes, words_after(is_ordered)) {
+        Ok((word, rest)) => match step_fault(stage, word, bytes) {
+            Some(token) => Err(Stop::Bad {
+                token,
+                left: bytes.len(),
+            }),
+            None => Ok((word, rest)),
+        },
+        Err(no_word) => Err(stop_at_prefix(stage, is_ordered, no_word, bytes)),
     }
-    read_keyword(bytes, words_after(is_ordered))
 }
 
-/// The fault of the name that stands whole at the head, if it has one.
-fn name_fault(stage: Stage, is_ordered: bool, bytes: &[u8]) -> Option<BadToken>
-    ensures some { IfSome result (λ kind.
-        IsBadWord (words_after is_ordered) (step_fault stage) kind (length bytes.now) bytes.now) }
-    ensures none { IfNone result ((kind : BadToken) (place : ℕ) →
-        ¬ IsBadWord (words_after is_ordered) (step_fault stage) kind place bytes.now) }
+/// Why reading stops where the run of letters is no name: at a name that the run begins with, if
+/// that has a fault.
+fn stop_at_prefix(stage: Stage, is_ordered: bool, no_word: Stop, bytes: &[u8]) -> Stop
+    requires { StopsWith (LeavesTable (words_after is_ordered) bytes.now) no_word }
+    ensures { LeavesWords (words_after is_ordered) (step_fault stage) bytes.now result }
 {
-    match whole_word(bytes, words_after(is_ordered)) {
-        Some(word) => step_fault(stage, word, bytes),
-        None => None,
+    let Some(word) = whole_word(bytes, words_after(is_ordered)) else {
+        return no_word;
+    };
+    match step_fault(stage, word, bytes) {
+        Some(token) => Stop::Bad {
+            token,
+            left: bytes.len(),
+        },
+        None => no_word,
     }
 }
 

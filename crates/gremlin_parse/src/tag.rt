@@ -1,20 +1,9 @@
-ghost use Rattle.std.specs.Prelude.{◌≡◌, IfErr, IfOk};
+ghost use Rattle.std.specs.Prelude.{IfErr, IfOk};
 ghost use Rattle.gremlin_parse.specs.Stopping.{StopsWith};
 ghost use Rattle.gremlin_parse.specs.Tags.{LeavesSession, LeavesTag, ReadsSession, ReadsTag};
-ghost use Rattle.gremlin_parse.specs.Tags.{session_named};
 
 use crate::parts::skip_blanks;
 use crate::stop::Stop;
-
-/// The session that a line names, as `@1 ` does, whatever stands after that.
-pub fn named_session(line: &[u8]) -> Option<u8>
-    ensures { result ≡ session_named line.now }
-{
-    match read_tag(line) {
-        Ok((session, _)) => session,
-        Err(_) => None,
-    }
-}
 
 /// The session that a line names, and the bytes after that; or none, and the whole line.
 ///

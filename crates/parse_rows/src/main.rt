@@ -16,7 +16,7 @@ use crate::command::put_command;
 use crate::fault::put_fault;
 use crate::text::put;
 use crate::words::put_asked;
-use gremlin_parse::{named_session, parse_line};
+use gremlin_parse::{ParsedLine, parse_line};
 use plain_graph::mark_of;
 use std::alloc::{AllocError, Global};
 use std::io::{self, Read, Write};
@@ -40,9 +40,10 @@ fn put_answer(alloc: Global, answers: &mut Vec<u8>, line: &[u8]) -> Result<(), A
     } else if line.starts_with(b"$") {
         put_asked(alloc, answers, line)?;
     } else {
-        put(answers, &[mark_of(named_session(line)).as_bytes()])?;
-        match parse_line(alloc, line) {
-            Ok(parsed) => put_command(answers, &parsed.command)?,
+        let ParsedLine { session, command } = parse_line(alloc, line);
+        put(answers, &[mark_of(session).as_bytes()])?;
+        match command {
+            Ok(command) => put_command(answers, &command)?,
             Err(fault) => put_fault(answers, fault)?,
         }
     }
