@@ -557,57 +557,61 @@ NameReads name bytes rest = (place : Place) (quoted : Quoted) → QuotesAt place
 abbrev pub NameStops : List ℕ → Stop → Type 0
 NameStops bytes stop = (place : Place) (quoted : Quoted) → QuotesAt place quoted bytes → StopsFrom place bytes stop
 
+-- What a name of a list promises, with the comma or the parenthesis after it: it stands after those before it.
+abbrev pub ListedName : List ℕ → List ℕ → Bool → List ℕ → Type 0
+ListedName bytes name more rest = (purpose : NamesFor) (names : List (List ℕ)) (place : Place) → QuotesAt place (OneName purpose names) bytes
+    → LeadsTo place bytes (after_name purpose (names ++ name ∷ []) more) rest
+
+abbrev pub StopsInList : List ℕ → Stop → Type 0
+StopsInList bytes stop = (purpose : NamesFor) (names : List (List ℕ)) (place : Place) → QuotesAt place (OneName purpose names) bytes
+    → StopsFrom place bytes stop
+
+pub name_listed : (bytes after rest name : List ℕ) (more : Bool) → NameReads name bytes after → ReadsToken (cond more 44 41 ∷ []) after rest
+    → ListedName bytes name more rest
+name_listed bytes after rest name more reads token = λ purpose names place quotes.
+    on place bytes (AfterName purpose (names ++ name ∷ [])) after (after_name purpose (names ++ name ∷ []) more) rest
+    (reads place (OneName purpose names) quotes) (names_on purpose (names ++ name ∷ []) after rest more token)
+
+pub stop_after_name : (bytes after name : List ℕ) (stop : Stop) → NameReads name bytes after → LeavesBoth 44 41 after stop → StopsInList bytes stop
+stop_after_name bytes after name stop reads leaves purpose names place quotes =
+    (reads place (OneName purpose names) quotes).stops stop (stop_at_comma (AfterName purpose (names ++ name ∷ []))
+    (Quote (OneName purpose (names ++ name ∷ []))) (after_names purpose (names ++ name ∷ [])) after stop refl leaves)
+
+-- After these names one more stands at some place, or none.
+abbrev pub NextName : Bool → NamesFor → List (List ℕ) → Place → List ℕ → List ℕ → Type 0
+NextName true purpose names place bytes rest = (here : Place) × LeadsTo place bytes here rest × QuotesAt here (OneName purpose names) rest
+NextName false purpose names place bytes rest = LeadsTo place bytes (after_names purpose names) rest
+
 -- What is kept while names are read.
 abbrev pub NamesSoFar : List ℕ → Bool → List (List ℕ) → List ℕ → Type 0
 NamesSoFar bytes more names rest = (purpose : NamesFor) (place : Place) → QuotesAt place (OneName purpose []) bytes
-    → LeadsTo place bytes (after_name purpose names more) rest
+    → NextName more purpose names place bytes rest
 
-pub first_names : (bytes after rest name : List ℕ) (more : Bool) → NameReads name bytes after → ReadsToken (cond more 44 41 ∷ []) after rest
-    → NamesSoFar bytes more (name ∷ []) rest
-first_names bytes after rest name more reads token = λ purpose place quotes.
-    on place bytes (AfterName purpose (name ∷ [])) after (after_name purpose (name ∷ []) more) rest (reads place (OneName purpose []) quotes)
-    (names_on purpose (name ∷ []) after rest more token)
+pub before_names : (bytes : List ℕ) → NamesSoFar bytes true [] bytes
+before_names bytes purpose place quotes = (place, record { stops = λ stop at. at; kept = λ end kept. kept }, quotes)
 
-pub stop_after_first_name : (bytes after name : List ℕ) (stop : Stop) → NameReads name bytes after → LeavesBoth 44 41 after stop
-    → (purpose : NamesFor) (place : Place) → QuotesAt place (OneName purpose []) bytes → StopsFrom place bytes stop
-stop_after_first_name bytes after name stop reads leaves purpose place quotes =
-    (reads place (OneName purpose []) quotes).stops stop (stop_at_comma (AfterName purpose (name ∷ [])) (Quote (OneName purpose (name ∷ [])))
-    (after_names purpose (name ∷ [])) after stop refl leaves)
+to_next_name : (bytes rest : List ℕ) (names : List (List ℕ)) (more : Bool) → more ≡ true → NamesSoFar bytes more names rest → NamesSoFar bytes true names rest
+to_next_name bytes rest names more goes so_far = subst (λ (t : Bool). NamesSoFar bytes t names rest) goes so_far
 
-to_next_name : (bytes rest : List ℕ) (names : List (List ℕ)) (more : Bool) → more ≡ true → NamesSoFar bytes more names rest
-    → (purpose : NamesFor) (place : Place) → QuotesAt place (OneName purpose []) bytes → LeadsTo place bytes (Quote (OneName purpose names)) rest
-to_next_name bytes rest names more goes so_far purpose place quotes = subst (λ (t : Bool). LeadsTo place bytes (after_name purpose names t) rest) goes
-    (so_far purpose place quotes)
-
-pub names_more : (bytes rest after later name : List ℕ) (names : List (List ℕ)) (more again : Bool) → more ≡ true → NamesSoFar bytes more names rest
-    → NameReads name rest after → ReadsToken (cond again 44 41 ∷ []) after later → NamesSoFar bytes again (names ++ name ∷ []) later
-names_more bytes rest after later name names more again goes so_far reads token = λ purpose place quotes.
-    let quoted : Quoted = OneName purpose names in
-    let one = on place bytes (Quote quoted) rest (AfterName purpose (names ++ name ∷ [])) after
-    (to_next_name bytes rest names more goes so_far purpose place quotes) (reads (Quote quoted) quoted (quotes_at quoted rest)) in
-    on place bytes (AfterName purpose (names ++ name ∷ [])) after (after_name purpose (names ++ name ∷ []) again) later one
-    (names_on purpose (names ++ name ∷ []) after later again token)
+pub names_more : (bytes rest later name : List ℕ) (names : List (List ℕ)) (more again : Bool) → more ≡ true → NamesSoFar bytes more names rest
+    → ListedName rest name again later → NamesSoFar bytes again (names ++ name ∷ []) later
+names_more bytes rest later name names more again goes so_far listed purpose place quotes =
+    let (here, leads, at) = to_next_name bytes rest names more goes so_far purpose place quotes in
+    by_comma again (on place bytes here rest (after_name purpose (names ++ name ∷ []) again) later leads (listed purpose names here at))
+  where
+    by_comma : (t : Bool) → LeadsTo place bytes (after_name purpose (names ++ name ∷ []) t) later → NextName t purpose (names ++ name ∷ []) place bytes later
+    by_comma true leads = (Quote (OneName purpose (names ++ name ∷ [])), leads, quotes_at (OneName purpose (names ++ name ∷ [])) later)
+    by_comma false leads = leads
 
 pub stop_in_names : (bytes rest : List ℕ) (names : List (List ℕ)) (more : Bool) (stop : Stop) → more ≡ true → NamesSoFar bytes more names rest
-    → NameStops rest stop → (purpose : NamesFor) (place : Place) → QuotesAt place (OneName purpose []) bytes → StopsFrom place bytes stop
-stop_in_names bytes rest names more stop goes so_far at purpose place quotes =
-    let quoted : Quoted = OneName purpose names in
-    (to_next_name bytes rest names more goes so_far purpose place quotes).stops stop (at (Quote quoted) quoted (quotes_at quoted rest))
-
-pub stop_after_name : (bytes rest after name : List ℕ) (names : List (List ℕ)) (more : Bool) (stop : Stop) → more ≡ true → NamesSoFar bytes more names rest
-    → NameReads name rest after → LeavesBoth 44 41 after stop → (purpose : NamesFor) (place : Place) → QuotesAt place (OneName purpose []) bytes
-    → StopsFrom place bytes stop
-stop_after_name bytes rest after name names more stop goes so_far reads leaves purpose place quotes =
-    let quoted : Quoted = OneName purpose names in
-    let one = on place bytes (Quote quoted) rest (AfterName purpose (names ++ name ∷ [])) after
-    (to_next_name bytes rest names more goes so_far purpose place quotes) (reads (Quote quoted) quoted (quotes_at quoted rest)) in
-    one.stops stop (stop_at_comma (AfterName purpose (names ++ name ∷ [])) (Quote (OneName purpose (names ++ name ∷ [])))
-    (after_names purpose (names ++ name ∷ [])) after stop refl leaves)
+    → StopsInList rest stop → (purpose : NamesFor) (place : Place) → QuotesAt place (OneName purpose []) bytes → StopsFrom place bytes stop
+stop_in_names bytes rest names more stop goes so_far stops purpose place quotes =
+    let (here, leads, at) = to_next_name bytes rest names more goes so_far purpose place quotes in
+    leads.stops stop (stops purpose names here at)
 
 pub names_done : (bytes rest : List ℕ) (names : List (List ℕ)) (more : Bool) → more ≡ false → NamesSoFar bytes more names rest
     → (purpose : NamesFor) (place : Place) → QuotesAt place (OneName purpose []) bytes → LeadsTo place bytes (after_names purpose names) rest
-names_done bytes rest names more stops so_far purpose place quotes = subst (λ (t : Bool). LeadsTo place bytes (after_name purpose names t) rest) stops
-    (so_far purpose place quotes)
+names_done bytes rest names more stops so_far = subst (λ (t : Bool). NamesSoFar bytes t names rest) stops so_far
 
 -- Where no parenthesis closes, quotes alone may stand at the place of a first name.
 quotes_first : (purpose : NamesFor) (bytes : List ℕ) → first_byte bytes ≢ Some 41 → QuotesAt (FirstName purpose) (OneName purpose []) bytes

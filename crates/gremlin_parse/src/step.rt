@@ -1,5 +1,5 @@
 ghost use Rattle.std.specs.Prelude.{◌≡◌, ◌≢◌, ◌≤◌, ◌<◌, ◌+◌, ◌++◌, ◌∷◌, [], length};
-ghost use Rattle.std.specs.Prelude.{false, true};
+ghost use Rattle.std.specs.Prelude.{List, ℕ, cond, false, true};
 ghost use Rattle.std.specs.Prelude.{IfOk, IfErr, OnOk};
 ghost use Rattle.plain_graph.specs.declared.query.Query.{Query};
 ghost use Rattle.plain_graph.specs.declared.query.Step.TheVariants as steps;
@@ -9,7 +9,9 @@ ghost use Rattle.gremlin_parse.specs.Queries.{opened_names, after_filter, after_
 ghost use Rattle.gremlin_parse.specs.Queries.{steps_place, after_word, plain_order, IsOrderStep};
 ghost use Rattle.gremlin_parse.specs.Queries.{with_step, bare_step, names_step, step_of};
 ghost use Rattle.gremlin_parse.specs.Queries.{needs_name, QuotesAt, Place, is_step};
+ghost use Rattle.gremlin_parse.specs.Queries.{relation_filter};
 ghost use Rattle.gremlin_parse.specs.Stages.{stage_of, name_count, added_count};
+ghost use Rattle.gremlin_parse.specs.Values.{value_of};
 ghost use Rattle.gremlin_parse.specs.declared.step_word.StepWord.TheVariants as words;
 
 use crate::comparison::read_comparison;
@@ -21,8 +23,8 @@ use crate::repeat::read_repeat;
 use crate::stage::Stage;
 use crate::step_word::{BareStep, BodyWord, NamesStep, StepWord, read_step_word};
 use crate::stop::Stop;
-use crate::value::value_of;
-use plain_graph::{BodyStep, Filter, Hop, Step, Text, Texts};
+use crate::value::{WrittenValue, value_of};
+use plain_graph::{BodyStep, Filter, Hop, Relation, Step, Text, Texts};
 use std::alloc::Global;
 
 /// The name of a step after its dot, and the bytes after the opening parenthesis.
@@ -211,17 +213,32 @@ fn read_some_names(alloc: Global, bytes: &[u8]) -> Result<(Texts, &[u8]), Stop>
         QuotesAt place (OneName purpose []) bytes.now → StopsFrom place bytes.now stop) }
 {
     let mut names = Vec::new(alloc);
-    let (first, after_first) = read_quoted_name(bytes)?;
-    push_name(alloc, &mut names, first)?;
-    let (mut more, mut rest) = read_comma(after_first)?;
+    let mut more = true;
+    let mut rest = bytes;
     while more {
-        let (name, after_name) = read_quoted_name(rest)?;
+        let (name, again, after) = read_listed_name(rest)?;
         push_name(alloc, &mut names, name)?;
-        let (again, after) = read_comma(after_name)?;
         more = again;
         rest = after;
     }
     Ok((Texts::new(names), rest))
+}
+
+/// A name between quotes, whether a comma stands after it and no closing parenthesis, and the bytes
+/// after that.
+fn read_listed_name(bytes: &[u8]) -> Result<(&[u8], bool, &[u8]), Stop>
+    ensures ok { IfOk result (λ r. (purpose : NamesFor) (names : List (List ℕ)) (place : Place) →
+        QuotesAt place (OneName purpose names) bytes.now →
+        LeadsTo place bytes.now (cond r.1 (Quote (OneName purpose (names ++ r.0.now ∷ [])))
+        (after_names purpose (names ++ r.0.now ∷ []))) r.2.now) }
+    ensures less { IfOk result (λ r. length r.2.now < length bytes.now) }
+    ensures err { IfErr result (λ stop. (purpose : NamesFor) (names : List (List ℕ))
+        (place : Place) → QuotesAt place (OneName purpose names) bytes.now →
+        StopsFrom place bytes.now stop) }
+{
+    let (name, after_name) = read_quoted_name(bytes)?;
+    let (more, rest) = read_comma(after_name)?;
+    Ok((name, more, rest))
 }
 
 /// Adds the name after the others.
@@ -243,21 +260,34 @@ fn read_has(alloc: Global, bytes: &[u8]) -> Result<(Filter, &[u8]), Stop>
         StopsFrom (Quote (Key into)) bytes.now stop) }
 {
     let (name, after_name) = read_quoted_name(bytes)?;
-    let key = copy_name(alloc, name)?;
     let (more, at_value) = read_comma(after_name)?;
     if !more {
+        let key = copy_name(alloc, name)?;
         return Ok((Filter::Has(key), at_value));
     }
     let (relation, written, rest) = read_comparison(at_value)?;
-    let value = value_of(alloc, written)?;
-    Ok((
-        Filter::HasValue {
-            key,
-            relation,
-            value,
-        },
-        rest,
-    ))
+    let filter = relation_filter(alloc, name, relation, written)?;
+    Ok((filter, rest))
+}
+
+/// The filter of the key, the relation and the value, with texts of its own.
+fn relation_filter(
+    alloc: Global,
+    key: &[u8],
+    relation: Relation,
+    value: WrittenValue,
+) -> Result<Filter, Stop>
+    ensures ok { IfOk result (λ filter.
+        filter ≡ relation_filter key.now relation (value_of value.entry)) }
+    ensures err { IfErr result (λ stop. stop ≡ Stop.Memory) }
+{
+    let key = copy_name(alloc, key)?;
+    let value = value_of(alloc, value)?;
+    Ok(Filter::HasValue {
+        key,
+        relation,
+        value,
+    })
 }
 
 /// The number of `limit` up to the closing parenthesis, and the bytes after it.
