@@ -16,6 +16,7 @@ pub mod Drafts
 pub mod Comparisons
 pub mod Orders
 pub mod Arguments
+pub mod ByteKinds
 pub mod Views
 pub mod Lasts
 pub mod Commands

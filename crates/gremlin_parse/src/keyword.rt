@@ -1,12 +1,10 @@
 ghost use Rattle.std.specs.Prelude.{◌≡◌, ◌≤◌, length, IfOk, IfErr};
-ghost use Rattle.std.specs.List.{prefix_len};
-ghost use Rattle.plain_graph.specs.Names.{is_name_byte};
 ghost use Rattle.gremlin_parse.specs.Keywords.{common, lookup, reach, whole_word, words_of};
 ghost use Rattle.gremlin_parse.specs.Keywords.{TakesWord, LeavesTable};
 ghost use Rattle.gremlin_parse.specs.Stopping.{StopsWith};
 
+use crate::byte_kind::{ByteKind, run_len};
 use crate::stop::Stop;
-use plain_graph::is_name_byte;
 
 /// The word of the table that stands at the head, and the bytes after it. A word is the whole run
 /// of bytes of names, so words that share letters need no order.
@@ -20,7 +18,7 @@ pub(crate) fn read_keyword<'a, K: Copy>(
     ensures ok { IfOk result (λ r. TakesWord (words_of table.now) bytes.now r.0 r.1.now) }
     ensures err { IfErr result (StopsWith (LeavesTable (words_of table.now) bytes.now)) }
 {
-    let len = word_len(bytes);
+    let len = run_len(bytes, ByteKind::Name);
     let (run, rest) = bytes.split_at(len);
     match lookup(table, run) {
         Some(kind) => Ok((kind, rest)),
@@ -36,14 +34,6 @@ pub(crate) fn whole_word<K: Copy>(bytes: &[u8], table: &[(&[u8], K)]) -> Option<
 {
     let len = reach(table, bytes);
     lookup(table, &bytes[..len])
-}
-
-/// The number of bytes of names at the head.
-pub(crate) fn word_len(bytes: &[u8]) -> usize
-    ensures count { result ≡ prefix_len is_name_byte bytes.now }
-    ensures bound { result ≤ length bytes.now }
-{
-    bytes.iter().take_while(|byte| is_name_byte(**byte)).count()
 }
 
 /// What the table has for this word.

@@ -4,6 +4,7 @@
 
 mod argument;
 mod bad_token;
+mod byte_kind;
 mod command;
 mod comparison;
 mod direction;

@@ -1,14 +1,14 @@
 ghost use Rattle.std.specs.Prelude.{◌≡◌, ◌≤◌, ◌<◌, ◌^◌, ◌∷◌, length, pos, neg_ℤ};
 ghost use Rattle.std.specs.Prelude.{IfOk, IfErr, IfSome, IfNone};
-ghost use Rattle.std.specs.List.{prefix_len};
 ghost use Rattle.plain_graph.specs.declared.value.Value.TheVariants as values;
-ghost use Rattle.gremlin_parse.specs.Numbers.{is_digit, value_after, CountsNumber};
+ghost use Rattle.gremlin_parse.specs.Numbers.{value_after, CountsNumber};
 ghost use Rattle.gremlin_parse.specs.Grammar.{most_id, most_limit};
 ghost use Rattle.gremlin_parse.specs.Reading.{StartsNumber};
 ghost use Rattle.gremlin_parse.specs.Symbols.{AnyNumber, AnyTimes, AnyValue, Takes, Reads, Leaves};
 ghost use Rattle.gremlin_parse.specs.Symbols.{is_integer_start, LeavesInteger, LeavesPositive};
 
 use crate::bad_token::BadToken;
+use crate::byte_kind::{ByteKind, is_of, run_len};
 use crate::stop::Stop;
 
 /// The greatest identifier.
@@ -190,28 +190,14 @@ fn number_len(bytes: &[u8]) -> usize
     if *first == b'0' {
         return 1;
     }
-    digits_len(bytes)
-}
-
-/// The number of digits at the head.
-fn digits_len(bytes: &[u8]) -> usize
-    ensures count { result ≡ prefix_len is_digit bytes.now }
-    ensures bound { result ≤ length bytes.now }
-{
-    bytes.iter().take_while(|byte| is_digit(**byte)).count()
-}
-
-fn is_digit(byte: u8) -> bool
-    ensures { result ≡ is_digit byte }
-{
-    byte.is_ascii_digit()
+    run_len(bytes, ByteKind::Digit)
 }
 
 /// Whether a number may begin with the byte: a digit or a minus.
 pub(crate) fn is_integer_start(byte: u8) -> bool
     ensures { result ≡ is_integer_start byte }
 {
-    is_digit(byte) || byte == b'-'
+    is_of(ByteKind::Digit, byte) || byte == b'-'
 }
 
 /// The value of the digits, if it is not above the most.

@@ -1,12 +1,10 @@
-ghost use Rattle.std.specs.Prelude.{◌≡◌, ◌≢◌, ◌≤◌, [], length, IfOk, IfErr, OnOk};
-ghost use Rattle.std.specs.List.{prefix_len};
-ghost use Rattle.gremlin_parse.specs.Grammar.{is_blank};
+ghost use Rattle.std.specs.Prelude.{◌≡◌, ◌≢◌, [], length, IfOk, IfErr, OnOk};
 ghost use Rattle.gremlin_parse.specs.Stopping.{StopsWith};
 ghost use Rattle.gremlin_parse.specs.Symbols.{AnyBlanks, AnyGap, Sign, AnyName};
 ghost use Rattle.gremlin_parse.specs.Symbols.{Reads, ReadsToken, Leaves};
 
 use crate::bad_token::BadToken;
-use crate::keyword::word_len;
+use crate::byte_kind::{ByteKind, run_len};
 use crate::stop::Stop;
 use plain_graph::{NAME_BYTES, Text, is_name_start};
 use std::alloc::Global;
@@ -15,22 +13,8 @@ use std::alloc::Global;
 pub(crate) fn skip_blanks(bytes: &[u8]) -> &[u8]
     ensures { Reads AnyBlanks tt bytes.now result.now }
 {
-    let len = blank_len(bytes);
+    let len = run_len(bytes, ByteKind::Blank);
     &bytes[len..]
-}
-
-/// The number of blanks at the head.
-fn blank_len(bytes: &[u8]) -> usize
-    ensures count { result ≡ prefix_len is_blank bytes.now }
-    ensures bound { result ≤ length bytes.now }
-{
-    bytes.iter().take_while(|byte| is_blank(**byte)).count()
-}
-
-fn is_blank(byte: u8) -> bool
-    ensures { result ≡ is_blank byte }
-{
-    matches!(byte, b' ' | b'\t')
 }
 
 /// The bytes after one blank or more.
@@ -94,7 +78,7 @@ pub(crate) fn read_name(bytes: &[u8]) -> Result<(&[u8], &[u8]), Stop>
         [first, ..] if is_name_start(*first) => {}
         _ => return Err(Stop::Syntax { left }),
     }
-    let len = word_len(bytes);
+    let len = run_len(bytes, ByteKind::Name);
     if len > NAME_BYTES {
         return Err(Stop::Bad {
             token: BadToken::LongName,

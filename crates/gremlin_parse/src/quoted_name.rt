@@ -7,7 +7,7 @@ ghost use Rattle.gremlin_parse.specs.Queries.{LeadsTo, StopsFrom, after_quoted};
 ghost use Rattle.gremlin_parse.specs.Symbols.{Sign, AnyClosed, Reads, ReadsToken, Leaves};
 
 use crate::bad_token::BadToken;
-use crate::keyword::word_len;
+use crate::byte_kind::{ByteKind, run_len};
 use crate::parts::{read_sign, skip_blanks};
 use crate::stop::Stop;
 use plain_graph::{NAME_BYTES, is_name_start};
@@ -100,7 +100,7 @@ fn read_closed_name(bytes: &[u8], double: bool) -> Result<(&[u8], &[u8]), Stop>
         [first, ..] if is_name_start(*first) => {}
         _ => return Err(Stop::Syntax { left }),
     }
-    let len = word_len(bytes);
+    let len = run_len(bytes, ByteKind::Name);
     let (name, at_quote) = bytes.split_at(len);
     let rest = read_sign(at_quote, quote(double))?;
     if len > NAME_BYTES {
