@@ -3,6 +3,7 @@ use Rattle.std.specs.Prelude.{◌≡◌, ◌⊎◌, ℕ, ◌≤◌, min, List, �
 use Rattle.plain_graph.specs.Graph.{Graph}
 use Rattle.plain_graph.specs.Reply.{Reply}
 use Rattle.plain_graph.specs.declared.command.Command.{Command}
+use Rattle.plain_graph.specs.declared.command.Command.TheVariants as commands
 use Rattle.plain_graph.specs.declared.command.Target.{Target}
 use Rattle.plain_graph.specs.declared.command.Target.TheVariants as targets
 use Rattle.plain_graph.specs.declared.item.Item.{Item}
@@ -25,6 +26,8 @@ use Rattle.change_parts.specs.declared.change_fault.ChangeFault.TheVariants.{Mem
 use Rattle.plain_graph.specs.Mutations.{ChangesEach, MakesEach, RefusesEach, WeighsEach, changes_of}
 use Rattle.plain_graph.specs.Mutations.{results_of}
 use Rattle.plain_graph.specs.declared.mutation.Mutation.{Mutation}
+use Rattle.plain_graph.specs.declared.mutation.Mutation.TheVariants as mutations
+use Rattle.graph_ops.specs.declared.mutating.NewEdge.{NewEdge}
 
 -- the greatest weight that is told of a list of changes
 abbrev pub most_told : ℕ
@@ -78,6 +81,16 @@ IsListRefusal limit graph commands (PropsFull count) =
 IsListRefusal limit graph commands Memory = Unit {0}
 IsListRefusal limit graph commands Disk = Unit {0}
 IsListRefusal limit graph commands (Damaged damage) = ⊥
+
+-- ---- new edges
+
+-- the command that adds such an edge from a node
+abbrev pub command_from : ℕ → NewEdge → Command
+command_from from edge = commands.Edge from edge.label.now edge.to edge.pairs.now
+
+-- the steps that ask for such an edge from each vertex of the results
+abbrev pub steps_for : NewEdge → Mutation
+steps_for edge = mutations.AddE edge.label.now edge.to edge.pairs.now
 
 -- ---- parts of a list
 

@@ -12,7 +12,8 @@ ghost use Rattle.change_parts.specs.Causes.{IsStillCaused};
 ghost use Rattle.change_parts.specs.Damage.{BlamesBroken};
 ghost use Rattle.graph_ops.specs.Mutating.{BlamesDeletion, IsListCaused, IsListRefusal};
 ghost use Rattle.graph_ops.specs.Mutating.{MakesMutation, MakesPart};
-ghost use Rattle.graph_ops.specs.Mutating.{any_replies, most_drafted, most_told};
+ghost use Rattle.graph_ops.specs.Mutating.{any_replies, command_from, most_drafted, most_told};
+ghost use Rattle.graph_ops.specs.Mutating.{steps_for};
 ghost use Rattle.plain_graph.specs.Mutations.{changes_of, deletions, elements_of, new_elements};
 ghost use Rattle.plain_graph.specs.Mutations.{settings, targets_once};
 ghost use Rattle.plain_graph.specs.declared.command.Target.{Target};
@@ -39,6 +40,14 @@ const MOST_DRAFTED: u32 = 16_384;
 pub struct Mutated {
     pub items: Vec<Item>,
     pub weight: u32,
+}
+
+/// What the new edges of a step have, whichever vertices they come from.
+#[derive(Clone, Copy)]
+struct NewEdge<'a> {
+    label: &'a Text,
+    to: u32,
+    pairs: &'a Pairs,
 }
 
 /// Makes the changes that the steps ask for on the results of a query, one after the other. After a
@@ -87,7 +96,9 @@ pub fn mutate<S: Space>(
         }
         Mutation::AddE { label, to, pairs } => {
             let mut edges = Vec::new(alloc);
-            let weight = add_edges(alloc, space, names, &items, label, *to, pairs, &mut edges)?;
+            let to = *to;
+            let edge = NewEdge { label, to, pairs };
+            let weight = add_edges(alloc, space, names, &items, &edge, &mut edges)?;
             Ok(Mutated {
                 items: edges,
                 weight: told_weight(weight),
@@ -374,34 +385,31 @@ fn add_edges<S: Space>(
     space: &mut S,
     names: &mut Names,
     items: &[Item],
-    label: &Text,
-    to: u32,
-    pairs: &Pairs,
+    edge: &NewEdge,
     shown: &mut Vec<Item>,
 ) -> Result<u32, ChangeFault>
-    requires label { IsShortName label.now }
-    requires pairs { ArePairs pairs.now }
+    requires label { IsShortName edge.now.label.now }
+    requires pairs { ArePairs edge.now.pairs.now }
     ensures part { IfOk result (λ weight. MakesPart S.tells
-        (changes_of (mutations.AddE label.now to pairs.now) items.now)
+        (changes_of (steps_for edge.now) items.now)
         (λ replies. shown.new.items ≡ shown.old.items
-        ++ new_elements (changes_of (mutations.AddE label.now to pairs.now) items.now) replies)
+        ++ new_elements (changes_of (steps_for edge.now) items.now) replies)
         weight (S.state space.old) (S.state space.new) names.old.names names.new.names) }
     ensures lines { AllByRecursion IsShown shown.old.items
         → OnOk result (AllByRecursion IsShown shown.new.items) }
     ensures refused { S.tells → IsStore (S.state space.old) names.old.names
         → IfErr result (IsListRefusal (S.state space.old).shape.limit
-        (graph_in (S.state space.old))
-        (changes_of (mutations.AddE label.now to pairs.now) items.now)) }
+        (graph_in (S.state space.old)) (changes_of (steps_for edge.now) items.now)) }
     ensures prefix { (rest : List (List ℕ)) × (names.new.names ≡ names.old.names ++ rest) }
     ensures still { S.tells → IfErr result (IsListCaused
-        (changes_of (mutations.AddE label.now to pairs.now) items.now)
+        (changes_of (steps_for edge.now) items.now)
         (S.state space.new) names.old.names names.new.names) }
     ensures onward { S.onward space.old space.new }
     ensures cause { HasChangeCause (S.faults space.old) (S.faults space.new) result }
 {
     let mut weight = 0;
     for item in items {
-        let more = add_edge_from(alloc, space, names, item, label, to, pairs, shown)?;
+        let more = add_edge_from(alloc, space, names, item, edge, shown)?;
         let both = both_weights(weight, more)?;
         weight = both;
     }
@@ -414,34 +422,30 @@ fn add_edge_from<S: Space>(
     space: &mut S,
     names: &mut Names,
     item: &Item,
-    label: &Text,
-    to: u32,
-    pairs: &Pairs,
+    edge: &NewEdge,
     shown: &mut Vec<Item>,
 ) -> Result<u32, ChangeFault>
-    requires label { IsShortName label.now }
-    requires pairs { ArePairs pairs.now }
+    requires label { IsShortName edge.now.label.now }
+    requires pairs { ArePairs edge.now.pairs.now }
     ensures part { IfOk result (λ weight. MakesPart S.tells
-        (changes_of (mutations.AddE label.now to pairs.now) (item.now ∷ []))
+        (changes_of (steps_for edge.now) (item.now ∷ []))
         (λ replies. shown.new.items ≡ shown.old.items
-        ++ new_elements (changes_of (mutations.AddE label.now to pairs.now) (item.now ∷ []))
-        replies)
+        ++ new_elements (changes_of (steps_for edge.now) (item.now ∷ [])) replies)
         weight (S.state space.old) (S.state space.new) names.old.names names.new.names) }
     ensures lines { AllByRecursion IsShown shown.old.items
         → OnOk result (AllByRecursion IsShown shown.new.items) }
     ensures refused { S.tells → IsStore (S.state space.old) names.old.names
         → IfErr result (IsListRefusal (S.state space.old).shape.limit
-        (graph_in (S.state space.old))
-        (changes_of (mutations.AddE label.now to pairs.now) (item.now ∷ []))) }
+        (graph_in (S.state space.old)) (changes_of (steps_for edge.now) (item.now ∷ []))) }
     ensures prefix { (rest : List (List ℕ)) × (names.new.names ≡ names.old.names ++ rest) }
     ensures still { S.tells → IfErr result (IsListCaused
-        (changes_of (mutations.AddE label.now to pairs.now) (item.now ∷ []))
+        (changes_of (steps_for edge.now) (item.now ∷ []))
         (S.state space.new) names.old.names names.new.names) }
     ensures onward { S.onward space.old space.new }
     ensures cause { HasChangeCause (S.faults space.old) (S.faults space.new) result }
 {
     match item {
-        Item::Vertex(from) => add_one_edge(alloc, space, names, *from, label, to, pairs, shown),
+        Item::Vertex(from) => add_one_edge(alloc, space, names, *from, edge, shown),
         Item::Edge { .. } | Item::Value(_) => Ok(0),
     }
 }
@@ -452,30 +456,27 @@ fn add_one_edge<S: Space>(
     space: &mut S,
     names: &mut Names,
     from: u32,
-    label: &Text,
-    to: u32,
-    pairs: &Pairs,
+    edge: &NewEdge,
     shown: &mut Vec<Item>,
 ) -> Result<u32, ChangeFault>
-    requires label { IsShortName label.now }
-    requires pairs { ArePairs pairs.now }
-    ensures part { IfOk result (λ weight. MakesPart S.tells
-        (commands.Edge from label.now to pairs.now ∷ [])
+    requires label { IsShortName edge.now.label.now }
+    requires pairs { ArePairs edge.now.pairs.now }
+    ensures part { IfOk result (λ weight. MakesPart S.tells (command_from from edge.now ∷ [])
         (λ replies. shown.new.items ≡ shown.old.items
-        ++ new_elements (commands.Edge from label.now to pairs.now ∷ []) replies)
+        ++ new_elements (command_from from edge.now ∷ []) replies)
         weight (S.state space.old) (S.state space.new) names.old.names names.new.names) }
     ensures lines { AllByRecursion IsShown shown.old.items
         → OnOk result (AllByRecursion IsShown shown.new.items) }
     ensures refused { S.tells → IsStore (S.state space.old) names.old.names
         → IfErr result (IsRefusal (S.state space.old).shape.limit
-        (graph_in (S.state space.old)) (commands.Edge from label.now to pairs.now)) }
+        (graph_in (S.state space.old)) (command_from from edge.now)) }
     ensures prefix { (rest : List (List ℕ)) × (names.new.names ≡ names.old.names ++ rest) }
-    ensures still { S.tells → IfErr result (IsListCaused
-        (commands.Edge from label.now to pairs.now ∷ [])
+    ensures still { S.tells → IfErr result (IsListCaused (command_from from edge.now ∷ [])
         (S.state space.new) names.old.names names.new.names) }
     ensures onward { S.onward space.old space.new }
     ensures cause { HasChangeCause (S.faults space.old) (S.faults space.new) result }
 {
+    let NewEdge { label, to, pairs } = *edge;
     let Ok(own_label) = label.copy(alloc) else {
         return Err(ChangeFault::Memory);
     };

@@ -1,35 +1,35 @@
 use Rattle.std.proofs.Common.{◌∷◌, [], ⊎_elim, ap, sym, subst}
 use Rattle.std.specs.Prelude.{IfErr}
-use Rattle.plain_graph.specs.declared.command.Command.TheVariants as commands
 use Rattle.plain_graph.specs.declared.item.Item.{Item}
 use Rattle.change_parts.specs.Store.{graph_in}
-use Rattle.graph_ops.specs.Mutating.{IsListCaused, IsListRefusal}
+use Rattle.graph_ops.specs.Mutating.{IsListCaused, IsListRefusal, command_from, steps_for}
 use Rattle.plain_graph.specs.Mutations.{changes_of, vertex_id}
-use Rattle.plain_graph.specs.declared.mutation.Mutation.TheVariants as mutations
 use Rattle.graph_ops.proofs.Parts.{none_from, result_refused}
 use Rattle.graph_ops.proofs.mutating.add_edge_from.Goals as goal
 
 pub returns-in-Vertex-clause-refused : goal.returns-in-Vertex-clause-refused
 returns-in-Vertex-clause-refused g c told store =
     let s = g.S.Reads.state c.args.space.now in
-    let mutation = mutations.AddE c.args.label.now c.args.to c.args.pairs.now in
+    let mutation = steps_for c.args.edge.now in
     subst (λ (item : Item). IfErr c.add_one_edge.result (IsListRefusal s.shape.limit (graph_in s) (changes_of mutation (item ∷ [])))) (sym c.in-Vertex.is)
-    (result_refused c.add_one_edge.result s.shape.limit (graph_in s) (commands.Edge c.in-Vertex.from c.args.label.now c.args.to c.args.pairs.now)
+    (result_refused c.add_one_edge.result s.shape.limit (graph_in s) (command_from c.in-Vertex.from c.args.edge.now)
     (c.add_one_edge.ensures.refused told store))
 
 pub returns-in-Edge-clause-part : goal.returns-in-Edge-clause-part
 returns-in-Edge-clause-part g c =
-    none_from g.S.Reads.tells c.args.label.now c.args.to c.args.pairs.now c.args.item.now c.args.shown.now.items (g.S.Reads.state c.args.space.now)
+    let edge = c.args.edge.now in
+    none_from g.S.Reads.tells edge.label.now edge.to edge.pairs.now c.args.item.now c.args.shown.now.items (g.S.Reads.state c.args.space.now)
     c.args.names.now.names (⊎_elim (λ e. ap vertex_id e.4) (λ e. ap vertex_id e.1) c.in-Edge.is)
 
 pub returns-in-Edge-2-clause-part : goal.returns-in-Edge-2-clause-part
 returns-in-Edge-2-clause-part g c =
-    none_from g.S.Reads.tells c.args.label.now c.args.to c.args.pairs.now c.args.item.now c.args.shown.now.items (g.S.Reads.state c.args.space.now)
+    let edge = c.args.edge.now in
+    none_from g.S.Reads.tells edge.label.now edge.to edge.pairs.now c.args.item.now c.args.shown.now.items (g.S.Reads.state c.args.space.now)
     c.args.names.now.names (⊎_elim (λ e. ap vertex_id e.4) (λ e. ap vertex_id e.1) c.in-Edge.is)
 
 pub returns-in-Vertex-clause-still : goal.returns-in-Vertex-clause-still
 returns-in-Vertex-clause-still g c tells =
     let t = g.S.Reads.state c.add_one_edge.new.space in
-    let mutation = mutations.AddE c.args.label.now c.args.to c.args.pairs.now in
+    let mutation = steps_for c.args.edge.now in
     subst (λ (item : Item). IfErr c.add_one_edge.result (IsListCaused (changes_of mutation (item ∷ [])) t c.args.names.now.names
     c.add_one_edge.new.names.names)) (sym c.in-Vertex.is) (c.add_one_edge.ensures.still tells)

@@ -4,10 +4,9 @@ use Rattle.plain_graph.specs.Reply.{Reply}
 use Rattle.plain_graph.specs.declared.command.Command.{Command}
 use Rattle.plain_graph.specs.declared.item.Item.{Item}
 use Rattle.change_parts.specs.Store.{graph_in}
-use Rattle.graph_ops.specs.Mutating.{IsListCaused, MakesPart}
+use Rattle.graph_ops.specs.Mutating.{IsListCaused, MakesPart, steps_for}
 use Rattle.change_parts.proofs.Exits.{fault_exit}
 use Rattle.plain_graph.specs.Mutations.{changes_of, new_elements}
-use Rattle.plain_graph.specs.declared.mutation.Mutation.TheVariants as mutations
 use Rattle.plain_graph.proofs.Making.{elements_then}
 use Rattle.graph_ops.proofs.Parts.{making_more, next_exit, next_still, up_to}
 use Rattle.graph_ops.proofs.Spreading.{edges_spread}
@@ -17,10 +16,9 @@ use Rattle.graph_ops.proofs.mutating.add_edges.Goals as goal
 pub returns-in_err-more-clause-refused : goal.returns-in_err-more-clause-refused
 returns-in_err-more-clause-refused g c told store =
     let inv = c.loop-item.invariant.making in
-    let label = c.args.label.now in
-    let pairs = c.args.pairs.now in
+    let edge = c.args.edge.now in
     let item = c.item-item.result in
-    next_exit (changes_of (mutations.AddE label c.args.to pairs)) (edges_spread label c.args.to pairs) c.args.items.now c.loop-item.item-index item item
+    next_exit (changes_of (steps_for edge)) (edges_spread edge.label.now edge.to edge.pairs.now) c.args.items.now c.loop-item.item-index item item
     c.loop-item-test.true c.item-item.is c.loop-item.weight (g.S.Reads.state c.args.space.now) (g.S.Reads.state c.loop-item.space) c.args.names.now.names
     c.loop-item.names.names c.in_err-more.field-0.0 c.from_residual.result told store inv.part inv.shape c.from_residual.ensures.1
     (λ kept. c.in_err-more.ensures.refused told kept)
@@ -28,11 +26,10 @@ returns-in_err-more-clause-refused g c told store =
 pub loop-item-preserved : goal.loop-item-preserved
 loop-item-preserved g c =
     let inv = c.loop-item.invariant.making in
-    let label = c.args.label.now in
-    let pairs = c.args.pairs.now in
+    let edge = c.args.edge.now in
     let item = c.item-item.result in
-    let of : List Item → List Command = changes_of (mutations.AddE label c.args.to pairs) in
-    let spread = edges_spread label c.args.to pairs in
+    let of : List Item → List Command = changes_of (steps_for edge) in
+    let spread = edges_spread edge.label.now edge.to edge.pairs.now in
     let s = g.S.Reads.state c.args.space.now in
     let t = g.S.Reads.state c.loop-item.space in
     let results = c.args.items.now in
@@ -57,7 +54,7 @@ loop-item-preserved g c =
 
 pub returns-clause-part : goal.returns-clause-part
 returns-clause-part g c =
-    let mutation = mutations.AddE c.args.label.now c.args.to c.args.pairs.now in
+    let mutation = steps_for c.args.edge.now in
     subst
     (λ (results : List Item). MakesPart g.S.Reads.tells (changes_of mutation results) (λ (replies : List Reply). c.loop-item.shown.items ≡
     c.args.shown.now.items ++ new_elements (changes_of mutation results) replies) c.loop-item.weight (g.S.Reads.state c.args.space.now)
@@ -70,17 +67,16 @@ returns-clause-part g c =
 pub returns-in_err-more-clause-still : goal.returns-in_err-more-clause-still
 returns-in_err-more-clause-still g c tells =
     let t = g.S.Reads.state c.add_edge_from.new.space in
-    let label = c.args.label.now in
-    let pairs = c.args.pairs.now in
+    let edge = c.args.edge.now in
     let item = c.item-item.result in
-    next_still (changes_of (mutations.AddE label c.args.to pairs)) (edges_spread label c.args.to pairs) c.args.items.now c.loop-item.item-index item item
+    next_still (changes_of (steps_for edge)) (edges_spread edge.label.now edge.to edge.pairs.now) c.args.items.now c.loop-item.item-index item item
     c.loop-item-test.true c.item-item.is t c.args.names.now.names c.loop-item.names.names c.add_edge_from.new.names.names c.in_err-more.field-0.0
     c.from_residual.result c.loop-item.invariant.making.prefix c.from_residual.ensures.1 (c.in_err-more.ensures.still tells)
 
 pub returns-in_err-both-clause-still : goal.returns-in_err-both-clause-still
 returns-in_err-both-clause-still g c tells =
     let t = g.S.Reads.state c.add_edge_from.new.space in
-    fault_exit (λ f. f) (IsListCaused (changes_of (mutations.AddE c.args.label.now c.args.to c.args.pairs.now) c.args.items.now) t c.args.names.now.names
+    fault_exit (λ f. f) (IsListCaused (changes_of (steps_for c.args.edge.now) c.args.items.now) t c.args.names.now.names
     c.add_edge_from.new.names.names) c.in_err-both.field-0.0 c.from_residual-in_err-both.result c.from_residual-in_err-both.ensures.1
     (inl c.in_err-both.ensures.memory)
 

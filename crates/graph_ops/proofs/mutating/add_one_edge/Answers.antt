@@ -1,8 +1,7 @@
 use Rattle.std.proofs.Common.{◌≡◌, ◌∙◌, ◌++◌, ◌∷◌, [], List, inl, refl, rules}
-use Rattle.graph_ops.specs.Mutating.{IsListCaused}
+use Rattle.graph_ops.specs.Mutating.{IsListCaused, command_from}
 use Rattle.change_parts.proofs.Exits.{fault_exit}
 use Rattle.plain_graph.specs.Reply.{EdgeMade, Reply}
-use Rattle.plain_graph.specs.declared.command.Command.TheVariants as commands
 use Rattle.plain_graph.specs.declared.item.Item.TheVariants as items
 use Rattle.plain_graph.specs.Mutations.{new_elements}
 use Rattle.graph_ops.proofs.Parts.{one_caused, one_part}
@@ -13,12 +12,12 @@ pub returns-clause-part : goal.returns-clause-part
 returns-clause-part g c =
     let made = c.in_ok-id.ensures in
     let from = c.args.from in
-    let to = c.args.to in
-    let command = commands.Edge from c.args.label.now to c.args.pairs.now in
+    let edge = c.args.edge.now in
+    let command = command_from from edge in
     let id = c.in_ok-id.field-0.id in
     let old = c.args.shown.now.items in
-    let shown : c.show.new.shown.items ≡ old ++ items.Edge id c.args.label.now from to ∷ []
-    = c.in_ok-show.ensures.shown ∙ (λ i. old ++ items.Edge id (c.in-Ok.ensures i) from to ∷ []) in
+    let shown : c.show.new.shown.items ≡ old ++ items.Edge id edge.label.now from edge.to ∷ []
+    = c.in_ok-show.ensures.shown ∙ (λ i. old ++ items.Edge id (c.in-Ok.ensures i) from edge.to ∷ []) in
     one_part g.S.Reads.tells command (λ (replies : List Reply). c.show.new.shown.items ≡ old ++ new_elements (command ∷ []) replies) (EdgeMade id)
     c.in_ok-id.field-0.weight (g.S.Reads.state c.args.space.now) (g.S.Reads.state c.add_edge.new.space) c.args.names.now.names c.add_edge.new.names.names
     made.made made.light
@@ -34,7 +33,7 @@ returns-in_err-id-clause-still g c tells =
     let t = g.S.Reads.state c.add_edge.new.space in
     let names = c.args.names.now.names in
     let now = c.add_edge.new.names.names in
-    let command = commands.Edge c.args.from c.args.label.now c.args.to c.args.pairs.now in
+    let command = command_from c.args.from c.args.edge.now in
     let fault = c.in_err-id.field-0.0 in
     fault_exit (λ f. f) (IsListCaused (command ∷ []) t names now) fault c.from_residual.result c.from_residual.ensures.1
     (one_caused command t names now fault c.add_edge.ensures.prefix (c.in_err-id.ensures.still tells))
@@ -42,7 +41,7 @@ returns-in_err-id-clause-still g c tells =
 pub returns-in_err-show-clause-still : goal.returns-in_err-show-clause-still
 returns-in_err-show-clause-still g c tells =
     let t = g.S.Reads.state c.add_edge.new.space in
-    let command = commands.Edge c.args.from c.args.label.now c.args.to c.args.pairs.now in
+    let command = command_from c.args.from c.args.edge.now in
     fault_exit (λ f. f) (IsListCaused (command ∷ []) t c.args.names.now.names c.add_edge.new.names.names) c.in_err-show.field-0.0
     c.from_residual-in_err-show.result c.from_residual-in_err-show.ensures.1 (inl c.in_err-show.ensures.memory)
 
