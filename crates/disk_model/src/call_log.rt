@@ -83,6 +83,22 @@ enum KeptCall {
     },
 }
 
+// A range of a file.
+#[derive(Clone, Copy)]
+struct FileRange {
+    file: u8,
+    at: u64,
+    len: usize,
+}
+
+// What a call wrote, and where.
+#[derive(Clone, Copy)]
+struct KeptWrite<'a> {
+    file: u8,
+    at: u64,
+    bytes: &'a [u8],
+}
+
 /// The calls that a disk keeps, the oldest first. Its memory is taken when it is made.
 #[derive(Drop)]
 pub(crate) struct CallLog {
@@ -288,15 +304,10 @@ fn lay_call(
             at,
             start,
             len,
-        } => lay_write(
-            file,
-            at,
-            &bytes[start..start + len],
-            number,
-            counts,
-            files,
-            pokes,
-        ),
+        } => {
+            let bytes = &bytes[start..start + len];
+            lay_write(KeptWrite { file, at, bytes }, number, counts, files, pokes)
+        }
         KeptCall::Tore { .. } => {}
         KeptCall::Synced { file } => counts[file as usize] -= 1,
     }
@@ -304,16 +315,15 @@ fn lay_call(
 
 // Lays the bytes of a write over its file, where it counts and a later call syncs the file.
 fn lay_write(
-    file: u8,
-    at: u64,
-    part: &[u8],
+    write: KeptWrite<'_>,
     number: usize,
     counts: &[usize; FILES],
     files: &mut [PlainFile],
     pokes: &[PokeTimes],
 )
-    requires file { IsFile file }
-    requires fits { at + length part.now ≤ length (file_of files.old file) }
+    requires file { IsFile write.file }
+    requires fits { write.at + length write.bytes.now
+        ≤ length (file_of files.old write.file) }
     requires files { length files.old ≡ number_of_files }
     requires pokes { length pokes.now ≡ number_of_files }
     ensures rooms { rooms_of files.new ≡ rooms_of files.old }
@@ -321,11 +331,13 @@ fn lay_write(
         → contents files.new other place
         ≡ (if nat_lt 0 (slice_index counts.now other) && nat_le
         (contents pokes.now other place) number
-        then laid (Wrote file at part.now) (contents files.old) other place
+        then laid (Wrote write.entry.file write.entry.at write.entry.bytes.now)
+        (contents files.old) other place
         else contents files.old other place) }
 {
+    let KeptWrite { file, at, bytes } = write;
     if counts[file as usize] > 0 {
-        files[file as usize].lay(at as usize, part, &pokes[file as usize], number);
+        files[file as usize].lay(at as usize, bytes, &pokes[file as usize], number);
     }
 }
 
@@ -373,10 +385,12 @@ fn fill_call(
 {
     match call {
         KeptCall::Wrote { file, at, len, .. } => {
-            fill_range(file, at, len, number, synced, files, pokes, byte)
+            let range = FileRange { file, at, len };
+            fill_range(range, number, synced, files, pokes, byte)
         }
         KeptCall::Tore { file, at, len } => {
-            fill_range(file, at, len, number, synced, files, pokes, byte)
+            let range = FileRange { file, at, len };
+            fill_range(range, number, synced, files, pokes, byte)
         }
         KeptCall::Synced { file } => synced[file as usize] = true,
     }
@@ -384,26 +398,25 @@ fn fill_call(
 
 // Fills a range of a file where its call counts and no later call synced the file.
 fn fill_range(
-    file: u8,
-    at: u64,
-    len: usize,
+    range: FileRange,
     number: usize,
     synced: &[bool; FILES],
     files: &mut [PlainFile],
     pokes: &[PokeTimes],
     byte: u8,
 )
-    requires file { IsFile file }
+    requires file { IsFile range.file }
     requires files { length files.old ≡ number_of_files }
     requires pokes { length pokes.now ≡ number_of_files }
     ensures rooms { rooms_of files.new ≡ rooms_of files.old }
     ensures bytes { (other place : ℕ)
         → contents files.new other place
-        ≡ (if ((in_range file at len other place && not
+        ≡ (if ((in_range range.file range.at range.len other place && not
         (slice_index_or synced.now other false)) && nat_le (contents pokes.now other place) number)
         && nat_lt place (length (file_of files.old other))
         then byte else contents files.old other place) }
 {
+    let FileRange { file, at, len } = range;
     if synced[file as usize] {
         return;
     }
