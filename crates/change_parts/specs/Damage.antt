@@ -71,8 +71,8 @@ abbrev pub BlamesMaking : State → State → ChangeFault → Type 0
 BlamesMaking s named fault = IfBlames (λ damage. IsBroken s damage ⊎ IsBroken named damage) fault
 
 -- A record that is blamed where a value is given breaks the rule in the space as it was, or in this
--- one, where the key is a name. Or it is one of the indexes, which are changed last: it is as it was
--- found, and breaks the rule in the space as it is left.
+-- one, where the key is a name. Or it is one of the indexes, which are changed last: it is as it
+-- was found, and breaks the rule in the space as it is left.
 abbrev pub BlamesGiven : State → State → State → ChangeFault → Type 0
 BlamesGiven s named t fault =
     IfBlames (λ damage. IsBroken s damage ⊎ (IsBroken named damage

@@ -9,8 +9,8 @@ const ROOM: Room = Room {
     bytes: 4_194_304,
 };
 
-/// A new empty disk with room for a store of so many nodes. The calls of these numbers fail, and all
-/// from the number of the stop on.
+/// A new empty disk with room for a store of so many nodes. The calls of these numbers fail, and
+/// all from the number of the stop on.
 pub(crate) fn failing_disk(
     alloc: Global,
     room: u32,

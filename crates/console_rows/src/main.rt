@@ -4,10 +4,10 @@
 //! - `# TITLE`: is written as it is. There is a new empty disk with room for a store of 16 nodes,
 //!   and nothing that was set before holds any more.
 //! - `@disk N`: there is a new empty disk with room for a store of so many nodes.
-//! - `@fail-call N`, `@stop N`: there is a new empty disk, with the room of the one before, of which
-//!   the Nth call fails, or all from the Nth on. `@poke` and `@show` aren't for it.
-//! - `@left KIND`: there is what a loss of power leaves of such a disk, and none of its calls fails.
-//!   What was under way has `old` bytes, `new` ones, the byte of `fill BYTE`, or those that
+//! - `@fail-call N`, `@stop N`: there is a new empty disk, with the room of the one before, of
+//!   which the Nth call fails, or all from the Nth on. `@poke` and `@show` aren't for it.
+//! - `@left KIND`: there is what a loss of power leaves of such a disk, and none of its calls
+//!   fails. What was under way has `old` bytes, `new` ones, the byte of `fill BYTE`, or those that
 //!   `mixed SEED` draws.
 //! - `@poke FILE PLACE BYTES`: these bytes are put into a file of the disk.
 //! - `@show FILE PLACE COUNT`: so many bytes of a file are written, as numbers.

@@ -178,7 +178,7 @@ module _ {D : Type 0} {disk : DiskGhosts D} {options : SampleOptions} where
       (first old_taken new_taken : List ℕ) (exit : Exit) → last_lines ≡ asked ++ line ∷ later
       → (s : SampledTo disk options asked old text) → old_taken ≡ first ++ text → Asks disk line s.last new old_taken new_taken (Some exit)
       → Writes first new_taken (Samples disk.tells_reads options exit)
-  ends_in_line asked line later old new text first old_taken new_taken exit all s taken (inl lacks) = let written : List ℕ = text ++ fault_line WantOfMemory in (
+  ends_in_line asked line later old _ text first _ _ exit all s taken (inl lacks) = let written : List ℕ = text ++ fault_line WantOfMemory in (
     written,
     lacks.1 ∙ ap (λ (t : List ℕ). t ++ fault_line WantOfMemory) taken ∙ append_assoc first text (fault_line WantOfMemory),
     subst (λ (e : Exit). Samples disk.tells_reads options e written) (sym lacks.0) (lacks_next asked line later old text all s),

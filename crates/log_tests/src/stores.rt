@@ -66,7 +66,8 @@ pub(crate) fn close<'d, D: Disk>(store: Box<Store<'d, D>>) -> &'d mut D {
     Box::into_inner(store).close()
 }
 
-/// What a transaction writes, by ascending key: first the meta record of the nodes, and then records.
+/// What a transaction writes, by ascending key: first the meta record of the nodes, and then
+/// records.
 const KEYS: [Key; EIGHT] = [
     Key {
         file: META,

@@ -9,7 +9,8 @@ ghost use Rattle.change_parts.specs.Change.{IsRefusal, MakesChange};
 ghost use Rattle.change_parts.specs.ChangeFault.{HasChangeCause, LeavesSpace};
 ghost use Rattle.change_parts.specs.Damage.{BlamesBroken};
 ghost use Rattle.change_parts.specs.Degrees.{HasDegree};
-ghost use Rattle.node_changes.specs.NodeDeleting.{IsDeleteCause, IsUnused, KeepsButNode, KeepsOtherKinds};
+ghost use Rattle.node_changes.specs.NodeDeleting.{IsDeleteCause, IsUnused, KeepsButNode};
+ghost use Rattle.node_changes.specs.NodeDeleting.{KeepsOtherKinds};
 ghost use Rattle.change_parts.specs.Store.{IsStore, graph_in};
 
 use crate::entries::{held_values, leave_values};

@@ -40,6 +40,12 @@ module _ (limit threshold : ℕ) where
 
 -- ---- one list and then another
 
+-- the first command changes the graph, and one after it is refused
+abbrev RefusesLater : ℕ → Graph → Command → List Command → Refusal → Type 0
+RefusesLater limit old command later why =
+    NoReason change_reasons limit old command × (reply : Reply) × (between : Graph) × Changes limit old command reply between
+    × RefusesEach limit between later why
+
 module _ (limit threshold : ℕ) where
   pub each_then : (old mid new : Graph) (xs ys : List Command) (rs ts : List Reply) (w v : ℕ) → MakesEach limit threshold old xs rs w mid
       → MakesEach limit threshold mid ys ts v new
@@ -74,7 +80,7 @@ module _ (limit threshold : ℕ) where
   refuses_more old [] ys why refused = absurd refused
   refuses_more old (command ∷ later) ys why refused =
       ⊎_elim (λ (first : FirstReason change_reasons limit old command why). inl first)
-      (λ (other : NoReason change_reasons limit old command × (reply : Reply) × (between : Graph) × Changes limit old command reply between × RefusesEach limit between later why).
+      (λ (other : RefusesLater limit old command later why).
       inr (other.0, other.1, other.2, other.3, refuses_more other.2 later ys why other.4))
       refused
 
@@ -111,7 +117,7 @@ module _ (limit threshold : ℕ) (Is : Command → Type 0) (Alike : Graph → Gr
   never_refused g h new [] replies weight why are alike made refused = refused
   never_refused g h new (command ∷ later) replies weight why are alike made refused =
       ⊎_elim (λ (first : FirstReason change_reasons limit h command why). carries.apart command g h why are.0 alike made.7.free first)
-      (λ (other : NoReason change_reasons limit h command × (reply : Reply) × (between : Graph) × Changes limit h command reply between × RefusesEach limit between later why).
+      (λ (other : RefusesLater limit h command later why).
       never_refused made.2 other.2 new later made.3 made.4 why are.1 (carries.on command g h made.2 other.2 made.0 other.1 are.0 alike made.7.changes other.3)
       made.8 other.4)
       refused

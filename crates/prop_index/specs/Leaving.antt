@@ -55,8 +55,8 @@ pub record IsLedTo (records : Records) (d b before x : ℕ) : Type 0 where
   pub from : ((before ≡ format.nil) × (first_entry records d b ≡ x))
       ⊎ IsEntryBefore records d b before x
 
--- The entries beside one that is taken out are other entries, and the first free identifier can stand in
--- the meta record.
+-- The entries beside one that is taken out are other entries, and the first free identifier can
+-- stand in the meta record.
 pub record IsBetween (s : State) (row : EntryRow) : Type 0 where
   pub before : field 4 row.rec format.indexed_previous ≢ format.nil
       → kind_at s.records format.index_file (field 4 row.rec format.indexed_previous)

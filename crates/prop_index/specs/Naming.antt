@@ -18,8 +18,8 @@ use Rattle.store_rules.specs.IndexBreaking.{AreDefinitions, DefinitionKeeps, IsB
 use Rattle.store_rules.specs.Indexes.{heads_of}
 use Rattle.store_rules.specs.Views.{Records, kind_at}
 
--- The mark of the indexes or their first free identifier can't stand there, and their meta record is
--- damaged.
+-- The mark of the indexes or their first free identifier can't stand there, and their meta record
+-- is damaged.
 pub record IsMarkDamage (s : State) (damage : Damage) : Type 0 where
   pub is : damage ≡ damage_of format.meta_file format.index_file 1
   pub bad : ¬ IsRanged (meta_of s format.index_file) (room_of s.shape format.index_file)

@@ -1,7 +1,7 @@
 //! Entries that are taken out.
 
-ghost use Rattle.std.specs.Prelude.{◌≡◌, ◌≢◌, ◌↔◌, ◌+◌, ◌-◌, ◌≤◌, ℕ, List, IfErr, IfOk, IfSome, IsTrue};
-ghost use Rattle.std.specs.Prelude.{OnOk, false, true};
+ghost use Rattle.std.specs.Prelude.{◌≡◌, ◌≢◌, ◌↔◌, ◌+◌, ◌-◌, ◌≤◌, ℕ, List, IfErr, IfOk, IfSome};
+ghost use Rattle.std.specs.Prelude.{IsTrue, OnOk, false, true};
 ghost use Rattle.id_freelist.specs.Taking.{CanTake};
 ghost use Rattle.prop_index.specs.Blaming.{IsEntryAt, IsOfIndexes, NamesIndexes};
 ghost use Rattle.prop_index.specs.Entering.{entry_of};

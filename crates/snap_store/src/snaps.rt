@@ -17,7 +17,8 @@ ghost use Rattle.rec_bytes.specs.declared.key.Key.{Key as AKey};
 ghost use Rattle.rec_bytes.specs.declared.record.Rec.{Rec as ARec};
 ghost use Rattle.rec_bytes.specs.Key.{IsKey};
 ghost use Rattle.rec_bytes.specs.Pairs.{find_pair};
-ghost use Rattle.snap_store.specs.Layers.{AreDistinct, SameSights, from, is_open, any_open, lacks_room, released, sees, total, with_kept, youngest};
+ghost use Rattle.snap_store.specs.Layers.{AreDistinct, SameSights, any_open, from, is_open};
+ghost use Rattle.snap_store.specs.Layers.{lacks_room, released, sees, total, with_kept, youngest};
 ghost use Rattle.snap_store.specs.View.{seen_state};
 ghost use Rattle.snap_store.specs.Sums.{AreCovered, EndsOverfull, risen};
 

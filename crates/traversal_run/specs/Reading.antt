@@ -8,8 +8,8 @@ use Rattle.store_rules.specs.Indexes.{AreIndexed, wanted_in}
 use Rattle.store_rules.specs.Rules.{IsWellFormed}
 use Rattle.store_rules.specs.Views.{Records}
 
--- The records are those of a well-formed store with its indexes, and these are its names, with maybe
--- more after them.
+-- The records are those of a well-formed store with its indexes, and these are its names, with
+-- maybe more after them.
 pub record IsNamedStore (records : Records) (shape : Shape) (names : List (List ℕ)) : Type 0 where
   pub store : IsWellFormed records shape
   pub indexes : AreIndexed records (wanted_in records)

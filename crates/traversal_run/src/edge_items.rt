@@ -20,8 +20,8 @@ pub(crate) fn edge_item(alloc: Global, name: &[u8], row: &EdgeRow) -> Result<Sho
     Ok(Shown::edge(row.id, label, row.from, row.to))
 }
 
-/// The vertices at the other ends of edges at a vertex. They wait as numbers, and a single one takes
-/// no memory.
+/// The vertices at the other ends of edges at a vertex. They wait as numbers, and a single one
+/// takes no memory.
 pub(crate) fn end_items(alloc: Global, rows: &[EdgeRow], id: u32) -> Result<Waiting, AllocError>
     ensures { IfOk result (λ items. items ≡ map (end_item id) rows.now) }
 {

@@ -613,8 +613,8 @@ impl Run {
         // A limit over all vertices reads no more than each identifier up to that of its result.
         ensures scan { (at : ℕ) → IsScan self.old at → IfItem result (λ item.
             IsScanned at (R.state space.old).reads (R.state space.new).reads item self.new) }
-        // A hop at one vertex reads the vertex and what the edges of its types cost, before its first
-        // result. The others are then ready.
+        // A hop at one vertex reads the vertex and what the edges of its types cost, before its
+        // first result. The others are then ready.
         ensures hop { (id : ℕ) (hop : Hop) → IsHop self.old id hop
             → (R.tells
             → IsNamedStore (R.state space.old).records (R.state space.old).shape names.now.names

@@ -215,7 +215,8 @@ fn map_of<R: Reads>(
     ensures found { IsNamedStore (R.state space.now).records (R.state space.now).shape
         names.now.names → (properties : Properties)
         → AreRead (R.state space.now).records props.items properties
-        → IfOk result (λ map. (map.label ≡ option_map (λ (text : Bor (List ℕ)). text.now) label.entry)
+        → IfOk result (λ map.
+        (map.label ≡ option_map (λ (text : Bor (List ℕ)). text.now) label.entry)
         × (map.pairs ≡ pairs_of properties keys.now)) }
     ensures kept { IfOk result (λ map. All (λ (pair : PairRow). IsKept pair.value) map.pairs) }
 {
@@ -228,7 +229,8 @@ fn map_of<R: Reads>(
 
 /// A text of its own, where there is one.
 fn own_text(alloc: Global, text: Option<&[u8]>) -> Result<Option<Text>, AllocError>
-    ensures { IfOk result (λ own. own ≡ option_map (λ (bytes : Bor (List ℕ)). bytes.now) text.entry) }
+    ensures { IfOk result (λ own.
+        own ≡ option_map (λ (bytes : Bor (List ℕ)). bytes.now) text.entry) }
 {
     match text {
         Some(bytes) => Ok(Some(Text::new(Vec::from_slice(alloc, bytes)?))),

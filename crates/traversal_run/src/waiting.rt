@@ -10,8 +10,8 @@ use std::alloc::{AllocError, Global};
 use std::collections::VecDeque;
 use std::marker::Model;
 
-/// Items that wait, the first one first: vertices by their identifiers, and then any items. A single
-/// item is kept in place, with no memory of its own. Contracts see the list of items.
+/// Items that wait, the first one first: vertices by their identifiers, and then any items. A
+/// single item is kept in place, with no memory of its own. Contracts see the list of items.
 #[derive(Drop)]
 pub(crate) struct Waiting {
     vertices: VecDeque<u32>,

@@ -99,5 +99,3 @@ module _ (tells : Type 0) (records : Key → Rec) (all : Pairs) where
     pub thinned_more : (next : Pairs) → PutsChanged tells records key rec made next → IsThinned tells records all next rest
     thinned_more next (inl (is, differs)) = subst (λ (pairs : Pairs). IsThinned tells records all pairs rest) (sym is) (thinned_put differs)
     thinned_more next (inr (is, equal)) = subst (λ (pairs : Pairs). IsThinned tells records all pairs rest) (sym is) (thinned_same equal)
-
--- ---- such a list has nothing free

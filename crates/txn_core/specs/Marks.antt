@@ -14,7 +14,8 @@ use Rattle.record_file.specs.MetaFile.{with_metas}
 -- each is what the meta record of its file says
 abbrev pub AreMarksOf : (Key → Rec) → List Meta → Type 0
 AreMarksOf records marks =
-    (file : ℕ) → file < meta_records → slice_get marks file ≡ Some (meta_of (records (meta_key_of file)))
+    (file : ℕ) → file < meta_records
+    → slice_get marks file ≡ Some (meta_of (records (meta_key_of file)))
 
 -- They are those of the meta records in memory, with the changed records and the transaction's over
 -- them, whatever the files have.

@@ -11,6 +11,7 @@ returns-then-counts-file-gt0-clause-rooms c = map-set_same length c.args.files.n
 
 pub returns-then-counts-file-gt0-clause-bytes : goal.returns-then-counts-file-gt0-clause-bytes
 returns-then-counts-file-gt0-clause-bytes c other place =
-    lay-one (λ f. ltb 0 (get_or c.args.counts.now f 0)) (λ f p. leb (contents c.args.pokes.now f p) c.args.number) c.args.files.now c.args.write.file c.args.write.at
-    c.args.write.bytes.now c.lay.new.self other place (lt-ltb 0 _ (omega arith)) (omega arith)
+    let write = c.args.write in
+    lay-one (λ f. ltb 0 (get_or c.args.counts.now f 0)) (λ f p. leb (contents c.args.pokes.now f p) c.args.number) c.args.files.now write.file write.at
+    write.bytes.now c.lay.new.self other place (lt-ltb 0 _ (omega arith)) (omega arith)
     (λ i. grind (arith, common_steps, c.lay.ensures.bytes i))

@@ -263,13 +263,16 @@ returns-in_err-test_room-2-clause-counts g c tells whole =
 -- the indexes have at most one entry for each property
 asked : (g : Over) (c : After-entry_count-entries g) (records : Records) (now : List (List ℕ))
     → AsksRoom (commands.Node c.args.label.now c.as_slice-pairs.result.now) records now format.index_file c.entry_count-entries.result
-asked g c records now = inr (inr (
-  refl,
-  ⊎_elim
-      (λ (k : (format.properties_file ≡ format.properties_file) × (length c.in_ok-prepared.prepared.assigned.items ≡ maps.len (with_pairs no_properties c.as_slice-pairs.result.now))).
-      let few = c.entry_count-entries.ensures.few in let same = ap length c.deref-2.ensures.0 in let len = k.1 in omega (arith, few, same, len))
-      (λ (k : (format.properties_file ≡ format.strings_file) × (length c.in_ok-prepared.prepared.assigned.items ≡ blocks_in (with_pairs no_properties c.as_slice-pairs.result.now))). absurd (omega (arith, k.0))) c.in_ok-prepared.ensures.needs.0,
-))
+asked g c records now =
+    let given = with_pairs no_properties c.as_slice-pairs.result.now in
+    let assigned = c.in_ok-prepared.prepared.assigned.items in
+    inr (inr (
+      refl,
+      ⊎_elim
+          (λ (k : (format.properties_file ≡ format.properties_file) × (length assigned ≡ maps.len given)).
+          let few = c.entry_count-entries.ensures.few in let same = ap length c.deref-2.ensures.0 in let len = k.1 in omega (arith, few, same, len))
+          (λ (k : (format.properties_file ≡ format.strings_file) × (length assigned ≡ blocks_in given)). absurd (omega (arith, k.0))) c.in_ok-prepared.ensures.needs.0,
+    ))
 
 pub returns-in_err-test_room-2-clause-caused : goal.returns-in_err-test_room-2-clause-caused
 returns-in_err-test_room-2-clause-caused g c tells =
@@ -578,13 +581,16 @@ returns-in_err-enter_values-clause-refused_writes g c =
 
 -- a property has an entry
 given_any : (g : Over) (c : In_err-enter_values g) → c.as_slice-pairs.result.now ≢ []
-given_any g c none = ⊎_elim
-    (λ (k : (format.properties_file ≡ format.properties_file) × (length c.in_ok-prepared.prepared.assigned.items ≡ maps.len (with_pairs no_properties c.as_slice-pairs.result.now))).
+given_any g c none =
+    let given = with_pairs no_properties c.as_slice-pairs.result.now in
+    let assigned = c.in_ok-prepared.prepared.assigned.items in
+    ⊎_elim
+    (λ (k : (format.properties_file ≡ format.properties_file) × (length assigned ≡ maps.len given)).
     let some = c.in_err-enter_values.ensures.some in
     let same = ap length c.deref-5.ensures.0 in
     let len = k.1 ∙ ap (λ l. maps.len (with_pairs no_properties l)) none ∙ maps.len-empty order Value in
     absurd (omega (arith, some, same, len)))
-    (λ (k : (format.properties_file ≡ format.strings_file) × (length c.in_ok-prepared.prepared.assigned.items ≡ blocks_in (with_pairs no_properties c.as_slice-pairs.result.now))). absurd (omega (arith, k.0))) c.in_ok-prepared.ensures.needs.0
+    (λ (k : (format.properties_file ≡ format.strings_file) × (length assigned ≡ blocks_in given)). absurd (omega (arith, k.0))) c.in_ok-prepared.ensures.needs.0
 
 pub returns-in_err-enter_values-clause-caused : goal.returns-in_err-enter_values-clause-caused
 returns-in_err-enter_values-clause-caused g c tells =
