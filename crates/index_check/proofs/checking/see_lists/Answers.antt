@@ -92,7 +92,8 @@ returns-in-None-2-clause-right g c = λ tells.
     search (rules, c.in_ok-id.ensures.seen tells) in
     let keeps : (k : ℕ) → k < 12 * length ids → HeadKeeps Always (IsHeadItem records ids) k = search (rules, c.in_ok-id.ensures.keeps tells) in
     let once : (p : ℕ) → IsOnce Always (IsHeadItem records ids) (12 * length ids) p = search (rules, c.in_ok-id.ensures.once tells) in
-    let sees : Records → ℕ → Type 0 = λ r p. Decides (is_seen last p) ((is_seen first p ≡ true) ⊎ AmongHeads Always (AreItsEntries r ids) (180 * length ids) p) in
+    let sees : Records → ℕ → Type 0 = λ r p. Decides (is_seen last p)
+    ((is_seen first p ≡ true) ⊎ AmongHeads Always (AreItsEntries r ids) (180 * length ids) p) in
     let seen_after : IfNone c.in_ok-id-2.field-0 ((p : ℕ) → Decides (is_seen last p) ((is_seen first p ≡ true) ⊎ AmongHeads Always (AreItsEntries records ids)
     (180 * length ids) p))
     = subst (λ (r : Records). IfNone c.in_ok-id-2.field-0 ((p : ℕ) → sees r p)) c.in_ok-id.ensures.read.records (c.in_ok-id-2.ensures.seen tells) in
