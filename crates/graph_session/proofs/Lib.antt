@@ -15,6 +15,7 @@ pub mod Expansion
 pub mod FailedReads
 pub mod Finishing
 pub mod FinishingAlone
+pub mod FoundDamage
 pub mod GraphIndexes
 pub mod Held
 pub mod HopQueries

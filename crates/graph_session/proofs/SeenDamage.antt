@@ -1,7 +1,8 @@
 -- A change that met damage: its draft was dropped, and a broken record was looked for beneath it.
-use Rattle.std.proofs.Common.{◌≡◌, ◌∙◌, ◌≤◌, ℕ, [], length, take, ap, inl, inr, sym, subst, arith}
+use Rattle.std.proofs.Common.{◌≡◌, ◌∙◌, ◌≤◌, ℕ, List, [], length, take, ap, inl, inr, sym, subst, arith}
 use Rattle.std.proofs.lemmas.List.{append-nil}
 use Rattle.disk_model.specs.declared.disk.Disk.{Ghosts}
+use Rattle.plain_graph.specs.declared.command.Command.{Command}
 use Rattle.rec_bytes.specs.declared.damage.Damage.{Damage}
 use Rattle.rec_bytes.specs.declared.shape.Shape.{Shape}
 use Rattle.store_rules.specs.Breaking.{BreaksAny}
@@ -12,7 +13,7 @@ use Rattle.txn_core.specs.OnlyReading.{only_reads_base_on}
 use Rattle.txn_core.specs.Store.{drafted, working}
 use Rattle.txn_core.specs.declared.base.Base.{Base}
 use Rattle.txn_core.proofs.StoreRecords.{drafted-none, working-read}
-use Rattle.graph_session.specs.ChangeDamage.{IsSeenDamage}
+use Rattle.graph_session.specs.ChangeDamage.{IsSeenDamage, IsToldAsFound}
 use Rattle.graph_session.specs.Console.{HasNoDraft}
 use Rattle.graph_session.specs.Drafting.{HasStore, IsBrokenBeneath, OnlyDrafts, ReadsBeneath}
 use Rattle.graph_session.specs.Session.{view}
@@ -27,6 +28,9 @@ at-dropped {D = D} {g = g} P old new none same told =
     (subst (λ (records : Records). P records new.store.base.shape) (drafted-none new.store none ∙ ap (λ (b : Base D g). base.working b) same) told)
 
 module _ {D : Type 0} {g : Ghosts D} {old mid : Session D g} (only : OnlyDrafts old mid) where
+  pub names-dropped : (count : ℕ) → count ≡ length old.names.names → {new : Session D g} → ReadsBeneath count mid new → new.names.names ≡ old.names.names
+  names-dropped count counts drops = drops.names ∙ ap (take count) only.brought.1 ∙ take-brought old.names.names only.brought.0 count counts
+
   -- but for reads the session is as it was
   pub drafts-dropped : (count : ℕ) → count ≡ length old.names.names → {new : Session D g} → ReadsBeneath count mid new
       → g.faults mid.store.base.disk.now ≤ g.faults new.store.base.disk.now → OnlyDrafts old new
@@ -35,26 +39,27 @@ module _ {D : Type 0} {g : Ghosts D} {old mid : Session D g} (only : OnlyDrafts 
     weight = drops.weight ∙ only.weight;
     health = drops.health ∙ only.health;
     snaps = drops.snaps ∙ only.snaps;
-    brought = (
-      [],
-      drops.names ∙ ap (take count) only.brought.1 ∙ take-brought old.names.names only.brought.0 count counts ∙ sym (append-nil old.names.names),
-    );
+    brought = ([], names-dropped count counts drops ∙ sym (append-nil old.names.names));
     later = let early = only.later in omega (arith, early, later);
   }
 
   -- What breaks a rule beneath the draft does so in what the line sees. Where nothing does, the names are not those of the records.
-  pub seen-beneath : (HasStore old → ⊥) → (met damage : Damage) → IsBrokenBeneath mid met damage → HasNoDraft (view old)
-      → IsSeenDamage (view old).console damage
-  seen-beneath lacks met damage beneath none = by beneath
+  pub seen-beneath : (command : Command) → (HasStore old → ⊥) → (met damage : Damage)
+      → (IsToldAsFound command old.names.names met → BreaksAny (drafted old.store) old.store.base.shape met) → (names : List (List ℕ))
+      → names ≡ old.names.names → IsBrokenBeneath command names mid met damage → HasNoDraft (view old) → IsSeenDamage (view old).console damage
+  seen-beneath command lacks met damage found names kept beneath none = by beneath
     where
       same : working mid.store ≡ drafted old.store
       same = working-read old.store.base mid.store.base only.base ∙ sym (drafted-none old.store none)
 
-      by : IsBrokenBeneath mid met damage → IsSeenDamage (view old).console damage
+      by : IsBrokenBeneath command names mid met damage → IsSeenDamage (view old).console damage
       by (inl breaks) =
           inl (subst (λ (shape : Shape). BreaksAny (drafted old.store) shape damage) only.base.shape
           (subst (λ (records : Records). BreaksAny records mid.store.base.shape damage) same breaks))
-      by (inr (is, sound)) = inr (λ named. lacks (record {
+      by (inr (is, inl at_once)) =
+          inl (subst (λ (d : Damage). BreaksAny (drafted old.store) old.store.base.shape d) (sym is)
+          (found (subst (λ (known : List (List ℕ)). IsToldAsFound command known met) kept at_once)))
+      by (inr (is, inr sound)) = inr (λ named. lacks (record {
         store =
             subst (λ (shape : Shape). IsIndexed (drafted old.store) shape) only.base.shape
             (subst (λ (records : Records). IsIndexed records mid.store.base.shape) same sound);

@@ -34,7 +34,7 @@ use Rattle.change_parts.specs.declared.added.Added.{Added}
 use Rattle.change_parts.specs.declared.change_fault.ChangeFault.{ChangeFault}
 use Rattle.change_parts.specs.declared.change_fault.ChangeFault.TheVariants as faults
 use Rattle.graph_session.specs.Answering.{reply_of}
-use Rattle.graph_session.specs.ChangeDamage.{IsSeenDamage}
+use Rattle.graph_session.specs.ChangeDamage.{IsSeenDamage, IsToldAsFound}
 use Rattle.graph_session.specs.ChangeLeft.{LeavesRecords}
 use Rattle.graph_session.specs.Console.{HasNoDraft}
 use Rattle.graph_session.specs.MayStep.{TellsMade}
@@ -146,6 +146,14 @@ module _ {D : Type 0} {g : Ghosts D} where
   IsStopped command old now (answers.Fault (read_faults.Damaged damage)) =
       g.tells_reads → HasStore old → ⊥
 
+  -- A record that is called damaged breaks a rule in what the call found, if the call tells such a
+  -- record as it found it.
+  abbrev pub BlamesFound : Command → Session D g → Answer → Type 0
+  BlamesFound command old (answers.Fault (read_faults.Damaged damage)) =
+      g.tells_reads → IsToldAsFound command old.names.names damage
+      → BreaksAny (drafted old.store) old.store.base.shape damage
+  BlamesFound command old _ = Unit {0}
+
   -- A record that is called damaged is so in what the line sees.
   abbrev pub BlamesSeen : Session D g → Answer → Type 0
   BlamesSeen old (answers.Fault (read_faults.Damaged damage)) =
@@ -206,12 +214,13 @@ module _ {D : Type 0} {g : Ghosts D} where
     pub health : new.health ≡ old.health
     pub snaps : new.snaps ≡ old.snaps
 
-  -- The record breaks a rule in what is beneath the draft. Or all rules hold there, and it is the
-  -- one that was met.
-  abbrev pub IsBrokenBeneath : Session D g → Damage → Damage → Type 0
-  IsBrokenBeneath session met damage =
+  -- The record breaks a rule in what is beneath the draft. Or it is the one that was met: the call
+  -- of this command told it as it found it, where these are the names, or all rules hold there.
+  abbrev pub IsBrokenBeneath : Command → List (List ℕ) → Session D g → Damage → Damage → Type 0
+  IsBrokenBeneath command names session met damage =
       BreaksAny (working session.store) session.store.base.shape damage
-      ⊎ ((damage ≡ met) × IsIndexed (working session.store) session.store.base.shape)
+      ⊎ ((damage ≡ met) × (IsToldAsFound command names met
+      ⊎ IsIndexed (working session.store) session.store.base.shape))
 
   -- The transaction has the draft.
   pub record KeepsDraft (more : ℕ) (old new : Session D g) : Type 0 where

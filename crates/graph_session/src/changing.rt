@@ -1,4 +1,4 @@
-ghost use Rattle.std.specs.Prelude.{◌≡◌, [], IfErr, IfOk, IsTrue, OnErr, OnOk, true};
+ghost use Rattle.std.specs.Prelude.{◌≡◌, ◌↔◌, [], IfErr, IfOk, IsTrue, OnErr, OnOk, true};
 ghost use Rattle.std.specs.List.{AllByRecursion};
 ghost use Rattle.plain_graph.specs.Forms.{IsShown};
 ghost use Rattle.plain_graph.specs.LineChanges.{read_items};
@@ -12,8 +12,10 @@ ghost use Rattle.rec_bytes.specs.Space.{HasCause, SameButReads};
 ghost use Rattle.txn_core.specs.Base.{SameBeneath};
 ghost use Rattle.txn_core.specs.Shipped.{AllShip};
 ghost use Rattle.txn_core.specs.Store.{drafted, working};
+ghost use Rattle.change_parts.specs.Damage.{IsOfIndex};
 ghost use Rattle.change_parts.specs.Store.{graph_in};
 ghost use Rattle.graph_session.specs.Answering.{reply_of};
+ghost use Rattle.graph_session.specs.ChangeDamage.{IsToldAsFound, TellsAsFound};
 ghost use Rattle.graph_session.specs.Drafting.{drafted_done, drafted_edge, drafted_node};
 ghost use Rattle.graph_session.specs.Settling.{SettlesCommand};
 ghost use Rattle.graph_session.specs.SnapshotEffects.{KeepsOlds};
@@ -31,8 +33,9 @@ use graph_ops::{
     Added, ChangeFault, Mutated, add_edge, add_node, delete_edge, delete_node, index, mutate, set,
     unset,
 };
+use name_store::Names;
 use plain_graph::{Item, MOST_WEIGHT, Mutation, Query, Refusal, START_WEIGHT, Target};
-use rec_bytes::{Damage, Fault, SpaceFault, WriteSet};
+use rec_bytes::{Damage, Fault, INDEX, META, SpaceFault, WriteSet};
 use std::alloc::AllocError;
 use store_check::{Verdict, check};
 use traversal_run::items_of;
@@ -59,6 +62,7 @@ impl<'d, D: Disk> Session<'d, D> {
     ghost use Rattle.txn_core.specs.Store.{state_of};
     ghost use Rattle.graph_session.specs.Drafting.{
       BeginsChange,
+      BlamesFound,
       BlamesSeen,
       Discards,
       Drafts,
@@ -191,7 +195,9 @@ impl<'d, D: Disk> Session<'d, D> {
         let names = self.names.count();
         match self.draft_any(change) {
             Ok(drafted) => Ok(drafted),
-            Err(Answer::Fault(Fault::Damaged(met))) => match self.broken_record(met, names) {
+            Err(Answer::Fault(Fault::Damaged(met))) => match self.broken_record(
+                change, met, names,
+            ) {
                 Ok(damage) => Err(Answer::Fault(Fault::Damaged(damage))),
                 Err(SpaceFault::Memory) => Err(Answer::Fault(Fault::Memory)),
                 Err(SpaceFault::Disk) => Err(Answer::Fault(Fault::Disk)),
@@ -201,14 +207,24 @@ impl<'d, D: Disk> Session<'d, D> {
     }
 
     // A record that breaks a rule beneath the draft, which is dropped with the names that it
-    // brought. Where all rules hold there, it is the one that was met.
-    fn broken_record(&mut self, met: Damage, names: u32) -> Result<Damage, SpaceFault>
+    // brought. It is the one that was met where the call told that as it found it, or where all
+    // rules hold.
+    fn broken_record(
+        &mut self,
+        change: Change<'_>,
+        met: Damage,
+        names: u32,
+    ) -> Result<Damage, SpaceFault>
         ensures drops { ReadsBeneath names self.old self.new }
-        ensures broken { D.tells_reads → IfOk result (IsBrokenBeneath self.old met) }
+        ensures broken { D.tells_reads → IfOk result (IsBrokenBeneath
+            (change_command change.entry) self.new.names.names self.old met) }
         ensures cause { HasCause (D.faults self.old.store.base.disk.now)
             (D.faults self.new.store.base.disk.now) result }
     {
         self.drop_draft(names);
+        if is_told_as_found(change, &self.names, met) {
+            return Ok(met);
+        }
         match check(self.alloc, &mut self.store)? {
             Verdict::Sound => Ok(met),
             Verdict::Broken(damage) => Ok(damage),
@@ -220,6 +236,7 @@ impl<'d, D: Disk> Session<'d, D> {
         requires { HasForm (change_command change) }
         ensures only { OnlyDrafts self.old self.new }
         ensures drafts { Drafts (change_command change.entry) self.old self.new result }
+        ensures found { IfErr result (BlamesFound (change_command change.entry) self.old) }
     {
         match change {
             Change::Node { label, pairs } => {
@@ -254,6 +271,7 @@ impl<'d, D: Disk> Session<'d, D> {
     fn draft_deletion(&mut self, target: Target) -> Result<Drafted, Answer>
         ensures only { OnlyDrafts self.old self.new }
         ensures drafts { Drafts (commands.Delete target) self.old self.new result }
+        ensures found { IfErr result (BlamesFound (commands.Delete target) self.old) }
     {
         match target {
             Target::Node(id) => {
@@ -447,6 +465,33 @@ fn keep<D: Disk>(store: &mut Store<'_, D>) -> Result<(), AllocError>
         return Err(AllocError);
     }
     store.keep()
+}
+
+// Whether the call that makes a change, where these are the names, blames such a record only if it
+// breaks a rule in what the call found.
+fn is_told_as_found(change: Change<'_>, names: &Names, damage: Damage) -> bool
+    ensures { IsTrue result
+        → IsToldAsFound (change_command change.entry) names.now.names damage }
+{
+    !is_of_index(damage) && tells_as_found(change, names)
+}
+
+// Whether it blames nothing else but records of the indexes.
+fn tells_as_found(change: Change<'_>, names: &Names) -> bool
+    ensures { IsTrue result → TellsAsFound (change_command change.entry) names.now.names }
+{
+    match change {
+        Change::Node { .. } | Change::Unset { .. } | Change::Delete(_) => true,
+        Change::Set { key, .. } => names.find(key.as_bytes()).is_some(),
+        Change::Edge { .. } | Change::Index { .. } | Change::Mutate { .. } => false,
+    }
+}
+
+// Whether the record is one of the indexes, or their meta record.
+fn is_of_index(damage: Damage) -> bool
+    ensures { IsTrue result ↔ IsOfIndex damage }
+{
+    damage.file == INDEX || (damage.file == META && damage.id == INDEX as u32)
 }
 
 // A new node that is drafted, or why it isn't.

@@ -12,7 +12,7 @@ use Rattle.graph_session.proofs.session.Session.broken_record.Goals as goal
 pub returns-in-Sound-clause-broken : goal.returns-in-Sound-clause-broken
 returns-in-Sound-clause-broken g c = λ told.
     let dropped = c.drop_draft.ensures in
-    inr (refl, at-dropped IsIndexed c.args.self.now c.drop_draft.new.self dropped.discards.draft dropped.base (c.in_ok-check.ensures.sound told c.in-Sound.is))
+    inr (refl, inr (at-dropped IsIndexed c.args.self.now c.drop_draft.new.self dropped.discards.draft dropped.base (c.in_ok-check.ensures.sound told c.in-Sound.is)))
 
 pub returns-in-Broken-clause-broken : goal.returns-in-Broken-clause-broken
 returns-in-Broken-clause-broken g c = λ told.

@@ -5,9 +5,12 @@ use Rattle.plain_graph.specs.Reply.{EdgeMade, NodeMade}
 use Rattle.rec_bytes.specs.Format as format
 use Rattle.rec_bytes.specs.Space.{meta_in}
 use Rattle.id_freelist.specs.Taking.{taken_id}
-use Rattle.txn_core.specs.Store.{drafted}
+use Rattle.name_store.specs.Interning.{interned}
+use Rattle.change_parts.specs.Damage.{BlamesEntries, BlamesGiven}
 use Rattle.change_parts.specs.declared.added.Added.{Added}
+use Rattle.txn_core.specs.Store.{drafted, state_of}
 use Rattle.graph_session.specs.declared.answer.Answer.TheVariants as answers
+use Rattle.graph_session.proofs.FoundDamage.{entries-aside, found-call, found-none, given-aside}
 use Rattle.graph_session.proofs.LineDrafts.{drafts-call, ok-has}
 use Rattle.graph_session.proofs.session.Session.draft_any.Goals as goal
 
@@ -100,3 +103,46 @@ returns-in-Mutate-clause-only g c = c.draft_mutation.ensures.only
 
 pub returns-in-Mutate-clause-drafts : goal.returns-in-Mutate-clause-drafts
 returns-in-Mutate-clause-drafts g c = rw c.in-Mutate.is c.draft_mutation.ensures.drafts
+
+pub returns-in-Node-clause-found : goal.returns-in-Node-clause-found
+returns-in-Node-clause-found g c =
+    let s = state_of c.args.self.now.store in
+    let t = state_of c.add_node.new.space in
+    rw (c.in-Node.is, c.drafted_node.ensures)
+    (found-call (commands.Node c.in-Node.label.now c.in-Node.pairs.now) c.args.self.now (λ (added : Added). answers.NodeMade added.id)
+    (λ (added : Added). added.weight) (BlamesEntries s t) c.add_node.result (λ told. c.add_node.ensures.damaged told)
+    (λ fault at_once. entries-aside s t fault))
+
+pub returns-in-Edge-clause-found : goal.returns-in-Edge-clause-found
+returns-in-Edge-clause-found g c =
+    rw c.in-Edge.is (found-none (commands.Edge c.in-Edge.from c.in-Edge.label.now c.in-Edge.to c.in-Edge.pairs.now) c.args.self.now (λ none. none)
+    c.drafted_edge.result)
+
+pub returns-in-Set-clause-found : goal.returns-in-Set-clause-found
+returns-in-Set-clause-found g c =
+    let old = c.args.self.now in
+    let s = state_of old.store in
+    let t = state_of c.set.new.space in
+    rw (c.in-Set.is, c.drafted_done.ensures)
+    (found-call (commands.Set c.in-Set.target c.in-Set.key.now c.in-Set.value.now) old (λ (weight : ℕ). answers.Done) (λ (weight : ℕ). weight)
+    (BlamesGiven s (interned s old.names.names c.in-Set.key.now) t) c.set.result (λ told. c.set.ensures.damaged told)
+    (λ fault known. given-aside s t old.names.names c.in-Set.key.now known fault))
+
+pub returns-in-Unset-clause-found : goal.returns-in-Unset-clause-found
+returns-in-Unset-clause-found g c =
+    let s = state_of c.args.self.now.store in
+    let t = state_of c.unset.new.space in
+    rw (c.in-Unset.is, c.drafted_done-in-Unset.ensures)
+    (found-call (commands.Unset c.in-Unset.target c.in-Unset.key.now) c.args.self.now (λ (weight : ℕ). answers.Done) (λ (weight : ℕ). weight)
+    (BlamesEntries s t) c.unset.result (λ told. c.unset.ensures.damaged told) (λ fault at_once. entries-aside s t fault))
+
+pub returns-in-Delete-clause-found : goal.returns-in-Delete-clause-found
+returns-in-Delete-clause-found g c = rw c.in-Delete.is c.draft_deletion.ensures.found
+
+pub returns-in-Index-clause-found : goal.returns-in-Index-clause-found
+returns-in-Index-clause-found g c =
+    rw c.in-Index.is (found-none (commands.Index c.in-Index.label.now c.in-Index.key.now) c.args.self.now (λ none. none) c.drafted_done-in-Index.result)
+
+pub returns-in-Mutate-clause-found : goal.returns-in-Mutate-clause-found
+returns-in-Mutate-clause-found g c =
+    rw c.in-Mutate.is (found-none (commands.Mutate c.in-Mutate.reading.now c.in-Mutate.mutation.now) c.args.self.now (λ none. none) c.draft_mutation.result)

@@ -2,8 +2,11 @@ use Rattle.std.proofs.Common.{ℕ, [], refl, sym}
 use Rattle.std.proofs.lemmas.List.{append-nil}
 use Rattle.plain_graph.specs.declared.command.Command.TheVariants as commands
 use Rattle.plain_graph.specs.declared.command.Target.TheVariants as targets
-use Rattle.txn_core.specs.Store.{drafted}
+use Rattle.change_parts.specs.Damage.{BlamesBroken}
+use Rattle.node_changes.specs.NodeDeleting.{IsDeleteCause}
+use Rattle.txn_core.specs.Store.{drafted, state_of}
 use Rattle.graph_session.specs.declared.answer.Answer.TheVariants as answers
+use Rattle.graph_session.proofs.FoundDamage.{broken-aside, deletion-aside, found-call}
 use Rattle.graph_session.proofs.LineDrafts.{deletion-left, drafts-call}
 use Rattle.graph_session.proofs.session.Session.draft_deletion.Goals as goal
 
@@ -50,3 +53,19 @@ returns-in-Edge-clause-drafts g c =
     (drafts-call (λ (weight : ℕ). answers.Done) (λ (weight : ℕ). weight) (commands.Delete (targets.Edge c.in-Edge.id)) (λ weight. refl)
     (returns-in-Edge-clause-only g c) c.delete_edge.result (λ told. met.made told) met.light met.writes
     (λ told has. met.refused told has) (λ made is told. tt) met.cause)
+
+pub returns-in-Node-clause-found : goal.returns-in-Node-clause-found
+returns-in-Node-clause-found g c =
+    let s = state_of c.args.self.now.store in
+    let t = state_of c.delete_node.new.space in
+    rw (c.in-Node.is, c.drafted_done.ensures)
+    (found-call (commands.Delete (targets.Node c.in-Node.id)) c.args.self.now (λ (weight : ℕ). answers.Done) (λ (weight : ℕ). weight)
+    (IsDeleteCause s t c.in-Node.id) c.delete_node.result (λ told. c.delete_node.ensures.found told)
+    (λ fault at_once. deletion-aside s t c.in-Node.id fault))
+
+pub returns-in-Edge-clause-found : goal.returns-in-Edge-clause-found
+returns-in-Edge-clause-found g c =
+    let s = state_of c.args.self.now.store in
+    rw (c.in-Edge.is, c.drafted_done-in-Edge.ensures)
+    (found-call (commands.Delete (targets.Edge c.in-Edge.id)) c.args.self.now (λ (weight : ℕ). answers.Done) (λ (weight : ℕ). weight)
+    (BlamesBroken s) c.delete_edge.result (λ told. c.delete_edge.ensures.damaged told) (λ fault at_once. broken-aside s fault))
