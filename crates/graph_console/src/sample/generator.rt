@@ -30,12 +30,20 @@ impl Generator {
     }
 
     /// The next number, of 31 bits.
-    #[tactic(auto, unfolding(disk_model::specs::Generator::next_state, disk_model::specs::Generator::number_of))]
+    #[tactic(auto, unfolding(disk_model::specs::Generator::next_state))]
     pub(crate) fn draw(&mut self) -> u64
         ensures state { self.new ≡ next_state self.old }
         ensures number { result ≡ number_of (next_state self.old) }
     {
         self.state = self.state.wrapping_mul(FACTOR).wrapping_add(SUMMAND);
-        self.state >> 33
+        upper_bits(self.state)
     }
+}
+
+// The upper 31 bits of a state.
+#[tactic(auto, unfolding(disk_model::specs::Generator::number_of))]
+fn upper_bits(state: u64) -> u64
+    ensures { result ≡ number_of state }
+{
+    state >> 33
 }
