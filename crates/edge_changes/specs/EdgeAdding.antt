@@ -9,7 +9,7 @@ use Rattle.id_freelist.specs.ListDamage.{IsListDamage}
 use Rattle.group_store.specs.Densing.{IsSparse}
 use Rattle.group_store.specs.GroupChain.{IsDense}
 use Rattle.group_store.specs.Naming.{IsNoOther, IsOfMarks, IsUnread}
-use Rattle.group_store.specs.Opening.{IsFullDamage}
+use Rattle.group_store.specs.Opening.{IsShortDamage}
 use Rattle.change_parts.specs.Damage.{IfBlames, IsAsFound, IsBroken}
 use Rattle.edge_changes.specs.EdgeEnds.{AreApart, source_of, target_of}
 use Rattle.change_parts.specs.Degrees.{HasDegree}
@@ -102,23 +102,32 @@ IsOfEnd s node damage =
 
 -- What is called damaged where an edge comes into its chains: what was wrong with the files before;
 -- one of these, or the meta record of the nodes or of the relationships, which is as it was found;
--- or the meta record of the groups where their file is full.
-abbrev pub IsChainDamage : State → State → (Damage → Type 0) → Damage → Type 0
-IsChainDamage s t these damage = IsFileDamage s damage
-    ⊎ (((IsOfMarks damage ⊎ these damage) × IsAsFound s t damage) ⊎ IsFullDamage t damage)
+-- or the meta record of the groups where their file is full, and had room for fewer than this.
+abbrev pub IsChainDamage : State → State → ℕ → (Damage → Type 0) → Damage → Type 0
+IsChainDamage s t needed these damage = IsFileDamage s damage
+    ⊎ (((IsOfMarks damage ⊎ these damage) × IsAsFound s t damage)
+    ⊎ IsShortDamage s t needed damage)
 
-abbrev pub BlamesChains : State → State → ℕ → ℕ → ChangeFault → Type 0
-BlamesChains s t from to fault = IfBlames (IsChainDamage s t (IsOfEnds from to)) fault
+abbrev pub BlamesChains : State → State → ℕ → ℕ → ℕ → ChangeFault → Type 0
+BlamesChains s t needed from to fault =
+    IfBlames (IsChainDamage s t needed (IsOfEnds from to)) fault
 
 -- so at one end
-abbrev pub BlamesEnd : State → State → ℕ → ChangeFault → Type 0
-BlamesEnd s t node fault = IfBlames (IsChainDamage s t (IsOfEnd s node)) fault
+abbrev pub BlamesEnd : State → State → ℕ → ℕ → ChangeFault → Type 0
+BlamesEnd s t needed node fault = IfBlames (IsChainDamage s t needed (IsOfEnd s node)) fault
+
+-- How many groups may be made where an edge comes into its chains: at each end one for each of the
+-- relationships of a node that becomes dense, and one for the edge.
+abbrev pub groups_needed : ℕ → ℕ
+groups_needed threshold = 2 * (threshold + 1)
 
 -- A record that is blamed where an edge is added breaks a rule in the space as it was. Or it does
--- so in the space as it is left, and is as it was found. Or the file of groups is full.
+-- so in the space as it is left, and is as it was found. Or the file of groups is full then, and in
+-- the space as it was it had room for fewer than an edge may need.
 abbrev pub IsAddDamage : State → State → Damage → Type 0
 IsAddDamage s t damage = IsBroken s damage
-    ⊎ ((IsBroken t damage × IsAsFound s t damage) ⊎ IsFullDamage t damage)
+    ⊎ ((IsBroken t damage × IsAsFound s t damage)
+    ⊎ IsShortDamage s t (groups_needed s.shape.threshold) damage)
 
 abbrev pub BlamesAdded : State → State → ChangeFault → Type 0
 BlamesAdded s t fault = IfBlames (IsAddDamage s t) fault

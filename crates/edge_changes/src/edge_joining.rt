@@ -69,7 +69,7 @@ pub(crate) fn join_edge<S: Space>(
         → OnOk result (KeepsButChains (S.state space.old) (S.state space.new)
         (source_of ends).node (target_of ends).node) }
     ensures found { S.tells → AtEach (HasHead (S.state space.old).records) ends
-        → IfErr result (IfBlames (IsChainDamage (S.state space.old) (S.state space.new)
+        → IfErr result (IfBlames (IsChainDamage (S.state space.old) (S.state space.new) 0
         (IsOfLost (S.state space.old) ends))) }
     ensures key { IfOk result (λ id. IsKey (key_in relationships_file id)) }
     ensures writes { IfOk result (λ id.
@@ -100,7 +100,7 @@ fn place<S: Space>(space: &mut S, label: u32, from: u32, to: u32) -> Result<u32,
     ensures leaves { S.tells
         → OnOk result (KeepsButChains (S.state space.old) (S.state space.new) from to) }
     ensures found { S.tells
-        → IfErr result (IfBlames (IsChainDamage (S.state space.old) (S.state space.new)
+        → IfErr result (IfBlames (IsChainDamage (S.state space.old) (S.state space.new) 0
         (λ damage. ⊥))) }
     ensures others { S.tells → OnOk result ((key : Key)
         → key.file ≢ relationships_file → key.file ≢ meta_file

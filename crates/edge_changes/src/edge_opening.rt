@@ -4,12 +4,13 @@ ghost use Rattle.std.specs.Prelude.{◌≡◌, ◌≤◌, ◌+◌, ℕ, List, If
 ghost use Rattle.id_freelist.specs.ListDamage.{HarmsNoList};
 ghost use Rattle.chain_edit.specs.Heads.{head_of};
 ghost use Rattle.group_store.specs.Leaving.{KeepsOtherHeads, LeavesBeside};
-ghost use Rattle.group_store.specs.Opening.{CanOpen, HasGroupRoom, OpensChain, WritesOpened};
+ghost use Rattle.group_store.specs.Opening.{CanOpen, GrowsAtMost, HasGroupRoom, OpensChain};
+ghost use Rattle.group_store.specs.Opening.{WritesOpened};
 ghost use Rattle.group_store.specs.Opening.{moved_writes};
 ghost use Rattle.change_parts.specs.ChangeFault.{HasChangeCause, IsFailure, IsOutside};
 ghost use Rattle.change_parts.specs.Damage.{BlamesLinking};
 ghost use Rattle.edge_changes.specs.EdgeAdding.{BlamesChains, BlamesEnd, HarmsNoFiles};
-ghost use Rattle.edge_changes.specs.EdgeAdding.{KeepsButChains};
+ghost use Rattle.edge_changes.specs.EdgeAdding.{KeepsButChains, groups_needed};
 ghost use Rattle.edge_changes.specs.EdgeAdding.{IsNodeEnd, IsUsedEnd, IsUsedNode};
 ghost use Rattle.edge_changes.specs.EdgeEnds.{AreEdgeEnds, AtEach, HasHead, IsEdgeEnd};
 ghost use Rattle.edge_changes.specs.EdgeEnds.{source_of, target_of};
@@ -49,7 +50,10 @@ pub(crate) fn open_ends<S: Space>(space: &mut S, joint: Joint) -> Result<Ends<Ed
     ensures leaves { S.tells → OnOk result
         (KeepsButChains (S.state space.old) (S.state space.new) (from_of joint) (to_of joint)) }
     ensures found { S.tells → IfErr result
-        (BlamesChains (S.state space.old) (S.state space.new) (from_of joint) (to_of joint)) }
+        (BlamesChains (S.state space.old) (S.state space.new) (groups_needed joint.threshold)
+        (from_of joint) (to_of joint)) }
+    ensures room { S.tells → OnOk result (GrowsAtMost (S.state space.old) (S.state space.new)
+        (groups_needed joint.threshold)) }
     ensures has { S.tells → AtEach (IsUsedEnd (S.state space.old)) joint.ends
         → IfOk result (AtEach (HasHead (S.state space.new).records)) }
     ensures reaches { S.tells → AtEach (IsUsedEnd (S.state space.old)) joint.ends
@@ -106,7 +110,9 @@ fn open_end<S: Space>(
     ensures leaves { S.tells → OnOk result
         (KeepsButChains (S.state space.old) (S.state space.new) end.node end.node) }
     ensures found { S.tells → IfErr result
-        (BlamesEnd (S.state space.old) (S.state space.new) end.node) }
+        (BlamesEnd (S.state space.old) (S.state space.new) (joint.threshold + 1) end.node) }
+    ensures room { S.tells → OnOk result (GrowsAtMost (S.state space.old) (S.state space.new)
+        (joint.threshold + 1)) }
     ensures has { S.tells → IsUsedNode (S.state space.old) end.node
         → IfOk result (HasHead (S.state space.new).records) }
     ensures lists { S.tells → OnOk result

@@ -12,7 +12,7 @@ ghost use Rattle.store_rules.specs.Views.{key_in};
 ghost use Rattle.store_rules.specs.Writes.{WritesAtMost, WritesBeside};
 ghost use Rattle.change_parts.specs.ChangeFault.{HasChangeCause, IsFailure, IsOutside};
 ghost use Rattle.change_parts.specs.Damage.{BlamesLinking};
-ghost use Rattle.edge_changes.specs.EdgeAdding.{BlamesChains, KeepsButChains};
+ghost use Rattle.edge_changes.specs.EdgeAdding.{BlamesChains, KeepsButChains, groups_needed};
 ghost use Rattle.edge_changes.specs.EdgeAdding.{HasEndDegree, IsUsedEnd, IsUsedNode};
 ghost use Rattle.edge_changes.specs.EdgeEnds.{AtEach};
 ghost use Rattle.edge_changes.specs.EdgeOpening.{IsJoint, ends_moved, from_of, to_of};
@@ -74,7 +74,8 @@ pub(crate) fn put_edge<S: Space>(space: &mut S, joint: Joint) -> Result<u32, Cha
         (KeepsButChains (S.state space.old) (S.state space.new) (from_of joint) (to_of joint)) }
     ensures found { S.tells → AtEach (IsUsedEnd (S.state space.old)) joint.ends
         → IfErr result
-        (BlamesChains (S.state space.old) (S.state space.new) (from_of joint) (to_of joint)) }
+        (BlamesChains (S.state space.old) (S.state space.new) (groups_needed joint.threshold)
+        (from_of joint) (to_of joint)) }
     ensures key { IfOk result (λ id. IsKey (key_in relationships_file id)) }
     ensures writes { IfOk result (λ id. WritesBeside (rel_key id)
         (8 + ends_moved joint.threshold joint.ends) (S.state space.old) (S.state space.new)) }

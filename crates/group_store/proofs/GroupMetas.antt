@@ -1,9 +1,9 @@
 -- The free list of the groups where a head is found or made, and when their meta record is called damaged.
-use Rattle.std.proofs.Common.{◌≡◌, ◌≢◌, ℕ, ◌+◌, ◌<◌, ◌≤◌, ◌^◌, nat_eq, not, Result, Ok, Err, IfErr}
+use Rattle.std.proofs.Common.{◌≡◌, ◌≢◌, ◌⊎◌, ℕ, ◌+◌, ◌<◌, ◌≤◌, ◌^◌, nat_eq, not, Bool, true, false, cond, Result, Ok, Err, IfErr}
 use Rattle.std.proofs.Common.{sym, ap, ◌∙◌, subst, inl, inr, ⊎_elim, arith, refl}
 use Rattle.id_freelist.specs.ListDamage.{HarmsNoList, IsListDamage}
 use Rattle.id_freelist.specs.ListDamage.IsListDamage.{OutOfRange}
-use Rattle.id_freelist.specs.Taking.{IsUndamaged, taken, taken_id}
+use Rattle.id_freelist.specs.Taking.{IsUndamaged, free_taken, mark_taken, taken, taken_id}
 use Rattle.id_freelist.proofs.ListLaws.{same_back}
 use Rattle.id_freelist.proofs.ListSteps.{beside_harms_none, harms_none_then, put_harms_none, reads_harm_none, used_harms_none}
 use Rattle.id_freelist.proofs.TakeBreaches.{list_damage}
@@ -20,8 +20,10 @@ use Rattle.rec_bytes.specs.Format as format
 use Rattle.rec_bytes.specs.Meta as metas
 use Rattle.rec_bytes.specs.Record.{field, with_field}
 use Rattle.rec_bytes.specs.RecordFiles.{meta_key_of, room_of}
-use Rattle.rec_bytes.specs.Space.{SameButReads, State, after_get, after_put, after_set, meta_of}
-use Rattle.rec_bytes.proofs.Numbers.{field-lt}
+use Rattle.rec_bytes.specs.Space.{SameButReads, State, after_get, after_put, after_set, meta_of, put}
+use Rattle.rec_bytes.proofs.Numbers.{field-lt, field-with_field_same}
+use Rattle.rec_bytes.specs.declared.meta.Meta.{Meta}
+use Rattle.std.proofs.lemmas.Bool.{cases_lt}
 use Rattle.rec_bytes.proofs.Spaces.{put_other, put_same}
 use Rattle.store_rules.specs.Rules.{Head, first_of}
 use Rattle.store_rules.specs.Views.{first_link, high, kind_at, kind_in, rec_at}
@@ -44,11 +46,13 @@ use Rattle.group_store.specs.FirstGroup.{IsNodeFault}
 use Rattle.group_store.specs.GroupRecord.{group_key}
 use Rattle.group_store.specs.Links.{IsLinkDamage, backed}
 use Rattle.group_store.specs.Links.IsLinkDamage.{LeadsNowhere, HighLink}
-use Rattle.group_store.specs.Making.{IsMakeDamage, IsMakeFault, empty_group, led, link_damage}
+use Rattle.group_store.specs.Making.{IsMakeDamage, IsMakeFault, empty_group, led, link_damage, made}
 use Rattle.group_store.specs.Making.IsMakeDamage.{BadFree, BadLink, BadNode, FullFile, NotDense}
 use Rattle.group_store.specs.Naming.{NamesMeta}
-use Rattle.group_store.specs.Opening.{IsFullDamage}
-use Rattle.group_store.specs.Raising.{IsCountFault, raised, raised_state}
+use Rattle.group_store.specs.Leaving.{LeavesCounted}
+use Rattle.group_store.specs.Opening.{GrowsAtMost, IsFullDamage}
+use Rattle.group_store.specs.Raising.{IsCountFault, IsGroupAt, raised, raised_state}
+use Rattle.group_store.specs.declared.group_row.GroupRow.{GroupRow}
 use Rattle.group_store.specs.SparseChain.{IsSparseDamage, IsSparseFault}
 use Rattle.group_store.specs.SparseChain.IsSparseDamage.{BadRelationship, MoreThanSaid, NoChain}
 use Rattle.group_store.specs.Spreading.{cleared}
@@ -168,100 +172,181 @@ made_harms_none s now u end node label first id rec read took id_is undamaged fr
     (harms_none_then s p (led u node first id rec) format.groups_file (harms_none_then s now p format.groups_file read_none took_none)
     (led_harms_none u node first id rec))
 
+-- ---- how many groups are counted
+
+pub grows_read : (s t : State) → SameButReads s t → GrowsAtMost s t 0
+grows_read s t same = let live = ap (λ (q : State). (meta_of q format.groups_file).live) same in omega (arith, live)
+
+pub grows_then : (j k : ℕ) (s m t : State) → GrowsAtMost s m j → GrowsAtMost m t k → GrowsAtMost s t (j + k)
+grows_then j k s m t first then = omega (arith, first, then)
+
+grows_same : (s t : State) → t.records (meta_key_of format.groups_file) ≡ s.records (meta_key_of format.groups_file) → GrowsAtMost s t 0
+grows_same s t same = let live = ap (λ (r : Rec). (metas.meta_of r).live) same in omega (arith, live)
+
+-- a number is at most what was written
+live_with : (r : Rec) (m : Meta) → field 4 (metas.with_meta r m) format.meta_live ≤ m.live
+live_with r m = ⊎_elim
+    (λ (lt : m.live < 2 ^ 32). let is = field-with_field_same 4 (with_field 4 (with_field 4 r format.meta_high m.high) format.meta_free m.free) format.meta_live
+    m.live (omega arith) lt in omega (arith, is))
+    (λ (ge : 2 ^ 32 ≤ m.live). let lt = field-lt 4 (metas.with_meta r m) format.meta_live in omega (arith, ge, lt)) (cases_lt m.live (2 ^ 32))
+
+taken_live : (s : State) (file : ℕ) → (meta_of (taken s file) file).live ≤ (meta_of s file).live + 1
+unfolding mark_taken free_taken
+taken_live s file = by (nat_eq (meta_of s file).free format.nil)
+  where
+    live_of : (to : Meta) → field 4 (put s.records (meta_key_of file) (metas.with_meta (s.records (meta_key_of file)) to) (meta_key_of file)) format.meta_live
+        ≤ to.live
+    live_of to = subst (λ r. field 4 r format.meta_live ≤ to.live) (sym (put_same s.records (meta_key_of file) (metas.with_meta (s.records (meta_key_of file))
+        to))) (live_with (s.records (meta_key_of file)) to)
+
+    by : (b : Bool) → (meta_of (cond b (mark_taken s file) (free_taken s file)) file).live ≤ (meta_of s file).live + 1
+    by true = live_of _
+    by false = live_of _
+
+pub grows_made : (s : State) (node label : ℕ) → GrowsAtMost s (made s node label) 1
+unfolding made
+grows_made s node label =
+    let first = first_link s.records node in
+    let id = taken_id (meta_of s format.groups_file) in
+    let u = taken (after_get s) format.groups_file in
+    let rec = empty_group node label first in
+    let meta = ap (λ (r : Rec). (metas.meta_of r).live) (led_meta u node first id rec ∙ put_other u.records (group_key id) rec (meta_key_of format.groups_file)
+    (λ e. let f = ap (λ (k : Key). k.file) e in absurd (omega arith))) in
+    let one = taken_live (after_get s) format.groups_file in
+    omega (arith, meta, one)
+
+-- a relationship comes into a group
+pub grows_moved : (m t end : State) (node rel : ℕ) (h : Head) → h.key.file ≡ format.groups_file → t ≡ prev_set m node rel format.nil
+    → end ≡ tallied one_more (pushed t h node rel) h → GrowsAtMost m end 0
+grows_moved m t end node rel h group freed put =
+    let key : Key = meta_key_of format.groups_file in
+    grows_same m end (ap (λ (q : State). q.records key) put
+    ∙ file-tallied one_more (pushed t h node rel) h key (λ e. omega arith)
+    ∙ pushed_other t h node rel key (λ e. omega arith) (λ e. let f = ap (λ (k : Key). k.file) e in omega (arith, f, group))
+    ∙ ap (λ (q : State). q.records key) freed ∙ elsewhere-set_prev m.records node rel format.nil key (λ e. omega arith))
+
+-- a node becomes dense
+pub grows_cleared : (v t : State) (node : ℕ) → t ≡ cleared v node → GrowsAtMost v t 0
+grows_cleared v t node clear = grows_same v t (ap (λ (q : State). q.records (meta_key_of format.groups_file)) clear
+    ∙ put_other v.records (node_key node) (clear_of (v.records (node_key node))) (meta_key_of format.groups_file)
+    (λ e. let f = ap (λ (k : Key). k.file) e in absurd (omega arith)))
+
+-- a group that is counted, or has its numbers
+pub grows_counted : (m t : State) (node : ℕ) (row : GroupRow) → (row.counted ≡ true → SameButReads m t)
+    → (IsGroupAt m node row → LeavesCounted m.records t.records) → (row.counted ≡ true) ⊎ IsGroupAt m node row → GrowsAtMost m t 0
+grows_counted m t node row kept counts (inl is) = grows_read m t (kept is)
+grows_counted m t node row kept counts (inr at) = grows_same m t ((counts at).others (meta_key_of format.groups_file) (λ e. omega arith))
+
 -- ---- the meta record that is named
 
-pub metas_other : (s t : State) (damage : Damage) → damage.file ≢ format.meta_file → NamesMeta s t (Damaged damage)
-metas_other s t damage other of = absurd (other of.0)
+pub metas_other : (k : ℕ) (s t : State) (damage : Damage) → damage.file ≢ format.meta_file → NamesMeta s t k (Damaged damage)
+metas_other k s t damage other of = absurd (other of.0)
 
-pub metas_node : (s t : State) (damage : Damage) (n rule : ℕ) → damage ≡ record { file = format.nodes_file; id = n; rule = rule }
-    → NamesMeta s t (Damaged damage)
-metas_node s t damage n rule is = metas_other s t damage (λ e. let f = ap (λ (d : Damage). d.file) is in omega arith)
+pub metas_node : (k : ℕ) (s t : State) (damage : Damage) (n rule : ℕ) → damage ≡ record { file = format.nodes_file; id = n; rule = rule }
+    → NamesMeta s t k (Damaged damage)
+metas_node k s t damage n rule is = metas_other k s t damage (λ e. let f = ap (λ (d : Damage). d.file) is in omega arith)
 
-node_metas : (s t z : State) (n : ℕ) (damage : Damage) → IsNodeDamage z n damage → NamesMeta s t (Damaged damage)
-node_metas s t z n damage (HighRow above) of = absurd (let i : format.nodes_file ≡ format.groups_file = of.1 in omega arith)
-node_metas s t z n damage (UnknownKind low unknown) of = absurd (let f : format.nodes_file ≡ format.meta_file = of.0 in omega arith)
+node_metas : (k : ℕ) (s t z : State) (n : ℕ) (damage : Damage) → IsNodeDamage z n damage → NamesMeta s t k (Damaged damage)
+node_metas k s t z n damage (HighRow above) of = absurd (let i : format.nodes_file ≡ format.groups_file = of.1 in omega arith)
+node_metas k s t z n damage (UnknownKind low unknown) of = absurd (let f : format.nodes_file ≡ format.meta_file = of.0 in omega arith)
 
-pub node_fault_metas : (s t z : State) (n : ℕ) (fault : Fault) → IsNodeFault z n fault → NamesMeta s t fault
-node_fault_metas s t z n Memory told = tt
-node_fault_metas s t z n Disk told = tt
-node_fault_metas s t z n (Damaged damage) told = node_metas s t z n damage told
+pub node_fault_metas : (k : ℕ) (s t z : State) (n : ℕ) (fault : Fault) → IsNodeFault z n fault → NamesMeta s t k fault
+node_fault_metas k s t z n Memory told = tt
+node_fault_metas k s t z n Disk told = tt
+node_fault_metas k s t z n (Damaged damage) told = node_metas k s t z n damage told
 
 -- the mark of the groups is above the room
 high_listed : (s : State) → room_of s.shape format.groups_file < high s.records format.groups_file
     → IsListDamage s.records s.shape format.groups_file (record { file = format.meta_file; id = format.groups_file; rule = 1 })
 high_listed s above = OutOfRange (λ r. let low = r.mark in omega arith)
 
-walk_metas : (s t : State) (n first : ℕ) (damage : Damage) → IsWalkDamage s n first damage → NamesMeta s t (Damaged damage)
-walk_metas s t n first damage (NoList none) of = absurd (let f : format.nodes_file ≡ format.meta_file = of.0 in omega arith)
-walk_metas s t n first damage (UnknownGroup g none low unknown) of = absurd (let f : format.groups_file ≡ format.meta_file = of.0 in omega arith)
-walk_metas s t n first damage (HighMark above) of = inl (high_listed s above)
+walk_metas : (k : ℕ) (s t : State) (n first : ℕ) (damage : Damage) → IsWalkDamage s n first damage → NamesMeta s t k (Damaged damage)
+walk_metas k s t n first damage (NoList none) of = absurd (let f : format.nodes_file ≡ format.meta_file = of.0 in omega arith)
+walk_metas k s t n first damage (UnknownGroup g none low unknown) of = absurd (let f : format.groups_file ≡ format.meta_file = of.0 in omega arith)
+walk_metas k s t n first damage (HighMark above) of = inl (high_listed s above)
 
-pub find_metas : (s t : State) (n : ℕ) (fault : Fault) → IsFindFault s n fault → NamesMeta s t fault
-find_metas s t n Memory told = tt
-find_metas s t n Disk told = tt
-find_metas s t n (Damaged damage) told = ⊎_elim (λ k. node_metas s t s n damage k) (λ k. walk_metas s t n _ damage k) told
+pub find_metas : (k : ℕ) (s t : State) (n : ℕ) (fault : Fault) → IsFindFault s n fault → NamesMeta s t k fault
+find_metas k s t n Memory told = tt
+find_metas k s t n Disk told = tt
+find_metas k s t n (Damaged damage) told = ⊎_elim (λ bad. node_metas k s t s n damage bad) (λ bad. walk_metas k s t n _ damage bad) told
 
-link_metas : (s t : State) (n link : ℕ) (damage : Damage) → IsLinkDamage s link (link_damage n) damage → NamesMeta s t (Damaged damage)
-link_metas s t n link damage (LeadsNowhere some above) of = absurd (let f : format.nodes_file ≡ format.meta_file = of.0 in omega arith)
-link_metas s t n link damage (HighLink above) of = inl (high_listed s above)
+link_metas : (k : ℕ) (s t : State) (n link : ℕ) (damage : Damage) → IsLinkDamage s link (link_damage n) damage → NamesMeta s t k (Damaged damage)
+link_metas k s t n link damage (LeadsNowhere some above) of = absurd (let f : format.nodes_file ≡ format.meta_file = of.0 in omega arith)
+link_metas k s t n link damage (HighLink above) of = inl (high_listed s above)
 
-make_damage_metas : (s t : State) (n : ℕ) → SameButReads s t → (damage : Damage) → IsMakeDamage s n damage → NamesMeta s t (Damaged damage)
-make_damage_metas s t n same damage (BadNode _ bad) = node_metas s t s n damage bad
+make_damage_metas : (s t : State) (n : ℕ) → SameButReads s t → (damage : Damage) → IsMakeDamage s n damage → NamesMeta s t 1 (Damaged damage)
+make_damage_metas s t n same damage (BadNode _ bad) = node_metas 1 s t s n damage bad
 make_damage_metas s t n same damage (NotDense thin) = λ of. absurd (let f : format.nodes_file ≡ format.meta_file = of.0 in omega arith)
-make_damage_metas s t n same damage (BadLink _ bad) = link_metas s t n _ damage bad
-make_damage_metas s t n same damage (FullFile full) = λ of. inr (subst (λ (q : State). IsFullDamage q damage) (sym same) (refl, full))
+make_damage_metas s t n same damage (BadLink _ bad) = link_metas 1 s t n _ damage bad
+make_damage_metas s t n same damage (FullFile full) =
+    λ of. inr (record { full = subst (λ (q : State). IsFullDamage q damage) (sym same) (refl, full); lacks = omega (arith, full) })
 make_damage_metas s t n same damage (BadFree _ bad) = λ of. inl (list_damage s format.groups_file damage bad)
 
-make_metas : {T : Type 0} (s t : State) (n : ℕ) (r : Result T Fault) → IfErr r (IsMakeFault s n) → OnDamage r (SameButReads s t) → IfErr r (NamesMeta s t)
+make_metas : {T : Type 0} (s t : State) (n : ℕ) (r : Result T Fault) → IfErr r (IsMakeFault s n) → OnDamage r (SameButReads s t) → IfErr r (NamesMeta s t 1)
 make_metas s t n (Ok x) told same = tt
 make_metas s t n (Err Memory) told same = tt
 make_metas s t n (Err Disk) told same = tt
 make_metas s t n (Err (Damaged damage)) told same = make_damage_metas s t n same damage told
 
 -- as it was wrong before
-pub metas_then : (s z t : State) (fault : Fault) → HarmsNoList s z format.groups_file → NamesMeta z t fault → NamesMeta s t fault
-metas_then s z t Memory harmless told = tt
-metas_then s z t Disk harmless told = tt
-metas_then s z t (Damaged damage) harmless told = λ of. ⊎_elim (λ list. inl (harmless damage list)) (λ full. inr full) (told of)
+pub metas_then : (j k : ℕ) (s z t : State) (fault : Fault) → z.shape ≡ s.shape → GrowsAtMost s z j → HarmsNoList s z format.groups_file
+    → NamesMeta z t k fault → NamesMeta s t (j + k) fault
+metas_then j k s z t Memory shape grows harmless told = tt
+metas_then j k s z t Disk shape grows harmless told = tt
+metas_then j k s z t (Damaged damage) shape grows harmless told = λ of. ⊎_elim (λ list. inl (harmless damage list)) (λ short. inr (record {
+  full = short.full;
+  lacks = let lacks = short.lacks in let room = ap (λ (h : Shape). room_of h format.groups_file) shape in omega (arith, lacks, grows, room);
+})) (told of)
 
-pub metas_read : (s z t : State) (fault : Fault) → SameButReads s z → NamesMeta z t fault → NamesMeta s t fault
-metas_read s z t fault same told = metas_then s z t fault (reads_harm_none s z format.groups_file same) told
+-- there was room for fewer than more
+pub metas_more : (j k : ℕ) (s t : State) (fault : Fault) → j ≤ k → NamesMeta s t j fault → NamesMeta s t k fault
+metas_more j k s t Memory le told = tt
+metas_more j k s t Disk le told = tt
+metas_more j k s t (Damaged damage) le told = λ of. ⊎_elim (λ list. inl list) (λ short. inr (record {
+  full = short.full;
+  lacks = let lacks = short.lacks in omega (arith, lacks, le);
+})) (told of)
+
+pub metas_read : (k : ℕ) (s z t : State) (fault : Fault) → SameButReads s z → NamesMeta z t k fault → NamesMeta s t k fault
+metas_read k s z t fault same told =
+    metas_more (0 + k) k s t fault (omega arith)
+    (metas_then 0 k s z t fault (ap (λ (q : State). q.shape) same) (grows_read s z same) (reads_harm_none s z format.groups_file same) told)
 
 pub own_metas : {T : Type 0} (s now t : State) (n : ℕ) (r : Result T Fault) → SameButReads s now → IfErr r (IsMakeFault now n)
-    → OnDamage r (SameButReads now t) → IfErr r (NamesMeta s t)
+    → OnDamage r (SameButReads now t) → IfErr r (NamesMeta s t 1)
 own_metas s now t n (Ok x) same told kept = tt
-own_metas s now t n (Err fault) same told kept = metas_read s now t fault same (make_metas {T = Unit {0}} now t n (Err fault) told kept)
+own_metas s now t n (Err fault) same told kept = metas_read 1 s now t fault same (make_metas {T = Unit {0}} now t n (Err fault) told kept)
 
-pub count_metas : (s t : State) (n g : ℕ) (fault : Fault) → IsCountFault n g fault → NamesMeta s t fault
-count_metas s t n g Memory told = tt
-count_metas s t n g Disk told = tt
-count_metas s t n g (Damaged damage) (inl group) = metas_other s t damage (λ e. let f = ap (λ (d : Damage). d.file) group in omega arith)
-count_metas s t n g (Damaged damage) (inr (inl many)) = metas_node s t damage n 7 many
-count_metas s t n g (Damaged damage) (inr (inr mark)) = λ of. absurd (let i = ap (λ (d : Damage). d.id) mark in let j = of.1 in omega arith)
+pub count_metas : (k : ℕ) (s t : State) (n g : ℕ) (fault : Fault) → IsCountFault n g fault → NamesMeta s t k fault
+count_metas k s t n g Memory told = tt
+count_metas k s t n g Disk told = tt
+count_metas k s t n g (Damaged damage) (inl group) = metas_other k s t damage (λ e. let f = ap (λ (d : Damage). d.file) group in omega arith)
+count_metas k s t n g (Damaged damage) (inr (inl many)) = metas_node k s t damage n 7 many
+count_metas k s t n g (Damaged damage) (inr (inr mark)) = λ of. absurd (let i = ap (λ (d : Damage). d.id) mark in let j = of.1 in omega arith)
 
-row_metas : (s t z : State) (x : ℕ) (damage : Damage) → IsRowDamage format.relationships_file z x damage → NamesMeta s t (Damaged damage)
-row_metas s t z x damage (HighRow above) of = absurd (let i : format.relationships_file ≡ format.groups_file = of.1 in omega arith)
-row_metas s t z x damage (UnknownKind low unknown) of = absurd (let f : format.relationships_file ≡ format.meta_file = of.0 in omega arith)
+row_metas : (k : ℕ) (s t z : State) (x : ℕ) (damage : Damage) → IsRowDamage format.relationships_file z x damage → NamesMeta s t k (Damaged damage)
+row_metas k s t z x damage (HighRow above) of = absurd (let i : format.relationships_file ≡ format.groups_file = of.1 in omega arith)
+row_metas k s t z x damage (UnknownKind low unknown) of = absurd (let f : format.relationships_file ≡ format.meta_file = of.0 in omega arith)
 
-pub rel_metas : (s t z : State) (x : ℕ) (fault : RowFault) → rels.IsRelFault z x fault → NamesMeta s t (of_row fault)
-rel_metas s t z x row.Disk told = tt
-rel_metas s t z x (row.Damaged damage) told = row_metas s t z x damage told
+pub rel_metas : (k : ℕ) (s t z : State) (x : ℕ) (fault : RowFault) → rels.IsRelFault z x fault → NamesMeta s t k (of_row fault)
+rel_metas k s t z x row.Disk told = tt
+rel_metas k s t z x (row.Damaged damage) told = row_metas k s t z x damage told
 
-pub push_metas : (s t z : State) (head : Head) → head.key.file ≡ format.groups_file → (fault : Fault) → IsPushFault z head fault → NamesMeta s t fault
-push_metas s t z head group Memory told = tt
-push_metas s t z head group Disk told = tt
-push_metas s t z head group (Damaged damage) told = by damage told
+pub push_metas : (k : ℕ) (s t z : State) (head : Head) → head.key.file ≡ format.groups_file → (fault : Fault) → IsPushFault z head fault → NamesMeta s t k fault
+push_metas k s t z head group Memory told = tt
+push_metas k s t z head group Disk told = tt
+push_metas k s t z head group (Damaged damage) told = by damage told
   where
-    by : (d : Damage) → chains.IsLinkDamage z (first_of z.records head) (first_damage head.key) d → NamesMeta s t (Damaged d)
+    by : (d : Damage) → chains.IsLinkDamage z (first_of z.records head) (first_damage head.key) d → NamesMeta s t k (Damaged d)
     by d (NoRel some above) of = absurd (let f : head.key.file ≡ format.meta_file = of.0 in omega arith)
     by d (HighRels above) of = absurd (let i : format.relationships_file ≡ format.groups_file = of.1 in omega arith)
 
-sparse_damage_metas : (s t z : State) (n count : ℕ) (damage : Damage) → IsSparseDamage z n count damage → NamesMeta s t (Damaged damage)
-sparse_damage_metas s t z n count damage (NoChain none) = metas_node s t damage n 3 refl
-sparse_damage_metas s t z n count damage (MoreThanSaid more) = metas_node s t damage n 7 refl
-sparse_damage_metas s t z n count damage (BadRelationship x _ bad) = row_metas s t z x damage bad
+sparse_damage_metas : (k : ℕ) (s t z : State) (n count : ℕ) (damage : Damage) → IsSparseDamage z n count damage → NamesMeta s t k (Damaged damage)
+sparse_damage_metas k s t z n count damage (NoChain none) = metas_node k s t damage n 3 refl
+sparse_damage_metas k s t z n count damage (MoreThanSaid more) = metas_node k s t damage n 7 refl
+sparse_damage_metas k s t z n count damage (BadRelationship x _ bad) = row_metas k s t z x damage bad
 
-pub sparse_metas : (s t z : State) (n count : ℕ) (fault : Fault) → IsSparseFault z n count fault → NamesMeta s t fault
-sparse_metas s t z n count Memory told = tt
-sparse_metas s t z n count Disk told = tt
-sparse_metas s t z n count (Damaged damage) told = sparse_damage_metas s t z n count damage told
+pub sparse_metas : (k : ℕ) (s t z : State) (n count : ℕ) (fault : Fault) → IsSparseFault z n count fault → NamesMeta s t k fault
+sparse_metas k s t z n count Memory told = tt
+sparse_metas k s t z n count Disk told = tt
+sparse_metas k s t z n count (Damaged damage) told = sparse_damage_metas k s t z n count damage told

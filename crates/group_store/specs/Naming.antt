@@ -11,7 +11,7 @@ use Rattle.store_rules.specs.Views.{Records, key_in}
 use Rattle.group_store.specs.GroupChain.{is_group_of}
 use Rattle.group_store.specs.GroupRecord.{group_key}
 use Rattle.group_store.specs.Loading.{HasNoKind}
-use Rattle.group_store.specs.Opening.{IsFullDamage}
+use Rattle.group_store.specs.Opening.{IsShortDamage}
 
 -- the record is a group, or the meta record of the groups
 abbrev pub IsOfGroups : Damage → Type 0
@@ -93,10 +93,10 @@ NamesFound s t node (Damaged damage) = IsFoundAt s t node damage
 abbrev pub IsOfGroupMeta : Damage → Type 0
 IsOfGroupMeta damage = (damage.file ≡ format.meta_file) × (damage.id ≡ format.groups_file)
 
--- Where a fault names that meta record, this was wrong with the free list of the groups before, or
--- their file is full.
-abbrev pub NamesMeta : State → State → Fault → Type 0
-NamesMeta s t Memory = Unit {0}
-NamesMeta s t Disk = Unit {0}
-NamesMeta s t (Damaged damage) = IsOfGroupMeta damage
-    → IsListDamage s.records s.shape format.groups_file damage ⊎ IsFullDamage t damage
+-- Where a fault names that meta record, this was wrong with the free list of the groups before. Or
+-- their file is full, and had room for fewer more than this before.
+abbrev pub NamesMeta : State → State → ℕ → Fault → Type 0
+NamesMeta s t needed Memory = Unit {0}
+NamesMeta s t needed Disk = Unit {0}
+NamesMeta s t needed (Damaged damage) = IsOfGroupMeta damage
+    → IsListDamage s.records s.shape format.groups_file damage ⊎ IsShortDamage s t needed damage

@@ -136,6 +136,16 @@ abbrev pub IsFullDamage : State → Damage → Type 0
 IsFullDamage s damage = (damage ≡ full_damage)
     × ((meta_of s format.groups_file).live ≡ taking.room s format.groups_file)
 
+-- So it is then, and there was room for fewer groups more than this before.
+pub record IsShortDamage (s t : State) (needed : ℕ) (damage : Damage) : Type 0 where
+  pub full : IsFullDamage t damage
+  pub lacks : room_of s.shape format.groups_file < (meta_of s format.groups_file).live + needed
+
+-- at most so many groups more are counted than before
+abbrev pub GrowsAtMost : State → State → ℕ → Type 0
+GrowsAtMost s t count =
+    (meta_of t format.groups_file).live ≤ (meta_of s format.groups_file).live + count
+
 -- What is told where no group is found or made: the record that is said to be damaged breaks the
 -- rule, or the file of groups is full.
 abbrev pub IsOpenDamage : State → Damage → Type 0

@@ -30,7 +30,7 @@ ghost use Rattle.group_store.specs.Moving.{ComesIn, GrowsBy, HasAdded, HasFound,
 ghost use Rattle.group_store.specs.Moving.{turn_keys};
 ghost use Rattle.group_store.specs.Naming.{NamesAt, NamesFound, NamesMeta, NamesNoGroup};
 ghost use Rattle.group_store.specs.Naming.{NamesNoNode};
-ghost use Rattle.group_store.specs.Opening.{IsOpenFault};
+ghost use Rattle.group_store.specs.Opening.{GrowsAtMost, IsOpenFault};
 ghost use Rattle.group_store.specs.Raising.{IsGroupAt};
 ghost use Rattle.group_store.specs.Spreading.{CanTakeEach, HasCountedList, HasEndRoom};
 ghost use Rattle.group_store.specs.Spreading.{HasOpened, HasSpreadList, IsSpread};
@@ -78,7 +78,9 @@ pub fn make_dense<S: Space>(space: &mut S, node: u32, threshold: u32) -> Result<
         → IfErr result (IsEndFault (S.state space.new) node) }
     ensures names { S.tells → IfErr result (NamesAt (S.state space.old) node) }
     ensures metas { S.tells
-        → IfErr result (NamesMeta (S.state space.old) (S.state space.new)) }
+        → IfErr result (NamesMeta (S.state space.old) (S.state space.new) threshold) }
+    ensures room { S.tells → OnOk result
+        (GrowsAtMost (S.state space.old) (S.state space.new) threshold) }
     ensures lists { S.tells → OnOk result
         (HarmsNoList (S.state space.old) (S.state space.new) groups_file) }
     ensures named { S.tells
@@ -185,7 +187,9 @@ fn move_one<S: Space>(space: &mut S, node: u32, rel: u32) -> Result<Turn, Fault>
         → IfErr result (IsMoveFault (S.state space.old) (S.state space.new) node rel) }
     ensures names { S.tells → IfErr result (NamesAt (S.state space.old) node) }
     ensures metas { S.tells
-        → IfErr result (NamesMeta (S.state space.old) (S.state space.new)) }
+        → IfErr result (NamesMeta (S.state space.old) (S.state space.new) 1) }
+    ensures room { S.tells → OnOk result
+        (GrowsAtMost (S.state space.old) (S.state space.new) 1) }
     ensures lists { S.tells → OnOk result
         (HarmsNoList (S.state space.old) (S.state space.new) groups_file) }
     ensures listed { S.tells → IsDense (S.state space.old).records node
@@ -270,7 +274,9 @@ pub(crate) fn own_group<S: Space>(space: &mut S, node: u32, label: u32) -> Resul
         → IfErr result (IsOpenFault (S.state space.old)) }
     ensures names { S.tells → IfErr result (NamesAt (S.state space.old) node) }
     ensures metas { S.tells
-        → IfErr result (NamesMeta (S.state space.old) (S.state space.new)) }
+        → IfErr result (NamesMeta (S.state space.old) (S.state space.new) 1) }
+    ensures room { S.tells → OnOk result
+        (GrowsAtMost (S.state space.old) (S.state space.new) 1) }
     ensures lists { S.tells → OnOk result
         (HarmsNoList (S.state space.old) (S.state space.new) groups_file) }
     ensures listed { S.tells → IsDense (S.state space.old).records node

@@ -29,6 +29,7 @@ ghost use Rattle.group_store.specs.Opening.{
   CanOpen,
   CanOpenGroup,
   FindsChain,
+  GrowsAtMost,
   HasGroupRoom,
   IsAt,
   IsEndOf,
@@ -140,7 +141,9 @@ fn open_group<S: Space>(space: &mut S, node: u32, label: u32, side: Side) -> Res
         → IfErr result (IsOpenFault (S.state space.old)) }
     ensures names { S.tells → IfErr result (NamesAt (S.state space.old) node) }
     ensures metas { S.tells
-        → IfErr result (NamesMeta (S.state space.old) (S.state space.new)) }
+        → IfErr result (NamesMeta (S.state space.old) (S.state space.new) 1) }
+    ensures room { S.tells → IsDense (S.state space.old).records node → OnOk result
+        (GrowsAtMost (S.state space.old) (S.state space.new) 1) }
     ensures lists { S.tells → OnOk result
         (HarmsNoList (S.state space.old) (S.state space.new) groups_file) }
     ensures listed { S.tells → IsDense (S.state space.old).records node
@@ -207,7 +210,9 @@ pub fn open_chain<S: Space>(
         → IfErr result (IsEndFault (S.state space.new) node) }
     ensures names { S.tells → IfErr result (NamesAt (S.state space.old) node) }
     ensures metas { S.tells
-        → IfErr result (NamesMeta (S.state space.old) (S.state space.new)) }
+        → IfErr result (NamesMeta (S.state space.old) (S.state space.new) (threshold + 1)) }
+    ensures room { S.tells → OnOk result
+        (GrowsAtMost (S.state space.old) (S.state space.new) (threshold + 1)) }
     ensures lists { S.tells → OnOk result
         (HarmsNoList (S.state space.old) (S.state space.new) groups_file) }
     ensures named { S.tells

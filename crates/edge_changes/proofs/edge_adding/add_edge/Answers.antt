@@ -16,7 +16,7 @@ use Rattle.change_parts.specs.Assigning.{CanPut, HasPropertyRoom, IsPutCause, Pu
 use Rattle.change_parts.specs.Change.{IsCounted, IsRefusal, MakesChange}
 use Rattle.change_parts.specs.ChangeFault.{IsOutside, LeavesSpace}
 use Rattle.change_parts.specs.Damage.{BlamesLinking, IsLinkingDamage, KeepsButNames}
-use Rattle.edge_changes.specs.EdgeAdding.{BlamesAdded, BlamesChains, HasEndDegree, IsFullOfEdges, IsUsedEnd, KeepsButChains, degrees_weight}
+use Rattle.edge_changes.specs.EdgeAdding.{BlamesAdded, BlamesChains, HasEndDegree, IsFullOfEdges, IsUsedEnd, KeepsButChains, degrees_weight, groups_needed}
 use Rattle.edge_changes.specs.EdgeEnds.{AtEach, source_of, target_of}
 use Rattle.edge_changes.specs.EdgePlacing.{PutsEdge}
 use Rattle.change_parts.specs.Degrees.{HasDegree}
@@ -565,11 +565,14 @@ returns-in_err-id-clause-damaged g c tells =
     let u = g.S.Reads.state c.prepare.new.space in
     let v = g.S.Reads.state c.put_edge.new.space in
     let fault = c.in_err-id.field-0.0 in
-    let found = at_nodes (λ from to. BlamesChains u v from to fault) c.in_ok-ends.ends c.args.from c.args.to c.in_ok-ends.ensures.ends
+    let most = groups_needed c.shape-threshold.result.threshold in
+    let found = at_nodes (λ from to. BlamesChains u v most from to fault) c.in_ok-ends.ends c.args.from c.args.to c.in_ok-ends.ensures.ends
     (c.in_err-id.ensures.found tells (used_then g at.In_ok-prepared tells)) in
     let named = g.met.S.Reads.onward_shape _ _ c.prepare.ensures.onward ∙ ap (λ (z : State). z.shape) c.end_degrees.ensures.state in
     fault_exit (λ f. f) (BlamesAdded s v) fault c.from_residual-in_err-id.result c.from_residual-in_err-id.ensures.1
-    (chains_added s u v c.args.from c.args.to named (names_then g at.In_ok-prepared tells) fault (put_blamed g at.In_err-id tells) found)
+    (chains_added most s u v c.args.from c.args.to
+    (ap groups_needed (ap (λ (h : Shape). h.threshold) (c.shape-threshold.ensures.is ∙ sym (g.met.S.Reads.onward_shape _ _ c.prepare.ensures.onward) ∙ named)))
+    named (names_then g at.In_ok-prepared tells) fault (put_blamed g at.In_err-id tells) found)
 
 pub returns-in_err-put_properties-clause-damaged : goal.returns-in_err-put_properties-clause-damaged
 returns-in_err-put_properties-clause-damaged g c tells =

@@ -1,4 +1,4 @@
-use Rattle.std.proofs.Common.{rules}
+use Rattle.std.proofs.Common.{◌+◌, rules}
 use Rattle.change_parts.specs.ChangeFault.{of_fault}
 use Rattle.change_parts.specs.Damage.{BlamesLinking}
 use Rattle.change_parts.proofs.Exits.{fault_exit}
@@ -64,8 +64,8 @@ returns-in_err-head-clause-found g c tells =
     let s = g.S.Reads.state c.args.space.now in
     let t = g.S.Reads.state c.open_chain.new.space in
     let node = c.args.end.node in
-    fault_exit of_fault (BlamesEnd s t node) c.in_err-head.field-0.0 c.from_residual.result c.from_residual.ensures.1
-    (open_blames s t node c.in_err-head.field-0.0 (c.in_err-head.ensures.names tells) (c.in_err-head.ensures.named tells)
+    fault_exit of_fault (BlamesEnd s t (c.args.joint.threshold + 1) node) c.in_err-head.field-0.0 c.from_residual.result c.from_residual.ensures.1
+    (open_blames (c.args.joint.threshold + 1) s t node c.in_err-head.field-0.0 (c.in_err-head.ensures.names tells) (c.in_err-head.ensures.named tells)
     (c.in_err-head.ensures.metas tells) (c.in_err-head.ensures.stays tells))
 
 -- where the chain of the head begins
@@ -81,3 +81,10 @@ returns-clause-lists g c tells = c.in_ok-head.ensures.lists tells
 
 pub returns-in_err-head-clause-lists : goal.returns-in_err-head-clause-lists
 returns-in_err-head-clause-lists g c _ = never_ok c.from_residual.result _ _ c.from_residual.ensures.1
+
+-- how many groups are counted
+pub returns-clause-room : goal.returns-clause-room
+returns-clause-room g c tells = c.in_ok-head.ensures.room tells
+
+pub returns-in_err-head-clause-room : goal.returns-in_err-head-clause-room
+returns-in_err-head-clause-room g c _ = never_ok c.from_residual.result _ _ c.from_residual.ensures.1

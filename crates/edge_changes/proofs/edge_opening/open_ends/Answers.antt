@@ -22,7 +22,7 @@ use Rattle.edge_changes.proofs.OpenWrites.{both_wrote}
 use Rattle.std.proofs.Common.{inl, inr}
 use Rattle.edge_changes.specs.declared.edge_end.Ends.{Ends}
 use Rattle.edge_changes.specs.EdgeEnds.{source_of, target_of}
-use Rattle.edge_changes.specs.EdgeAdding.{BlamesChains, IsOfEnd}
+use Rattle.edge_changes.specs.EdgeAdding.{BlamesChains, IsOfEnd, groups_needed}
 use Rattle.edge_changes.specs.EdgeOpening.{from_of, to_of}
 use Rattle.edge_changes.proofs.EdgeFound.{end_blames, ends_found, found_then, other_beside, these_same}
 use Rattle.edge_changes.proofs.HeadsFound.{kept_after, kept_before}
@@ -295,8 +295,11 @@ returns-in_err-only-in-Loop-clause-found g c tells =
     let from = from_of c.args.joint in
     let to = to_of c.args.joint in
     let own = sym (ap (λ (e : Ends EndDegree). (source_of e).node) c.in-Loop.is) in
-    fault_exit (λ f. f) (BlamesChains s t from to) c.in_err-only-in-Loop.field-0.0 c.from_residual.result c.from_residual.ensures.1
-    (end_blames s s t from to c.in-Loop.end.node (inl own) (λ d told. told) (these_same s (IsOfEnd s c.in-Loop.end.node)) c.in_err-only-in-Loop.field-0.0
+    fault_exit (λ f. f) (BlamesChains s t (groups_needed c.args.joint.threshold) from to) c.in_err-only-in-Loop.field-0.0
+    c.from_residual.result c.from_residual.ensures.1
+    (end_blames 0 (c.args.joint.threshold + 1) (groups_needed c.args.joint.threshold) s s t from to c.in-Loop.end.node
+    (inl own) (omega arith) refl (omega arith)
+    (λ d told. told) (these_same s (IsOfEnd s c.in-Loop.end.node)) c.in_err-only-in-Loop.field-0.0
     (c.in_err-only-in-Loop.ensures.found tells))
 
 pub returns-in_err-first-in-Two-clause-found : goal.returns-in_err-first-in-Two-clause-found
@@ -306,9 +309,11 @@ returns-in_err-first-in-Two-clause-found g c tells =
     let from = from_of c.args.joint in
     let to = to_of c.args.joint in
     let leaves = sym (ap (λ (e : Ends EndDegree). (source_of e).node) c.in-Two.is) in
-    fault_exit (λ f. f) (BlamesChains s t from to) c.in_err-first-in-Two.field-0.0 c.from_residual-in_err-first-in-Two.result
+    fault_exit (λ f. f) (BlamesChains s t (groups_needed c.args.joint.threshold) from to)
+    c.in_err-first-in-Two.field-0.0 c.from_residual-in_err-first-in-Two.result
     c.from_residual-in_err-first-in-Two.ensures.1
-    (end_blames s s t from to c.in-Two.source.node (inl leaves) (λ d told. told) (these_same s (IsOfEnd s c.in-Two.source.node)) c.in_err-first-in-Two.field-0.0
+    (end_blames 0 (c.args.joint.threshold + 1) (groups_needed c.args.joint.threshold) s s t from to c.in-Two.source.node (inl leaves) (omega arith) refl
+    (omega arith) (λ d told. told) (these_same s (IsOfEnd s c.in-Two.source.node)) c.in_err-first-in-Two.field-0.0
     (c.in_err-first-in-Two.ensures.found tells))
 
 pub returns-in_err-last-in-Two-clause-found : goal.returns-in_err-last-in-Two-clause-found
@@ -324,8 +329,10 @@ returns-in_err-last-in-Two-clause-found g c tells =
     let b = c.in-Two.target.node in
     let differ : a ≢ b = subst (AreApart (λ (end : EndDegree). end.node)) c.in-Two.is c.requires.apart in
     let beside = c.in_ok-first-in-Two.ensures.beside tells in
-    fault_exit (λ f. f) (BlamesChains s t from to) fault c.from_residual-in_err-last-in-Two.result c.from_residual-in_err-last-in-Two.ensures.1
-    (end_blames s m t from to b (inr enters)
+    fault_exit (λ f. f) (BlamesChains s t (groups_needed c.args.joint.threshold) from to) fault
+    c.from_residual-in_err-last-in-Two.result c.from_residual-in_err-last-in-Two.ensures.1
+    (end_blames (c.args.joint.threshold + 1) (c.args.joint.threshold + 1) (groups_needed c.args.joint.threshold) s m t from to b (inr enters) (omega arith)
+    (g.met.S.Reads.onward_shape _ _ c.in_ok-first-in-Two.ensures.onward) (c.in_ok-first-in-Two.ensures.room tells)
     (files_beside s m a (g.met.S.Reads.onward_shape _ _ c.in_ok-first-in-Two.ensures.onward) beside (c.in_ok-first-in-Two.ensures.lists tells))
     (other_beside s m a b (λ (e : b ≡ a). differ (sym e)) beside) fault (c.in_err-last-in-Two.ensures.found tells))
 
@@ -361,3 +368,23 @@ returns-in_err-first-in-Two-clause-reaches g c _ _ = never_ok c.from_residual-in
 
 pub returns-in_err-last-in-Two-clause-reaches : goal.returns-in_err-last-in-Two-clause-reaches
 returns-in_err-last-in-Two-clause-reaches g c _ _ = never_ok c.from_residual-in_err-last-in-Two.result _ _ c.from_residual-in_err-last-in-Two.ensures.1
+
+-- ---- how many groups are counted
+
+pub returns-in_ok-only-in-Loop-clause-room : goal.returns-in_ok-only-in-Loop-clause-room
+returns-in_ok-only-in-Loop-clause-room g c tells = let one = c.in_ok-only-in-Loop.ensures.room tells in omega (arith, one)
+
+pub returns-in_ok-last-in-Two-clause-room : goal.returns-in_ok-last-in-Two-clause-room
+returns-in_ok-last-in-Two-clause-room g c tells =
+    let first = c.in_ok-first-in-Two.ensures.room tells in
+    let last = c.in_ok-last-in-Two.ensures.room tells in
+    omega (arith, first, last)
+
+pub returns-in_err-only-in-Loop-clause-room : goal.returns-in_err-only-in-Loop-clause-room
+returns-in_err-only-in-Loop-clause-room g c _ = never_ok c.from_residual.result _ _ c.from_residual.ensures.1
+
+pub returns-in_err-first-in-Two-clause-room : goal.returns-in_err-first-in-Two-clause-room
+returns-in_err-first-in-Two-clause-room g c _ = never_ok c.from_residual-in_err-first-in-Two.result _ _ c.from_residual-in_err-first-in-Two.ensures.1
+
+pub returns-in_err-last-in-Two-clause-room : goal.returns-in_err-last-in-Two-clause-room
+returns-in_err-last-in-Two-clause-room g c _ = never_ok c.from_residual-in_err-last-in-Two.result _ _ c.from_residual-in_err-last-in-Two.ensures.1

@@ -24,7 +24,7 @@ use Rattle.change_parts.specs.Damage.{IsBroken}
 use Rattle.edge_changes.specs.EdgeAdding.{HasEndDegree}
 use Rattle.change_parts.specs.Damage.{IsLinkingDamage}
 use Rattle.edge_changes.proofs.EdgeBlames.{if_blames}
-use Rattle.edge_changes.specs.EdgeAdding.{BlamesChains, IsChainDamage, IsOfEnds, KeepsButChains}
+use Rattle.edge_changes.specs.EdgeAdding.{BlamesChains, IsChainDamage, IsOfEnds, KeepsButChains, groups_needed}
 use Rattle.edge_changes.specs.EdgeJoining.{IsOfLost}
 use Rattle.edge_changes.specs.EdgeEnds.{target_of}
 use Rattle.edge_changes.proofs.EdgeFound.{chain_more, chain_then, found_then, lost_ends, lost_kept, marks_kept, on_ok}
@@ -148,7 +148,8 @@ pub returns-in_err-ends-clause-found : goal.returns-in_err-ends-clause-found
 returns-in_err-ends-clause-found g c tells used =
     let s = g.S.Reads.state c.args.space.now in
     let t = g.S.Reads.state c.open_ends.new.space in
-    fault_exit (λ f. f) (BlamesChains s t (from_of c.args.joint) (to_of c.args.joint)) c.in_err-ends.field-0.0 c.from_residual.result
+    fault_exit (λ f. f) (BlamesChains s t (groups_needed c.args.joint.threshold) (from_of c.args.joint) (to_of c.args.joint))
+    c.in_err-ends.field-0.0 c.from_residual.result
     c.from_residual.ensures.1 (c.in_err-ends.ensures.found tells)
 
 pub returns-clause-found : goal.returns-clause-found
@@ -160,10 +161,12 @@ returns-clause-found g c tells used =
     let to = to_of c.args.joint in
     let ends = c.in_ok-ends.ends in
     let nodes = c.in_ok-ends.ensures.nodes in
+    let most = groups_needed c.args.joint.threshold in
     let marks = marks_kept s t from to (c.in_ok-ends.ensures.leaves tells) (c.in_ok-ends.ensures.beside tells) in
     let has = c.in_ok-ends.ensures.has tells used in
     let keeps = lost_kept s t ends marks (c.in_ok-ends.ensures.reaches tells used) in
-    if_blames c.join_edge.result (IsChainDamage t u (IsOfLost t ends)) (IsChainDamage s u (IsOfEnds from to))
-    (λ damage told. chain_more s u (IsOfLost t ends) (IsOfEnds from to) (lost_ends t ends from to nodes.0 nodes.1 has) damage
-    (chain_then s t u (IsOfLost t ends) (c.in_ok-ends.ensures.files tells) keeps damage told))
+    if_blames c.join_edge.result (IsChainDamage t u 0 (IsOfLost t ends)) (IsChainDamage s u most (IsOfEnds from to))
+    (λ damage told. chain_more (most + 0) most s u (IsOfLost t ends) (IsOfEnds from to) (omega arith) (lost_ends t ends from to nodes.0 nodes.1 has) damage
+    (chain_then most 0 s t u (IsOfLost t ends) (g.met.S.Reads.onward_shape _ _ c.open_ends.ensures.onward) (c.in_ok-ends.ensures.room tells)
+    (c.in_ok-ends.ensures.files tells) keeps damage told))
     (c.join_edge.ensures.found tells has)

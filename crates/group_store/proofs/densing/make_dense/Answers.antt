@@ -44,7 +44,7 @@ use Rattle.group_store.proofs.LowHeads.{low_next, low_none}
 use Rattle.group_store.proofs.Strangers.{found_apart, found_dense, node_apart, node_fault_apart, sparse_apart}
 use Rattle.rec_bytes.specs.Format.{groups_file}
 use Rattle.id_freelist.proofs.ListSteps.{harms_none_then, reads_harm_none}
-use Rattle.group_store.proofs.GroupMetas.{cleared_harms_none, metas_node, metas_then, node_fault_metas, sparse_metas}
+use Rattle.group_store.proofs.GroupMetas.{cleared_harms_none, grows_cleared, grows_read, metas_more, metas_node, metas_then, node_fault_metas, sparse_metas}
 use Rattle.group_store.proofs.densing.make_dense.Goals as goal
 
 pub loop-init : goal.loop-init
@@ -75,6 +75,8 @@ loop-init g c =
           (dense_cleared v c.args.node (subst (λ (q : State). kind_at q.records nodes_file c.args.node ≢ 0) (sym same) used));
       lists = λ tells. harms_none_then s v t groups_file (reads_harm_none s v groups_file same) (cleared_harms_none v t c.args.node
           (c.in_ok-clear.ensures.ok tells));
+      room = λ tells. let read = grows_read s v same in let clear = grows_cleared v t c.args.node (c.in_ok-clear.ensures.ok tells) in
+          omega (arith, read, clear);
       list = λ tells. list_cleared v t c.args.node (c.in_ok-clear.ensures.ok tells);
       low = λ tells. low_none t.records c.new-moved.result.relationships.items moved.relationships;
       beside = λ tells. beside_then s.records v.records t.records c.args.node (beside_read s v c.args.node same)
@@ -114,6 +116,7 @@ loop-preserved g c =
       dense = λ tells. c.in_ok-turn.ensures.dense tells (was.dense tells);
       lists = λ tells. harms_none_then s now end groups_file (was.lists tells) (c.in_ok-turn.ensures.lists tells);
       list = λ tells. c.in_ok-turn.ensures.list tells (was.dense tells) (was.list tells);
+      room = λ tells. let before = was.room tells in let one = c.in_ok-turn.ensures.room tells in omega (arith, before, one);
       low = λ tells. low_next now.records end.records c.args.node c.loop.at came xs (c.in_ok-turn.ensures.beside tells) c.note.ensures.relationships
           (λ none. rest_live s now c.args.node c.loop.at c.loop.counter c.if-at.false (was.rest tells)
           (sym (beside_rels s.records now.records c.args.node (was.beside tells) c.loop.at) ∙ none)) (was.low tells);
@@ -956,18 +959,20 @@ returns-in_err-row-clause-metas g c = λ tells.
     let l = g.S.Reads.state c.load.new.space in
     let fault = of_row c.in_err-row.field-0.0 in
     let p = err_from_is_err_and c.from_residual.result c.from_residual.ensures.1 in
-    rw (p.1, p.2) (node_fault_metas s l s c.args.node fault (node_fault s c.args.node c.in_err-row.field-0.0 (c.in_err-row.ensures.damaged tells)))
+    rw (p.1, p.2) (node_fault_metas c.args.threshold s l s c.args.node fault
+    (node_fault s c.args.node c.in_err-row.field-0.0 (c.in_err-row.ensures.damaged tells)))
 
 pub returns-in_default-clause-metas : goal.returns-in_default-clause-metas
-returns-in_default-clause-metas g c = λ tells. metas_node (g.S.Reads.state c.args.space.now) (g.S.Reads.state c.load.new.space) c.chain_damage.result
+returns-in_default-clause-metas g c = λ tells.
+    metas_node c.args.threshold (g.S.Reads.state c.args.space.now) (g.S.Reads.state c.load.new.space) c.chain_damage.result
     c.args.node 4 c.chain_damage.ensures
 
 pub returns-then-row-clause-metas : goal.returns-then-row-clause-metas
-returns-then-row-clause-metas g c = λ tells. metas_node (g.S.Reads.state c.args.space.now) (g.S.Reads.state c.load.new.space)
+returns-then-row-clause-metas g c = λ tells. metas_node c.args.threshold (g.S.Reads.state c.args.space.now) (g.S.Reads.state c.load.new.space)
     c.chain_damage-then-row.result c.args.node 4 c.chain_damage-then-row.ensures
 
 pub returns-then-row-threshold-clause-metas : goal.returns-then-row-threshold-clause-metas
-returns-then-row-threshold-clause-metas g c = λ tells. metas_node (g.S.Reads.state c.args.space.now) (g.S.Reads.state c.load.new.space)
+returns-then-row-threshold-clause-metas g c = λ tells. metas_node c.args.threshold (g.S.Reads.state c.args.space.now) (g.S.Reads.state c.load.new.space)
     c.degree_damage.result c.args.node 7 c.degree_damage.ensures
 
 pub returns-in_err-test_chain-clause-metas : goal.returns-in_err-test_chain-clause-metas
@@ -979,7 +984,7 @@ returns-in_err-test_chain-clause-metas g c = λ tells.
     let found = sym c.in-Some.is ∙ c.in_ok-row.ensures.found tells in
     let fault = c.in_err-test_chain.field-0.0 in
     let p = err_from_is_err_and c.from_residual-in_err-test_chain.result c.from_residual-in_err-test_chain.ensures.1 in
-    rw (p.1, p.2) (sparse_metas s v l c.args.node c.in-Some.row.degree fault
+    rw (p.1, p.2) (sparse_metas c.args.threshold s v l c.args.node c.in-Some.row.degree fault
     (c.in_err-test_chain.ensures.damaged tells (subst (λ (q : State). c.in-Some.row.first ≡ first_link q.records c.args.node) (sym same)
     (first_is s.records c.args.node c.in-Some.row found))))
 
@@ -991,15 +996,19 @@ returns-in_err-turn-clause-metas g c = λ tells.
     let s = g.S.Reads.state c.args.space.now in
     let now = g.S.Reads.state c.loop.space in
     let p = err_from_is_err_and c.from_residual-in_err-turn.result c.from_residual-in_err-turn.ensures.1 in
-    rw (p.1, p.2) (metas_then s now (g.S.Reads.state c.move_one.new.space) c.in_err-turn.field-0.0 (c.loop.invariant.lists tells)
-    (c.in_err-turn.ensures.metas tells))
+    let t = g.S.Reads.state c.move_one.new.space in
+    let was = c.loop.invariant in
+    let fault = c.in_err-turn.field-0.0 in
+    rw (p.1, p.2) (metas_more (c.loop.counter + 1) c.args.threshold s t fault (omega (arith, c.loop-test.true, c.if-row-threshold.false))
+    (metas_then c.loop.counter 1 s now t fault (g.met.S.Reads.onward_shape _ _ was.onward)
+    (was.room tells) (was.lists tells) (c.in_err-turn.ensures.metas tells)))
 
 pub returns-then-not-note-clause-metas : goal.returns-then-not-note-clause-metas
-returns-then-not-note-clause-metas g c = λ tells. metas_node (g.S.Reads.state c.args.space.now) (g.S.Reads.state c.move_one.new.space)
+returns-then-not-note-clause-metas g c = λ tells. metas_node c.args.threshold (g.S.Reads.state c.args.space.now) (g.S.Reads.state c.move_one.new.space)
     c.rels_damage.result c.args.node 3 c.rels_damage.ensures
 
 pub returns-then-at-2-clause-metas : goal.returns-then-at-2-clause-metas
-returns-then-at-2-clause-metas g c = λ tells. metas_node (g.S.Reads.state c.args.space.now) (g.S.Reads.state c.loop.space)
+returns-then-at-2-clause-metas g c = λ tells. metas_node c.args.threshold (g.S.Reads.state c.args.space.now) (g.S.Reads.state c.loop.space)
     c.rels_damage-then-at-2.result c.args.node 3 c.rels_damage-then-at-2.ensures
 
 pub returns-then-at-clause-lists : goal.returns-then-at-clause-lists
@@ -1019,3 +1028,23 @@ returns-in_err-clear-clause-lists g c _ = never_ok c.from_residual-in_err-clear.
 
 pub returns-in_err-turn-clause-lists : goal.returns-in_err-turn-clause-lists
 returns-in_err-turn-clause-lists g c _ = never_ok c.from_residual-in_err-turn.result _ _ c.from_residual-in_err-turn.ensures.1
+
+pub returns-in_err-row-clause-room : goal.returns-in_err-row-clause-room
+returns-in_err-row-clause-room g c _ = never_ok c.from_residual.result _ _ c.from_residual.ensures.1
+
+pub returns-in_err-test_chain-clause-room : goal.returns-in_err-test_chain-clause-room
+returns-in_err-test_chain-clause-room g c _ = never_ok c.from_residual-in_err-test_chain.result _ _ c.from_residual-in_err-test_chain.ensures.1
+
+pub returns-in_err-clear-clause-room : goal.returns-in_err-clear-clause-room
+returns-in_err-clear-clause-room g c _ = never_ok c.from_residual-in_err-clear.result _ _ c.from_residual-in_err-clear.ensures.1
+
+pub returns-in_err-turn-clause-room : goal.returns-in_err-turn-clause-room
+returns-in_err-turn-clause-room g c _ = never_ok c.from_residual-in_err-turn.result _ _ c.from_residual-in_err-turn.ensures.1
+
+-- ---- how many groups are counted
+
+pub returns-then-at-clause-room : goal.returns-then-at-clause-room
+returns-then-at-clause-room g c = λ tells. let grows = c.loop.invariant.room tells in omega (arith, grows, c.loop-test.true, c.if-row-threshold.false)
+
+pub returns-clause-room : goal.returns-clause-room
+returns-clause-room g c = λ tells. let grows = c.loop.invariant.room tells in omega (arith, grows, c.loop-test.false, c.if-row-threshold.false)

@@ -5,6 +5,7 @@ use Rattle.group_store.specs.Densing.{CanBecomeDense, CanSpread}
 use Rattle.group_store.specs.GroupChain.{IsDense}
 use Rattle.store_rules.specs.Chains.{In}
 use Rattle.group_store.specs.Leaving.{IsLowLink, KeepsOtherHeads, LeavesBeside}
+use Rattle.group_store.specs.Opening.{GrowsAtMost}
 use Rattle.group_store.specs.Spreading.{HasCountedList, LeadsAmong}
 use Rattle.group_store.proofs.Arrivals.{HasPart}
 use Rattle.group_store.proofs.Comings.{WritesCome}
@@ -25,6 +26,7 @@ invariant-loop g l =
       rest : g.S.Reads.tells → HasRest s (g.S.Reads.state l.space) l.fn.node l.at l.counter;
       dense : g.S.Reads.tells → IsDense (g.S.Reads.state l.space).records l.fn.node;
       lists : g.S.Reads.tells → HarmsNoList s (g.S.Reads.state l.space) groups_file;
+      room : g.S.Reads.tells → GrowsAtMost s (g.S.Reads.state l.space) l.counter;
       list : g.S.Reads.tells → HasCountedList (g.S.Reads.state l.space).records l.fn.node;
       low : g.S.Reads.tells → (x : ℕ) → In x l.moved.relationships.items → IsLowLink (g.S.Reads.state l.space).records x;
       beside : g.S.Reads.tells → LeavesBeside s.records (g.S.Reads.state l.space).records l.fn.node;

@@ -50,7 +50,7 @@ use Rattle.group_store.proofs.Spreads.{in_last}
 use Rattle.group_store.proofs.Strangers.{apart_read, node_apart, push_apart, rel_apart}
 use Rattle.group_store.specs.Spreading.{LeadsAmong}
 use Rattle.id_freelist.proofs.ListSteps.{harms_none_then, reads_harm_none}
-use Rattle.group_store.proofs.GroupMetas.{metas_node, metas_read, moved_harms_none, push_metas, rel_metas}
+use Rattle.group_store.proofs.GroupMetas.{grows_moved, grows_read, metas_node, metas_read, moved_harms_none, push_metas, rel_metas}
 use Rattle.group_store.proofs.densing.move_one.Goals as goal
 use Rattle.group_store.proofs.densing.move_one.Goals.{After-push_counted}
 use Rattle.group_store.proofs.densing.move_one.Given.{Over}
@@ -642,18 +642,18 @@ returns-in_err-row-clause-metas g c = λ tells.
     let s = g.S.Reads.state c.args.space.now in
     let l = g.S.Reads.state c.load.new.space in
     let p = err_from_is_err_and c.from_residual.result c.from_residual.ensures.1 in
-    rw (p.1, p.2) (rel_metas s l s c.args.rel c.in_err-row.field-0.0 (c.in_err-row.ensures.damaged tells))
+    rw (p.1, p.2) (rel_metas 1 s l s c.args.rel c.in_err-row.field-0.0 (c.in_err-row.ensures.damaged tells))
 
 pub returns-in_default-clause-metas : goal.returns-in_default-clause-metas
 returns-in_default-clause-metas g c = λ tells.
-    metas_node (g.S.Reads.state c.args.space.now) (g.S.Reads.state c.load.new.space) c.rels_damage.result c.args.node 3 c.rels_damage.ensures
+    metas_node 1 (g.S.Reads.state c.args.space.now) (g.S.Reads.state c.load.new.space) c.rels_damage.result c.args.node 3 c.rels_damage.ensures
 
 pub returns-in_err-own-clause-metas : goal.returns-in_err-own-clause-metas
 returns-in_err-own-clause-metas g c = λ tells.
     let s = g.S.Reads.state c.args.space.now in
     let l = g.S.Reads.state c.load.new.space in
     let p = err_from_is_err_and c.from_residual-in_err-own.result c.from_residual-in_err-own.ensures.1 in
-    rw (p.1, p.2) (metas_read s l (g.S.Reads.state c.own_group.new.space) c.in_err-own.field-0.0 (only_loads s l c.args.rel c.load.ensures.state)
+    rw (p.1, p.2) (metas_read 1 s l (g.S.Reads.state c.own_group.new.space) c.in_err-own.field-0.0 (only_loads s l c.args.rel c.load.ensures.state)
     (c.in_err-own.ensures.metas tells))
 
 pub returns-in_err-free_previous-clause-metas : goal.returns-in_err-free_previous-clause-metas
@@ -665,7 +665,7 @@ returns-in_err-first-clause-metas g c = λ tells.
     let s = g.S.Reads.state c.args.space.now in
     let t = g.S.Reads.state c.free_previous.new.space in
     let p = err_from_is_err_and c.from_residual-in_err-first.result c.from_residual-in_err-first.ensures.1 in
-    rw (p.1, p.2) (push_metas s (g.S.Reads.state c.push_counted.new.space) t (head_of c.group_head-head.result)
+    rw (p.1, p.2) (push_metas 1 s (g.S.Reads.state c.push_counted.new.space) t (head_of c.group_head-head.result)
     (ap (λ (h : Head). h.key.file) c.group_head-head.ensures.is) c.in_err-first.field-0.0 (c.in_err-first.ensures.damaged tells))
 
 pub returns-clause-lists : goal.returns-clause-lists
@@ -738,3 +738,30 @@ returns-in_err-first-clause-groups g c = λ tells came groups was low.
     (turn_first m t node c.args.rel id c.at.result (head_of c.group_head-head.result) (c.in_ok-free_previous.ensures.ok tells) c.group_head-head.ensures.is
     first)
     c.in_err-first.field-0.0 (c.in_err-first.ensures.damaged tells))
+
+-- ---- how many groups are counted
+
+pub returns-clause-room : goal.returns-clause-room
+returns-clause-room g c = λ tells.
+    let s = g.S.Reads.state c.args.space.now in
+    let l = g.S.Reads.state c.load.new.space in
+    let m = g.S.Reads.state c.own_group.new.space in
+    let t = g.S.Reads.state c.free_previous.new.space in
+    let end = g.S.Reads.state c.push_counted.new.space in
+    let read = grows_read s l (only_loads s l c.args.rel c.load.ensures.state) in
+    let one = c.in_ok-own.ensures.room tells in
+    let put = grows_moved m t end c.args.node c.args.rel (head_of c.group_head-head.result) (ap (λ (h : Head). h.key.file) c.group_head-head.ensures.is)
+    (c.in_ok-free_previous.ensures.ok tells) (c.in_ok-first.ensures.ok tells) in
+    omega (arith, read, one, put)
+
+pub returns-in_err-row-clause-room : goal.returns-in_err-row-clause-room
+returns-in_err-row-clause-room g c _ = never_ok c.from_residual.result _ _ c.from_residual.ensures.1
+
+pub returns-in_err-own-clause-room : goal.returns-in_err-own-clause-room
+returns-in_err-own-clause-room g c _ = never_ok c.from_residual-in_err-own.result _ _ c.from_residual-in_err-own.ensures.1
+
+pub returns-in_err-free_previous-clause-room : goal.returns-in_err-free_previous-clause-room
+returns-in_err-free_previous-clause-room g c _ = never_ok c.from_residual-in_err-free_previous.result _ _ c.from_residual-in_err-free_previous.ensures.1
+
+pub returns-in_err-first-clause-room : goal.returns-in_err-first-clause-room
+returns-in_err-first-clause-room g c _ = never_ok c.from_residual-in_err-first.result _ _ c.from_residual-in_err-first.ensures.1

@@ -11,7 +11,7 @@ use Rattle.group_store.specs.Finding.{IsFound, IsReached}
 use Rattle.group_store.specs.GroupChain.{IsDense, IsGroupOf, LacksGroup}
 use Rattle.group_store.specs.GroupRecord.{group_key}
 use Rattle.group_store.specs.Making.{IsMakeFault, made}
-use Rattle.group_store.specs.Opening.{IsOpenFault}
+use Rattle.group_store.specs.Opening.{GrowsAtMost, IsOpenFault}
 use Rattle.group_store.proofs.Additions.{can_walk as walkable, has_added, make_read, node_read}
 use Rattle.group_store.proofs.BrokenGroups.{find_breaks, if_err, make_breaks, only_breaks, open_read}
 use Rattle.group_store.specs.Spreading.{HasOpened, KeepsBut}
@@ -38,7 +38,7 @@ use Rattle.group_store.specs.Naming.{NamesAt, NamesNoGroup, NamesNoNode}
 use Rattle.group_store.proofs.CountedLists.{find_listed, found_counted, list_own, list_read, make_listed}
 use Rattle.id_freelist.specs.ListDamage.{HarmsNoList}
 use Rattle.id_freelist.proofs.ListSteps.{harms_none_then, reads_harm_none}
-use Rattle.group_store.proofs.GroupMetas.{find_metas, own_metas}
+use Rattle.group_store.proofs.GroupMetas.{find_metas, grows_made, grows_read, grows_then, own_metas}
 use Rattle.group_store.proofs.densing.own_group.Goals as goal
 
 pub returns-in_err-row-clause-writes : goal.returns-in_err-row-clause-writes
@@ -461,7 +461,7 @@ returns-in_err-row-clause-metas g c = λ tells.
     let s = g.S.Reads.state c.args.space.now in
     let now = g.S.Reads.state c.find_group.new.space in
     let p = err_from_is_err_and c.from_residual.result c.from_residual.ensures.1 in
-    rw (p.1, p.2) (find_metas s now c.args.node c.in_err-row.field-0.0 (c.in_err-row.ensures.damaged tells))
+    rw (p.1, p.2) (find_metas 1 s now c.args.node c.in_err-row.field-0.0 (c.in_err-row.ensures.damaged tells))
 
 pub returns-in-None-clause-metas : goal.returns-in-None-clause-metas
 returns-in-None-clause-metas g c = λ tells.
@@ -505,3 +505,25 @@ returns-in-None-clause-groups g c = λ tells.
     if_err c.make_own.result (IsMakeFault now c.args.node) (NamesNoGroup s end)
     (λ fault told. apart_read s now end fault (same_read _ s now c.find_group.ensures.at_most) (make_apart now end c.args.node fault told))
     (c.make_own.ensures.damaged tells)
+
+-- ---- how many groups are counted
+
+pub returns-in_err-row-clause-room : goal.returns-in_err-row-clause-room
+returns-in_err-row-clause-room g c _ = never_ok c.from_residual.result _ _ c.from_residual.ensures.1
+
+pub returns-in-Some-clause-room : goal.returns-in-Some-clause-room
+returns-in-Some-clause-room g c = λ tells.
+    let s = g.S.Reads.state c.args.space.now in
+    let now = g.S.Reads.state c.find_group.new.space in
+    let same = grows_read s now (same_read _ s now c.find_group.ensures.at_most) in
+    omega (arith, same)
+
+pub returns-in-None-clause-room : goal.returns-in-None-clause-room
+returns-in-None-clause-room g c = λ tells.
+    let s = g.S.Reads.state c.args.space.now in
+    let now = g.S.Reads.state c.find_group.new.space in
+    let end = g.S.Reads.state c.make_own.new.space in
+    let same = grows_read s now (same_read _ s now c.find_group.ensures.at_most) in
+    if_done c.make_own.result (end ≡ made now c.args.node c.args.label) (GrowsAtMost s end 1)
+    (λ is. grows_then 0 1 s now end same (subst (λ (t : State). GrowsAtMost now t 1) (sym is) (grows_made now c.args.node c.args.label)))
+    (c.make_own.ensures.ok tells)

@@ -9,7 +9,7 @@ use Rattle.group_store.specs.GroupChain.{IsDense}
 use Rattle.rec_bytes.specs.Format.{groups_file}
 use Rattle.rec_bytes.specs.Space.{SameButReads, State}
 use Rattle.node_store.specs.NodeRecord.{node_key}
-use Rattle.group_store.specs.Opening.{CanOpen, IsOpenFault, OpensChain, WritesOpened, moved_writes}
+use Rattle.group_store.specs.Opening.{CanOpen, GrowsAtMost, IsOpenFault, OpensChain, WritesOpened, moved_writes}
 use Rattle.group_store.proofs.BrokenGroups.{if_err, node_fault_breaks, only_breaks, open_read}
 use Rattle.group_store.proofs.ChainHeads.{same_twice}
 use Rattle.group_store.specs.Naming.{NamesAt, NamesFound, NamesMeta}
@@ -36,7 +36,7 @@ use Rattle.group_store.proofs.LowHeads.{kept_head}
 use Rattle.group_store.proofs.Strangers.{found_apart, found_read, found_spread, found_unwritten, node_fault_apart}
 use Rattle.id_freelist.specs.ListDamage.{HarmsNoList}
 use Rattle.id_freelist.proofs.ListSteps.{harms_none_then, reads_harm_none}
-use Rattle.group_store.proofs.GroupMetas.{metas_read, metas_then, node_fault_metas}
+use Rattle.group_store.proofs.GroupMetas.{grows_read, metas_more, metas_read, metas_then, node_fault_metas}
 use Rattle.group_store.proofs.opening.open_chain.Goals as goal
 
 pub returns-then-branch-clause-opened : goal.returns-then-branch-clause-opened
@@ -543,7 +543,7 @@ pub returns-in_err-is_dense-clause-metas : goal.returns-in_err-is_dense-clause-m
 returns-in_err-is_dense-clause-metas g c = λ tells.
     let s = g.S.Reads.state c.args.space.now in
     let p = err_from_is_err_and c.from_residual.result c.from_residual.ensures.1 in
-    rw (p.1, p.2) (node_fault_metas s (g.S.Reads.state c.is_dense.new.space) s c.args.node c.in_err-is_dense.field-0.0
+    rw (p.1, p.2) (node_fault_metas (c.args.threshold + 1) s (g.S.Reads.state c.is_dense.new.space) s c.args.node c.in_err-is_dense.field-0.0
     (c.in_err-is_dense.ensures.damaged tells))
 
 pub returns-then-branch-clause-metas : goal.returns-then-branch-clause-metas
@@ -551,16 +551,19 @@ returns-then-branch-clause-metas g c = λ tells.
     let s = g.S.Reads.state c.args.space.now in
     let z = g.S.Reads.state c.is_dense.new.space in
     let t = g.S.Reads.state c.open_group.new.space in
-    if_err c.open_group.result (NamesMeta z t) (NamesMeta s t) (λ fault. metas_read s z t fault c.in_ok-is_dense.ensures.state)
-    (c.open_group.ensures.metas tells)
+    if_err c.open_group.result (NamesMeta z t 1) (NamesMeta s t (c.args.threshold + 1))
+    (λ fault told. metas_read (c.args.threshold + 1) s z t fault c.in_ok-is_dense.ensures.state
+    (metas_more 1 (c.args.threshold + 1) z t fault (omega arith) told)) (c.open_group.ensures.metas tells)
 
 pub returns-in_err-make_dense-clause-metas : goal.returns-in_err-make_dense-clause-metas
 returns-in_err-make_dense-clause-metas g c = λ tells.
     let s = g.S.Reads.state c.args.space.now in
     let z = g.S.Reads.state c.is_dense.new.space in
+    let t = g.S.Reads.state c.make_dense.new.space in
+    let fault = c.in_err-make_dense.field-0.0 in
     let p = err_from_is_err_and c.from_residual-in_err-make_dense.result c.from_residual-in_err-make_dense.ensures.1 in
-    rw (p.1, p.2) (metas_read s z (g.S.Reads.state c.make_dense.new.space) c.in_err-make_dense.field-0.0 c.in_ok-is_dense.ensures.state
-    (c.in_err-make_dense.ensures.metas tells))
+    rw (p.1, p.2) (metas_read (c.args.threshold + 1) s z t fault c.in_ok-is_dense.ensures.state
+    (metas_more c.args.threshold (c.args.threshold + 1) z t fault (omega arith) (c.in_err-make_dense.ensures.metas tells)))
 
 pub returns-clause-metas : goal.returns-clause-metas
 returns-clause-metas g c = λ tells.
@@ -568,8 +571,9 @@ returns-clause-metas g c = λ tells.
     let z = g.S.Reads.state c.is_dense.new.space in
     let u = g.S.Reads.state c.make_dense.new.space in
     let t = g.S.Reads.state c.open_group-2.new.space in
-    if_err c.open_group-2.result (NamesMeta u t) (NamesMeta s t)
-    (λ fault told. metas_read s z t fault c.in_ok-is_dense.ensures.state (metas_then z u t fault (c.in_ok-make_dense.ensures.lists tells) told))
+    if_err c.open_group-2.result (NamesMeta u t 1) (NamesMeta s t (c.args.threshold + 1))
+    (λ fault told. metas_read (c.args.threshold + 1) s z t fault c.in_ok-is_dense.ensures.state (metas_then c.args.threshold 1 z u t fault
+    (g.met.S.Reads.onward_shape _ _ c.in_ok-make_dense.ensures.onward) (c.in_ok-make_dense.ensures.room tells) (c.in_ok-make_dense.ensures.lists tells) told))
     (c.open_group-2.ensures.metas tells)
 
 pub returns-then-branch-clause-lists : goal.returns-then-branch-clause-lists
@@ -628,3 +632,38 @@ returns-in_err-is_dense-clause-reaches g c _ = never_ok c.from_residual.result _
 
 pub returns-in_err-make_dense-clause-reaches : goal.returns-in_err-make_dense-clause-reaches
 returns-in_err-make_dense-clause-reaches g c _ = never_ok c.from_residual-in_err-make_dense.result _ _ c.from_residual-in_err-make_dense.ensures.1
+
+-- ---- how many groups are counted
+
+pub returns-then-branch-clause-room : goal.returns-then-branch-clause-room
+returns-then-branch-clause-room g c = λ tells.
+    let s = g.S.Reads.state c.args.space.now in
+    let z = g.S.Reads.state c.is_dense.new.space in
+    let t = g.S.Reads.state c.open_group.new.space in
+    let same = c.in_ok-is_dense.ensures.state in
+    let read = grows_read s z same in
+    let dense = subst (λ (q : State). IsDense q.records c.args.node) (sym same) ((c.in_ok-is_dense.ensures.is tells).0 c.if-branch.true) in
+    if_done c.open_group.result (GrowsAtMost z t 1) (GrowsAtMost s t (c.args.threshold + 1)) (λ one. omega (arith, read, one))
+    (c.open_group.ensures.room tells dense)
+
+pub returns-then-degree-threshold-clause-room : goal.returns-then-degree-threshold-clause-room
+returns-then-degree-threshold-clause-room g c = λ tells.
+    let read = grows_read (g.S.Reads.state c.args.space.now) (g.S.Reads.state c.is_dense.new.space) c.in_ok-is_dense.ensures.state in
+    omega (arith, read)
+
+pub returns-clause-room : goal.returns-clause-room
+returns-clause-room g c = λ tells.
+    let s = g.S.Reads.state c.args.space.now in
+    let z = g.S.Reads.state c.is_dense.new.space in
+    let u = g.S.Reads.state c.make_dense.new.space in
+    let t = g.S.Reads.state c.open_group-2.new.space in
+    let read = grows_read s z c.in_ok-is_dense.ensures.state in
+    let most = c.in_ok-make_dense.ensures.room tells in
+    if_done c.open_group-2.result (GrowsAtMost u t 1) (GrowsAtMost s t (c.args.threshold + 1)) (λ one. omega (arith, read, most, one))
+    (c.open_group-2.ensures.room tells (c.in_ok-make_dense.ensures.dense tells))
+
+pub returns-in_err-is_dense-clause-room : goal.returns-in_err-is_dense-clause-room
+returns-in_err-is_dense-clause-room g c _ = never_ok c.from_residual.result _ _ c.from_residual.ensures.1
+
+pub returns-in_err-make_dense-clause-room : goal.returns-in_err-make_dense-clause-room
+returns-in_err-make_dense-clause-room g c _ = never_ok c.from_residual-in_err-make_dense.result _ _ c.from_residual-in_err-make_dense.ensures.1

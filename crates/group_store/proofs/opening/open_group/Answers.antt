@@ -1,4 +1,4 @@
-use Rattle.std.proofs.Common.{arith, [], ◌∷◌, ◌++◌, sym, ap, inl, subst, ⊎_elim, rules}
+use Rattle.std.proofs.Common.{arith, [], ◌∷◌, ◌++◌, sym, ap, inl, inr, subst, ⊎_elim, rules}
 use Rattle.std.proofs.lemmas.Bool.{false≢true}
 use Rattle.std.proofs.lemmas.Result.{err_from_is_err_and}
 use Rattle.rec_bytes.specs.declared.key.Key.{Key}
@@ -31,7 +31,7 @@ use Rattle.group_store.proofs.MadeHeads.{owned_head}
 use Rattle.rec_bytes.proofs.Causes.{never_ok}
 use Rattle.rec_bytes.specs.Format.{groups_file}
 use Rattle.id_freelist.proofs.ListSteps.{harms_none_then}
-use Rattle.group_store.proofs.GroupMetas.{count_metas}
+use Rattle.group_store.proofs.GroupMetas.{count_metas, grows_counted}
 use Rattle.group_store.proofs.opening.open_group.Goals as goal
 
 pub returns-in_err-own-clause-sound : goal.returns-in_err-own-clause-sound
@@ -253,7 +253,7 @@ returns-in_err-own-clause-metas g c = λ tells.
 pub returns-in_err-count_group-clause-metas : goal.returns-in_err-count_group-clause-metas
 returns-in_err-count_group-clause-metas g c = λ tells.
     let p = err_from_is_err_and c.from_residual-in_err-count_group.result c.from_residual-in_err-count_group.ensures.1 in
-    rw (p.1, p.2) (count_metas (g.S.Reads.state c.args.space.now) (g.S.Reads.state c.count_group.new.space) c.args.node c.in_ok-own.own.row.id
+    rw (p.1, p.2) (count_metas 1 (g.S.Reads.state c.args.space.now) (g.S.Reads.state c.count_group.new.space) c.args.node c.in_ok-own.own.row.id
     c.in_err-count_group.field-0.0 (c.in_err-count_group.ensures.names tells))
 
 pub returns-clause-lists : goal.returns-clause-lists
@@ -325,3 +325,20 @@ returns-in_err-own-clause-reaches g c _ = never_ok c.from_residual.result _ _ c.
 
 pub returns-in_err-count_group-clause-reaches : goal.returns-in_err-count_group-clause-reaches
 returns-in_err-count_group-clause-reaches g c _ = never_ok c.from_residual-in_err-count_group.result _ _ c.from_residual-in_err-count_group.ensures.1
+
+-- ---- how many groups are counted
+
+pub returns-clause-room : goal.returns-clause-room
+returns-clause-room g c = λ tells dense.
+    let m = g.S.Reads.state c.own_group.new.space in
+    let t = g.S.Reads.state c.count_group.new.space in
+    let one = c.in_ok-own.ensures.room tells in
+    let none = grows_counted m t c.args.node c.in_ok-own.own.row c.in_ok-count_group.ensures.kept (c.in_ok-count_group.ensures.counts tells)
+    (⊎_elim (λ counted. inl counted) (λ k. inr k.0) (c.in_ok-own.ensures.group tells dense)) in
+    omega (arith, one, none)
+
+pub returns-in_err-own-clause-room : goal.returns-in_err-own-clause-room
+returns-in_err-own-clause-room g c _ _ = never_ok c.from_residual.result _ _ c.from_residual.ensures.1
+
+pub returns-in_err-count_group-clause-room : goal.returns-in_err-count_group-clause-room
+returns-in_err-count_group-clause-room g c _ _ = never_ok c.from_residual-in_err-count_group.result _ _ c.from_residual-in_err-count_group.ensures.1
