@@ -6,7 +6,6 @@ use Rattle.std.proofs.lemmas.Bool.{cases_lt}
 use Rattle.std.proofs.lemmas.Bool.Decides.{nat_tests}
 use Rattle.rec_bytes.specs.declared.key.Key.{Key}
 use Rattle.rec_bytes.specs.declared.record.Rec.{Rec}
-use Rattle.rec_bytes.specs.declared.shape.Shape.{Shape}
 use Rattle.rec_bytes.specs.Format as format
 use Rattle.rec_bytes.specs.Record.{field, with_field}
 use Rattle.rec_bytes.specs.Space.{State}
@@ -29,27 +28,12 @@ use Rattle.store_rules.proofs.OnceLaws.{length_once, once_walk}
 use Rattle.store_rules.proofs.ViewLaws.{kind_below, kind_low, some_row}
 use Rattle.chain_edit.specs.Chains.{next_of}
 use Rattle.group_store.specs.Leaving.{LeavesOthers}
-use Rattle.group_store.specs.Spreading.{IsLinkedBut, IsSpread, KeepsOthers, StandsBut, cleared}
+use Rattle.group_store.specs.Spreading.{IsLinkedBut, IsSpread, StandsBut, cleared}
 use Rattle.group_store.proofs.CountedRels.{counted_other}
 use Rattle.group_store.proofs.GroupSteps.{range_put}
 use Rattle.group_store.proofs.MadeRules.{listed_again}
 use Rattle.group_store.proofs.Regrouping as re
-use Rattle.group_store.proofs.Regrouping.{IsFrame, others_stay, regroups_of}
-
--- ---- the rules, in the words of what is left
-
-pub others_of : (records : Records) (shape : Shape) (most : ℕ) (empty : List ℕ) → KeepsRules records shape most empty → KeepsOthers records shape most
-others_of records shape most empty keeps = record {
-  ranges = keeps.ranges;
-  split = keeps.split;
-  kept = keeps.kept;
-  properties = keeps.properties;
-  named =
-      keeps.named;
-  defined = keeps.defined;
-  names = keeps.names;
-  degrees = keeps.degrees;
-}
+use Rattle.group_store.proofs.Regrouping.{IsFrame, KeepsRules-KeepsOthers, others_stay, regroups_of}
 
 -- ---- the record of the node
 
@@ -247,7 +231,7 @@ module _ (s : State) (node most : ℕ) (empty : List ℕ) (keeps : KeepsRules s.
   unfolding rest
   spread_cleared = record {
     keeps = record {
-      others = others_stay s.records t.records node frame s.shape most (others_of s.records s.shape most empty keeps)
+      others = others_stay s.records t.records node frame s.shape most (KeepsRules-KeepsOthers s.records s.shape most empty keeps)
           (range_put s.records s.shape format.nodes_file node (clear_of old) refl (λ lt. clear_fits (high s.records) old
           (sym (kind_low (high s.records format.nodes_file) old node low) ∙ sparse) (keeps.ranges.fit format.nodes_file node refl lt)) keeps.ranges)
           (keeps.split format.groups_file refl).0 (split_same s.records t.records format.groups_file (keeps.split format.groups_file refl).0

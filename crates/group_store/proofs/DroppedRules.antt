@@ -38,7 +38,6 @@ use Rattle.group_store.specs.GroupChain.{IsGroupChain, IsGroupOf, next_group, pr
 use Rattle.group_store.specs.GroupRecord.{group_key}
 use Rattle.group_store.specs.Links.{backed, link_set}
 use Rattle.group_store.specs.Sides.{group_head, place_of, side_at}
-use Rattle.group_store.specs.Spreading.{KeepsOthers}
 use Rattle.group_store.proofs.ChainHeads.{at_group}
 use Rattle.group_store.proofs.Drops as d
 use Rattle.group_store.proofs.GroupRecords.{group_below}
@@ -48,7 +47,7 @@ use Rattle.group_store.proofs.GroupSteps as steps
 use Rattle.group_store.proofs.GroupSteps.{HasStepped}
 use Rattle.group_store.proofs.MadeRules.{listed_again}
 use Rattle.group_store.proofs.Regrouping as fr
-use Rattle.group_store.proofs.Regrouping.{IsFrame, frame_both, frame_none}
+use Rattle.group_store.proofs.Regrouping.{IsFrame, KeepsRules-KeepsOthers, frame_both, frame_none}
 
 -- an empty group has no chain
 pub hollow_none : (r : Rec) → is_filled r ≡ false → (z : Side) → field 4 r (place_of z) ≡ format.nil
@@ -392,21 +391,10 @@ module _ (s : State) (node g most : ℕ) (empty : List ℕ) (well : KeepsRules s
       (fr.rels_same s.records t.records node stepped.frame) (fr.mark_same s.records t.records node stepped.frame format.relationships_file (λ e. omega arith))
       (well.exact h q (sym (group_stays_at h ne) ∙ is) (sym (d.kind_stays s t node g free xs can gives h ne) ∙ kind))
 
-  others : KeepsOthers s.records s.shape most
-  others = record {
-    ranges = well.ranges;
-    split = well.split;
-    kept = well.kept;
-    properties = well.properties;
-    named = well.named;
-    defined = well.defined;
-    names = well.names;
-    degrees = well.degrees;
-  }
-
   -- ---- all of it
   keeps_now : KeepsRules t.records s.shape most empty
   keeps_now =
+      let others = KeepsRules-KeepsOthers s.records s.shape most (g ∷ empty) well in
       let o = fr.others_stay s.records t.records node stepped.frame s.shape most others stepped.ranges stepped.free stepped.split in
       record {
         ranges = o.ranges;

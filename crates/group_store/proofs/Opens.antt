@@ -31,22 +31,13 @@ use Rattle.group_store.proofs.GroupCounts.{few_groups}
 use Rattle.group_store.proofs.GroupRules.{IsGroupChain-HasGroups, group_of_row, list_on}
 use Rattle.group_store.proofs.GroupWrites.{opened_more, opened_then}
 use Rattle.group_store.proofs.Leaves.{group_kinds, leaves_both, leaves_read}
-use Rattle.group_store.proofs.Regrouping.{regroups_both, regroups_read}
+use Rattle.group_store.proofs.Regrouping.{KeepsRules-KeepsOthers, regroups_both, regroups_read}
 
 -- ---- no relationship is apart
 
 pub all_but : (s : Records) (shape : Shape) (node most : ℕ) (empty : List ℕ) → KeepsRules s shape most empty → KeepsBut s shape node [] most empty
 all_but s shape node most empty well = record {
-  others = record {
-    ranges = well.ranges;
-    split = well.split;
-    kept = well.kept;
-    properties = well.properties;
-    named = well.named;
-    defined = well.defined;
-    names = well.names;
-    degrees = well.degrees;
-  };
+  others = KeepsRules-KeepsOthers s shape most empty well;
   linked = record {
     ends = well.linked.ends;
     typed = λ x n row live end dense out. well.linked.typed x n row live end dense;

@@ -16,7 +16,7 @@ use Rattle.store_rules.specs.Ends.{Regroups}
 use Rattle.store_rules.specs.Graph.{edge_from, graph_of, node_from, indexes_from}
 use Rattle.store_rules.specs.Ranges.{AreInRange, is_reused}
 use Rattle.store_rules.specs.Rows.{collect, ids}
-use Rattle.store_rules.specs.Rules.{AreNamed, AreNames, HaveProperties, IsSplit, PropertyFiles, degree_of, next_free, property_files}
+use Rattle.store_rules.specs.Rules.{AreNamed, AreNames, HaveProperties, IsSplit, KeepsRules, PropertyFiles, degree_of, next_free, property_files}
 use Rattle.store_rules.specs.Views.{GroupRow, NodeRow, Records, RelRow, degree, group_at, high, is_live, key_in}
 use Rattle.store_rules.specs.Views.{kind_at, kind_in, node_at, node_in, rec_at, rel_at, row_if, text_of}
 use Rattle.store_rules.proofs.DefinedStays.{defined_stay}
@@ -39,6 +39,20 @@ pub record IsFrame (s t : Records) (node : ℕ) : Type 0 where
       ⊎ ((kind_at s format.nodes_file node ≡ format.sparse) × (kind_at t format.nodes_file node ≡ format.dense))
   pub rels : (x n at : ℕ) → at + n ≤ 64 → (at + n ≤ format.relationship_source_previous) ⊎ (format.relationship_first_property ≤ at)
       → field n (rec_at t format.relationships_file x) at ≡ field n (rec_at s format.relationships_file x) at
+
+-- a store keeps all rules but the third and the fourth
+pub KeepsRules-KeepsOthers : (records : Records) (shape : Shape) (most : ℕ) (empty : List ℕ) → KeepsRules records shape most empty
+    → KeepsOthers records shape most
+KeepsRules-KeepsOthers records shape most empty keeps = record {
+  ranges = keeps.ranges;
+  split = keeps.split;
+  kept = keeps.kept;
+  properties = keeps.properties;
+  named = keeps.named;
+  defined = keeps.defined;
+  names = keeps.names;
+  degrees = keeps.degrees;
+}
 
 pub frame_none : (s : Records) (node : ℕ) → IsFrame s s node
 frame_none s node = record {
