@@ -182,15 +182,15 @@ IsCaused command s t names now (Damaged damage) = Unit {0}
 
 -- A record that is blamed is so in the space as it is left. Of a deletion that isn't said: a record
 -- that it tells may be gone by then.
-abbrev pub IsStillDamage : Command → State → Damage → Type 0
-IsStillDamage (commands.Node label pairs) t damage = IsBroken t damage
-IsStillDamage (commands.Edge from label to pairs) t damage = IsLinkingDamage t damage
-IsStillDamage (commands.Set target key value) t damage = IsBroken t damage
-IsStillDamage (commands.Index label key) t damage = IsBroken t damage
-IsStillDamage _ t damage = Unit {0}
+abbrev pub IsDamageAfter : Command → State → Damage → Type 0
+IsDamageAfter (commands.Node label pairs) t damage = IsBroken t damage
+IsDamageAfter (commands.Edge from label to pairs) t damage = IsLinkingDamage t damage
+IsDamageAfter (commands.Set target key value) t damage = IsBroken t damage
+IsDamageAfter (commands.Index label key) t damage = IsBroken t damage
+IsDamageAfter _ t damage = Unit {0}
 
 -- Why the command is refused, by the space as it is left alone.
-pub record IsStillCaused (command : Command) (t : State) (names now : List (List ℕ))
+pub record IsCausedAfter (command : Command) (t : State) (names now : List (List ℕ))
     (fault : ChangeFault) : Type 0 where
   pub caused : IsCaused command t t names now fault
-  pub damaged : IfBlames (IsStillDamage command t) fault
+  pub damaged : IfBlames (IsDamageAfter command t) fault

@@ -215,7 +215,7 @@ pub fn put_properties<S: Space>(
         → owner ≡ owner_of (targets.Node id)
         → CanPut (S.state space.old) names (targets.Node id) pairs.now assigned.now
         → GivesValues (S.state space.old) (S.state space.new) id pairs.now assigned.now) }
-    ensures beside { S.tells → OnOk result
+    ensures leaves_indexes { S.tells → OnOk result
         (LeavesIndexes (S.state space.old) (S.state space.new)) }
     ensures indexes { S.tells → OnOk result ((names : List (List ℕ)) (id : ℕ)
         → owner ≡ owner_of (targets.Edge id)
@@ -234,8 +234,8 @@ pub fn put_properties<S: Space>(
     ensures caused { S.tells → IfErr result (IsPutCause (S.state space.new) (length assigned.now)
         (assigned_blocks pairs.now assigned.now)) }
     ensures damaged { S.tells → IfErr result (IfBlames (IsOfLists (S.state space.old))) }
-    ensures still { S.tells → IfErr result (BlamesBroken (S.state space.new)) }
-    ensures late { S.tells → IfErr result MayComeLate }
+    ensures damaged_after { S.tells → IfErr result (BlamesBroken (S.state space.new)) }
+    ensures may_come_late { S.tells → IfErr result MayComeLate }
     ensures onward { S.onward space.old space.new }
     ensures cause { HasChangeCause (S.faults space.old) (S.faults space.new) result }
 {

@@ -56,7 +56,7 @@ pub fn prepare<S: Space>(
         (commands.Node label.now pairs.now)) }
     ensures caused { S.tells → IfErr result
         (IsLineCause (S.state space.old) names.old.names label.now pairs.now) }
-    ensures still { S.tells → IfErr result
+    ensures caused_after { S.tells → IfErr result
         (IsLineCause (S.state space.new) names.old.names label.now pairs.now) }
     ensures counts { S.tells → IfErr result (IsCounted (S.state space.old)) }
     ensures names_full { (used : List (List ℕ))

@@ -13,7 +13,7 @@ ghost use Rattle.rec_bytes.specs.Format.{relationships_file};
 ghost use Rattle.rec_bytes.specs.Space.{SameButReads, meta_of};
 ghost use Rattle.id_freelist.specs.Taking.{taken_id};
 ghost use Rattle.store_rules.specs.Writes.{WritesAtMost};
-ghost use Rattle.change_parts.specs.Causes.{IsCaused, IsStillCaused};
+ghost use Rattle.change_parts.specs.Causes.{IsCaused, IsCausedAfter};
 ghost use Rattle.change_parts.specs.Change.{IsCounted, IsRefusal, MakesChange};
 ghost use Rattle.change_parts.specs.ChangeFault.{HasChangeCause, LeavesSpace};
 ghost use Rattle.edge_changes.specs.EdgeAdding.{BlamesAdded, IsFullOfEdges};
@@ -56,7 +56,7 @@ pub fn add_edge<S: Space>(
     ensures caused { S.tells → IfErr result (IsCaused
         (commands.Edge from label.now to pairs.now) (S.state space.old) (S.state space.new)
         names.old.names names.new.names) }
-    ensures still { S.tells → IfErr result (IsStillCaused
+    ensures caused_after { S.tells → IfErr result (IsCausedAfter
         (commands.Edge from label.now to pairs.now) (S.state space.new)
         names.old.names names.new.names) }
     ensures damaged { S.tells → IfErr result

@@ -17,7 +17,7 @@ ghost use Rattle.group_store.specs.GroupChain.{IsDense};
 ghost use Rattle.group_store.specs.GroupRecord.{group_key};
 ghost use Rattle.group_store.specs.Leaving.{KeepsHeads, LeavesCounted};
 ghost use Rattle.store_rules.specs.Writes.{WritesAtMost, WritesBeside};
-ghost use Rattle.change_parts.specs.Causes.{IsCaused, IsStillCaused};
+ghost use Rattle.change_parts.specs.Causes.{IsCaused, IsCausedAfter};
 ghost use Rattle.change_parts.specs.Change.{IsRefusal, MakesChange};
 ghost use Rattle.change_parts.specs.ChangeFault.{HasChangeCause, IsFailure, IsOutside, LeavesSpace};
 ghost use Rattle.change_parts.specs.Damage.{BlamesBroken, IfBlames};
@@ -51,7 +51,7 @@ pub fn delete_edge<S: Space>(space: &mut S, names: &Names, id: u32) -> Result<u3
         (commands.Delete (targets.Edge id))) }
     ensures caused { S.tells → IfErr result (IsCaused (commands.Delete (targets.Edge id))
         (S.state space.old) (S.state space.new) names.now.names names.now.names) }
-    ensures still { S.tells → IfErr result (IsStillCaused (commands.Delete (targets.Edge id))
+    ensures caused_after { S.tells → IfErr result (IsCausedAfter (commands.Delete (targets.Edge id))
         (S.state space.new) names.now.names names.now.names) }
     ensures damaged { S.tells → IfErr result (BlamesBroken (S.state space.old)) }
     ensures broken { S.tells → IfErr result (BlamesBroken (S.state space.new)) }
@@ -87,7 +87,7 @@ fn take_edge<S: Space>(space: &mut S, id: u32, rel: RelRow) -> Result<(), Change
         → HasBareRow (S.state space.old).records id rel → IfErr result IsOutside }
     ensures damaged { S.tells → HasRow (S.state space.old).records id rel → IfErr result
         (IfBlames (IsTakenDamage (S.state space.old) id rel)) }
-    ensures still { S.tells → HasRow (S.state space.old).records id rel
+    ensures damaged_after { S.tells → HasRow (S.state space.old).records id rel
         → IfErr result (BlamesBroken (S.state space.new)) }
     ensures writes { WritesBeside (rel_key id) 12 (S.state space.old) (S.state space.new) }
     ensures failure { IfErr result IsFailure }
@@ -108,7 +108,7 @@ fn edge_ends<S: Space>(space: &mut S, id: u32, rel: RelRow) -> Result<Ends<EdgeE
         → HasBareRow (S.state space.old).records id rel → IfErr result IsOutside }
     ensures damaged { S.tells → IfErr result
         (IfBlames (IsTakenDamage (S.state space.old) id rel)) }
-    ensures still { S.tells → HasRow (S.state space.old).records id rel
+    ensures damaged_after { S.tells → HasRow (S.state space.old).records id rel
         → IfErr result (BlamesBroken (S.state space.new)) }
     ensures counts { S.tells → OnOk result
         (LeavesEdge (S.state space.old) (S.state space.new) id) }
@@ -150,7 +150,7 @@ fn edge_end<S: Space>(
         → (node ≡ rel.from) ⊎ (node ≡ rel.to) → IfErr result IsOutside }
     ensures damaged { S.tells → IfErr result
         (BlamesEnd (S.state space.old) id node rel.label) }
-    ensures still { S.tells → HasRow (S.state space.old).records id rel
+    ensures damaged_after { S.tells → HasRow (S.state space.old).records id rel
         → (node ≡ rel.from) ⊎ (node ≡ rel.to) → IfErr result (BlamesBroken (S.state space.new)) }
     ensures counts { S.tells → OnOk result
         (LeavesCounted (S.state space.old).records (S.state space.new).records) }
@@ -215,7 +215,7 @@ fn unlink_edge<S: Space>(space: &mut S, id: u32, ends: Ends<EdgeEnd>) -> Result<
         → IsPlacedEdge (S.state space.old).records id row ends → IfErr result
         (IfBlames (λ damage. IsPartedDamage (S.state space.old) id row.from row.to damage
         ⊎ IsUndroppedDamage (S.state space.old) damage)) }
-    ensures still { S.tells → (row : views.RelRow)
+    ensures damaged_after { S.tells → (row : views.RelRow)
         → IsPlacedEdge (S.state space.old).records id row ends
         → IfErr result (BlamesBroken (S.state space.new)) }
     ensures writes { WritesTaken (S.state space.old) (S.state space.new) id ends }

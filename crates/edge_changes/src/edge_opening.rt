@@ -42,7 +42,7 @@ pub(crate) fn open_ends<S: Space>(space: &mut S, joint: Joint) -> Result<Ends<Ed
         → joint.threshold ≡ (S.state space.old).shape.threshold
         → IfErr result (BlamesLinking (S.state space.new)) }
     // the meta record of the relationships stays
-    ensures beside { S.tells
+    ensures meta_record { S.tells
         → OnOk result ((S.state space.new).records (meta_key_of relationships_file)
         ≡ (S.state space.old).records (meta_key_of relationships_file)) }
     ensures files { S.tells
@@ -105,7 +105,7 @@ fn open_end<S: Space>(
     ensures damaged { S.tells → IsUsedNode (S.state space.old) end.node
         → (S.state space.old).shape.threshold ≤ joint.threshold
         → IfErr result (BlamesLinking (S.state space.new)) }
-    ensures beside { S.tells → OnOk result (LeavesBeside (S.state space.old).records
+    ensures leaves_others { S.tells → OnOk result (LeavesBeside (S.state space.old).records
         (S.state space.new).records end.node) }
     ensures leaves { S.tells → OnOk result
         (KeepsButChains (S.state space.old) (S.state space.new) end.node end.node) }

@@ -40,7 +40,7 @@ pub(crate) fn part_edge<S: Space>(
     ensures damaged { S.tells → (row : RelRow)
         → IsPlacedEdge (S.state space.old).records id row ends
         → IfErr result (IfBlames (IsPartedDamage (S.state space.old) id row.from row.to)) }
-    ensures still { S.tells → (row : RelRow)
+    ensures damaged_after { S.tells → (row : RelRow)
         → IsPlacedEdge (S.state space.old).records id row ends
         → IfErr result (BlamesBroken (S.state space.new)) }
     ensures heads { S.tells → AtEach (HasHead (S.state space.old).records) ends
@@ -69,7 +69,7 @@ fn part_ends<S: Space>(space: &mut S, rel: u32, ends: Ends<EdgeEnd>) -> Result<(
     ensures damaged { S.tells → (row : RelRow)
         → IsPlacedEdge (S.state space.old).records rel row ends
         → IfErr result (IfBlames (IsPartedDamage (S.state space.old) rel row.from row.to)) }
-    ensures still { S.tells → (row : RelRow)
+    ensures damaged_after { S.tells → (row : RelRow)
         → IsPlacedEdge (S.state space.old).records rel row ends
         → IfErr result (BlamesBroken (S.state space.new)) }
     ensures heads { S.tells → AtEach (HasHead (S.state space.old).records) ends
@@ -101,7 +101,8 @@ fn part_end<S: Space>(space: &mut S, rel: u32, end: EdgeEnd) -> Result<(), Chang
         → HasRightLinks (S.state space.old) end rel → IfErr result IsOutside }
     ensures damaged { S.tells → IfErr result (IfBlames (IsCutDamage (S.state space.old)
         (head_of end.head) end.node rel)) }
-    ensures still { S.tells → (row : RelRow) → rel_at (S.state space.old).records rel ≡ Some row
+    ensures damaged_after { S.tells → (row : RelRow)
+        → rel_at (S.state space.old).records rel ≡ Some row
         → HasPlace (S.state space.old).records row end
         → IfErr result (BlamesBroken (S.state space.new)) }
     ensures heads { S.tells → HasHead (S.state space.old).records end

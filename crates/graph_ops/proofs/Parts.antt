@@ -25,7 +25,7 @@ use Rattle.change_parts.specs.declared.change_fault.ChangeFault.TheVariants.{NoN
 use Rattle.change_parts.specs.declared.change_fault.ChangeFault.TheVariants.{TooManyIndexes, IndexTooLarge, Full}
 use Rattle.change_parts.specs.declared.change_fault.ChangeFault.TheVariants.{NamesFull, PropsFull, Memory, Disk, Damaged}
 use Rattle.change_parts.proofs.Exits.{fault_exit}
-use Rattle.change_parts.specs.Causes.{IsStillCaused}
+use Rattle.change_parts.specs.Causes.{IsCausedAfter}
 use Rattle.change_parts.specs.Damage.{BlamesBroken}
 use Rattle.graph_ops.specs.Mutating.{BlamesDeletion, IsListCaused, IsListRefusal, MakesChanges, MakesList}
 use Rattle.graph_ops.specs.Mutating.{MakesMutation, MakesPart, any_replies, most_drafted, most_told}
@@ -185,7 +185,7 @@ result_refused (Err fault) limit graph command refused = one_refused limit graph
 -- ---- why one is refused, by the space as it is left
 
 pub one_caused : (command : Command) (t : State) (names now : List (List ℕ)) (fault : ChangeFault) → ((rest : List (List ℕ)) × (now ≡ names ++ rest))
-    → IsStillCaused command t names now fault → IsListCaused (command ∷ []) t names now fault
+    → IsCausedAfter command t names now fault → IsListCaused (command ∷ []) t names now fault
 one_caused command t names now fault grown why =
     inr (record {
       before = [];
@@ -195,7 +195,7 @@ one_caused command t names now fault grown why =
       more = [];
       rest = grown.0;
       held = grown.1 ∙ ap (λ (l : List (List ℕ)). l ++ grown.0) (sym (append_none names));
-      caused = subst (λ (l : List (List ℕ)). IsStillCaused command t l now fault) (sym (append_none names)) why;
+      caused = subst (λ (l : List (List ℕ)). IsCausedAfter command t l now fault) (sym (append_none names)) why;
     })
 
 -- among others, after some of which there are more names
@@ -214,7 +214,7 @@ list_caused xs ys zs all t b m now fault is grown (inr why) =
       more = grown.0 ++ why.more;
       rest = why.rest;
       held = why.held ∙ ap (λ (l : List (List ℕ)). l ++ why.rest) names;
-      caused = subst (λ (l : List (List ℕ)). IsStillCaused why.command t l now fault) names why.caused;
+      caused = subst (λ (l : List (List ℕ)). IsCausedAfter why.command t l now fault) names why.caused;
     })
 
 -- want of memory blames no record
@@ -261,10 +261,10 @@ module _ {X : Type 0} (of : List X → List Command) (spread : IsSpread of) (xs 
       (next_refused told s t (of (take i xs)) (of (item ∷ [])) (of (drop (i + 1) xs)) (of xs) w b m part store shape all_of fault refused)
 
   -- and so is the cause of one
-  pub next_still : {T : Type 0} (t : State) (b m now : List (List ℕ)) (fault : ChangeFault) (out : Result T ChangeFault)
+  pub next_caused : {T : Type 0} (t : State) (b m now : List (List ℕ)) (fault : ChangeFault) (out : Result T ChangeFault)
       → ((more : List (List ℕ)) × (m ≡ b ++ more)) → IsErrAnd out (λ y. y ≡ fault) → IsListCaused (of (item ∷ [])) t m now fault
       → IfErr out (IsListCaused (of xs) t b now)
-  next_still t b m now fault out grown gives why = fault_exit (λ f. f) (IsListCaused (of xs) t b now) fault out gives
+  next_caused t b m now fault out grown gives why = fault_exit (λ f. f) (IsListCaused (of xs) t b now) fault out gives
       (list_caused (of (take i xs)) (of (item ∷ [])) (of (drop (i + 1) xs)) (of xs) t b m now fault all_of grown why)
 
 -- ---- whole lists

@@ -11,7 +11,7 @@ use Rattle.plain_graph.specs.declared.refusal.Refusal.{Refusal}
 use Rattle.plain_graph.specs.declared.refusal.Refusal.TheVariants as refusals
 use Rattle.rec_bytes.specs.Space.{State}
 use Rattle.store_rules.specs.Writes.{WritesAtMost}
-use Rattle.change_parts.specs.Causes.{IsStillCaused}
+use Rattle.change_parts.specs.Causes.{IsCausedAfter}
 use Rattle.change_parts.specs.Change.{full_of}
 use Rattle.change_parts.specs.Damage.{BlamesBroken, BlamesEntries}
 use Rattle.change_parts.specs.Store.{IsStore, graph_in}
@@ -128,7 +128,7 @@ pub record IsListCause (commands : List Command) (t : State) (names now : List (
   pub more : List (List ℕ)
   pub rest : List (List ℕ)
   pub held : now ≡ (names ++ more) ++ rest
-  pub caused : IsStillCaused command t (names ++ more) now fault
+  pub caused : IsCausedAfter command t (names ++ more) now fault
 
 -- so it is, or there was no memory
 abbrev pub IsListCaused

@@ -8,7 +8,7 @@ ghost use Rattle.store_rules.specs.Writes.{WritesAtMost};
 ghost use Rattle.change_parts.specs.Change.{IsRefusal};
 ghost use Rattle.change_parts.specs.ChangeFault.{HasChangeCause};
 ghost use Rattle.change_parts.specs.Store.{IsStore, graph_in};
-ghost use Rattle.change_parts.specs.Causes.{IsStillCaused};
+ghost use Rattle.change_parts.specs.Causes.{IsCausedAfter};
 ghost use Rattle.change_parts.specs.Damage.{BlamesBroken};
 ghost use Rattle.graph_ops.specs.Mutating.{BlamesDeletion, IsListCaused, IsListRefusal};
 ghost use Rattle.graph_ops.specs.Mutating.{MakesMutation, MakesPart};
@@ -74,7 +74,8 @@ pub fn mutate<S: Space>(
     ensures writes { IfOk result (λ mutated. mutated.weight < 4096
         → WritesAtMost mutated.weight (S.state space.old) (S.state space.new)) }
     ensures prefix { (rest : List (List ℕ)) × (names.new.names ≡ names.old.names ++ rest) }
-    ensures still { S.tells → IfErr result (IsListCaused (changes_of mutation.now items.items)
+    ensures caused_after { S.tells → IfErr result (IsListCaused
+        (changes_of mutation.now items.items)
         (S.state space.new) names.old.names names.new.names) }
     // What a deletion is blamed for is so in the space as it is left.
     ensures blamed { S.tells → mutation.now ≡ mutations.Drop
@@ -177,7 +178,8 @@ fn drop_each<S: Space>(
     ensures refused { S.tells → IsStore (S.state space.old) names.now.names
         → IfErr result (IsListRefusal (S.state space.old).shape.limit
         (graph_in (S.state space.old)) (changes_of mutations.Drop items.now)) }
-    ensures still { S.tells → IfErr result (IsListCaused (changes_of mutations.Drop items.now)
+    ensures caused_after { S.tells → IfErr result (IsListCaused
+        (changes_of mutations.Drop items.now)
         (S.state space.new) names.now.names names.now.names) }
     ensures blamed { S.tells → IfErr result (BlamesBroken (S.state space.new)) }
     ensures lone { S.tells → (target : Target)
@@ -205,7 +207,7 @@ fn delete_each<S: Space>(
     ensures refused { S.tells → IsStore (S.state space.old) names.now.names
         → IfErr result (IsListRefusal (S.state space.old).shape.limit
         (graph_in (S.state space.old)) (deletions targets.now)) }
-    ensures still { S.tells → IfErr result (IsListCaused (deletions targets.now)
+    ensures caused_after { S.tells → IfErr result (IsListCaused (deletions targets.now)
         (S.state space.new) names.now.names names.now.names) }
     ensures blamed { S.tells → IfErr result (BlamesBroken (S.state space.new)) }
     ensures lone { S.tells → (target : Target) → targets.now ≡ target ∷ [] → IfErr result
@@ -235,7 +237,7 @@ fn delete<S: Space>(
     ensures refused { S.tells → IsStore (S.state space.old) names.now.names
         → IfErr result (IsRefusal (S.state space.old).shape.limit
         (graph_in (S.state space.old)) (commands.Delete target)) }
-    ensures still { S.tells → IfErr result (IsStillCaused (commands.Delete target)
+    ensures caused_after { S.tells → IfErr result (IsCausedAfter (commands.Delete target)
         (S.state space.new) names.now.names names.now.names) }
     ensures damaged { S.tells → IfErr result
         (BlamesDeletion (S.state space.old) (S.state space.new) target) }
@@ -268,7 +270,7 @@ fn set_each<S: Space>(
         → IfErr result (IsListRefusal (S.state space.old).shape.limit
         (graph_in (S.state space.old)) (changes_of (mutations.Property pairs.now) items.now)) }
     ensures prefix { (rest : List (List ℕ)) × (names.new.names ≡ names.old.names ++ rest) }
-    ensures still { S.tells → IfErr result (IsListCaused
+    ensures caused_after { S.tells → IfErr result (IsListCaused
         (changes_of (mutations.Property pairs.now) items.now)
         (S.state space.new) names.old.names names.new.names) }
     ensures onward { S.onward space.old space.new }
@@ -301,7 +303,7 @@ fn set_item<S: Space>(
         (graph_in (S.state space.old))
         (changes_of (mutations.Property pairs.now) (item.now ∷ []))) }
     ensures prefix { (rest : List (List ℕ)) × (names.new.names ≡ names.old.names ++ rest) }
-    ensures still { S.tells → IfErr result (IsListCaused
+    ensures caused_after { S.tells → IfErr result (IsListCaused
         (changes_of (mutations.Property pairs.now) (item.now ∷ []))
         (S.state space.new) names.old.names names.new.names) }
     ensures onward { S.onward space.old space.new }
@@ -330,7 +332,7 @@ fn set_pairs<S: Space>(
         → IfErr result (IsListRefusal (S.state space.old).shape.limit
         (graph_in (S.state space.old)) (settings pairs.now target)) }
     ensures prefix { (rest : List (List ℕ)) × (names.new.names ≡ names.old.names ++ rest) }
-    ensures still { S.tells → IfErr result (IsListCaused (settings pairs.now target)
+    ensures caused_after { S.tells → IfErr result (IsListCaused (settings pairs.now target)
         (S.state space.new) names.old.names names.new.names) }
     ensures onward { S.onward space.old space.new }
     ensures cause { HasChangeCause (S.faults space.old) (S.faults space.new) result }
@@ -368,7 +370,7 @@ fn add_vertex<S: Space>(
         → IfErr result (IsRefusal (S.state space.old).shape.limit
         (graph_in (S.state space.old)) (commands.Node label.now pairs.now)) }
     ensures prefix { (rest : List (List ℕ)) × (names.new.names ≡ names.old.names ++ rest) }
-    ensures still { S.tells → IfErr result (IsListCaused
+    ensures caused_after { S.tells → IfErr result (IsListCaused
         (commands.Node label.now pairs.now ∷ [])
         (S.state space.new) names.old.names names.new.names) }
     ensures onward { S.onward space.old space.new }
@@ -401,7 +403,7 @@ fn add_edges<S: Space>(
         → IfErr result (IsListRefusal (S.state space.old).shape.limit
         (graph_in (S.state space.old)) (changes_of (steps_for edge.now) items.now)) }
     ensures prefix { (rest : List (List ℕ)) × (names.new.names ≡ names.old.names ++ rest) }
-    ensures still { S.tells → IfErr result (IsListCaused
+    ensures caused_after { S.tells → IfErr result (IsListCaused
         (changes_of (steps_for edge.now) items.now)
         (S.state space.new) names.old.names names.new.names) }
     ensures onward { S.onward space.old space.new }
@@ -438,7 +440,7 @@ fn add_edge_from<S: Space>(
         → IfErr result (IsListRefusal (S.state space.old).shape.limit
         (graph_in (S.state space.old)) (changes_of (steps_for edge.now) (item.now ∷ []))) }
     ensures prefix { (rest : List (List ℕ)) × (names.new.names ≡ names.old.names ++ rest) }
-    ensures still { S.tells → IfErr result (IsListCaused
+    ensures caused_after { S.tells → IfErr result (IsListCaused
         (changes_of (steps_for edge.now) (item.now ∷ []))
         (S.state space.new) names.old.names names.new.names) }
     ensures onward { S.onward space.old space.new }
@@ -471,7 +473,7 @@ fn add_one_edge<S: Space>(
         → IfErr result (IsRefusal (S.state space.old).shape.limit
         (graph_in (S.state space.old)) (command_from from edge.now)) }
     ensures prefix { (rest : List (List ℕ)) × (names.new.names ≡ names.old.names ++ rest) }
-    ensures still { S.tells → IfErr result (IsListCaused (command_from from edge.now ∷ [])
+    ensures caused_after { S.tells → IfErr result (IsListCaused (command_from from edge.now ∷ [])
         (S.state space.new) names.old.names names.new.names) }
     ensures onward { S.onward space.old space.new }
     ensures cause { HasChangeCause (S.faults space.old) (S.faults space.new) result }

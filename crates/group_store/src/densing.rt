@@ -89,7 +89,7 @@ pub fn make_dense<S: Space>(space: &mut S, node: u32, threshold: u32) -> Result<
     ensures dense { S.tells → OnOk result (IsDense (S.state space.new).records node) }
     ensures heads { S.tells
         → OnOk result (KeepsOtherHeads (S.state space.old) (S.state space.new) node) }
-    ensures beside { S.tells → OnOk result
+    ensures leaves_others { S.tells → OnOk result
         (LeavesBeside (S.state space.old).records
         (S.state space.new).records node) }
     ensures stays { S.tells → OnDamage result
@@ -206,7 +206,7 @@ fn move_one<S: Space>(space: &mut S, node: u32, rel: u32) -> Result<Turn, Fault>
         → OnOk result (IsDense (S.state space.new).records node) }
     ensures heads { S.tells
         → OnOk result (KeepsHeads (S.state space.old) (S.state space.new)) }
-    ensures beside { S.tells → OnOk result
+    ensures leaves_others { S.tells → OnOk result
         (LeavesBeside (S.state space.old).records
         (S.state space.new).records node) }
     ensures stays { S.tells → OnDamage result
@@ -291,7 +291,7 @@ pub(crate) fn own_group<S: Space>(space: &mut S, node: u32, label: u32) -> Resul
         IsOwnGroup (S.state space.old).records (S.state space.new).records node own.row.id) }
     ensures heads { S.tells
         → OnOk result (KeepsHeads (S.state space.old) (S.state space.new)) }
-    ensures beside { S.tells → OnOk result
+    ensures leaves_others { S.tells → OnOk result
         (LeavesBeside (S.state space.old).records
         (S.state space.new).records node) }
     ensures unwritten { OnDamage result (SameButReads (S.state space.old) (S.state space.new)) }

@@ -160,7 +160,7 @@ fn open_group<S: Space>(space: &mut S, node: u32, label: u32, side: Side) -> Res
         → IfOk result (λ head. IsHeadOf (S.state space.new).records (head_of head) node) }
     ensures heads { S.tells
         → OnOk result (KeepsHeads (S.state space.old) (S.state space.new)) }
-    ensures beside { S.tells → OnOk result
+    ensures leaves_others { S.tells → OnOk result
         (LeavesBeside (S.state space.old).records
         (S.state space.new).records node) }
     ensures at { IfOk result (λ head. head.key.file ≡ groups_file) }
@@ -227,7 +227,7 @@ pub fn open_chain<S: Space>(
         → IfOk result (λ head. IsHeadOf (S.state space.new).records (head_of head) node) }
     ensures heads { S.tells
         → OnOk result (KeepsOtherHeads (S.state space.old) (S.state space.new) node) }
-    ensures beside { S.tells → OnOk result
+    ensures leaves_others { S.tells → OnOk result
         (LeavesBeside (S.state space.old).records
         (S.state space.new).records node) }
     ensures stays { S.tells → OnDamage result

@@ -68,7 +68,7 @@ pub(crate) fn count_group<S: Space>(space: &mut S, node: u32, row: &GroupRow) ->
     ensures unwritten { OnDamage result (SameButReads (S.state space.old) (S.state space.new)) }
     ensures heads { S.tells
         → OnOk result (KeepsHeads (S.state space.old) (S.state space.new)) }
-    ensures beside { S.tells
+    ensures leaves_others { S.tells
         → is_group_of ((S.state space.old).records (group_key row.now.id)) node ≡ true
         → OnOk result (LeavesBeside (S.state space.old).records
         (S.state space.new).records node) }

@@ -146,7 +146,7 @@ pub(crate) fn enter_values<S: Space>(
         (indexes_of (S.state space.new).records ≡ indexes_of (S.state space.old).records) }
     ensures full { S.tells → IfErr result (IsEntryFault (S.state space.new)) }
     ensures some { IfErr result (λ _. 0 < length assigned.now) }
-    ensures late { S.tells → IfErr result MayComeLate }
+    ensures may_come_late { S.tells → IfErr result MayComeLate }
     ensures touches { TouchesIndex S.tells (3 * length (indexed_of listed.now label assigned.now))
         (S.state space.old) (S.state space.new) }
     ensures blames { S.tells → IfErr result (BlamesEntry (S.state space.new)) }
@@ -374,7 +374,7 @@ pub(crate) fn change_entry<S: Space>(
         → IfSome held.now (λ h. h.node < high (S.state space.old).records nodes_file)
         → IfErr result (IsEntryRefusal (S.state space.old) held.now) }
     ensures some { IfErr result (λ _. held.now ≢ None) }
-    ensures late { S.tells → IfErr result MayComeLate }
+    ensures may_come_late { S.tells → IfErr result MayComeLate }
     ensures graph { S.tells → (wanted : Entries) → AreIndexed (S.state space.old).records wanted
         → KeepsStore (S.state space.old) → OnOk result
         (indexes_of (S.state space.new).records ≡ indexes_of (S.state space.old).records) }

@@ -11,7 +11,7 @@ ghost use Rattle.plain_graph.specs.Reply.{Done};
 ghost use Rattle.plain_graph.specs.declared.command.Command.TheVariants as commands;
 ghost use Rattle.rec_bytes.specs.Space.{SameButReads};
 ghost use Rattle.store_rules.specs.Writes.{WritesAtMost};
-ghost use Rattle.change_parts.specs.Causes.{IsCaused, IsStillCaused};
+ghost use Rattle.change_parts.specs.Causes.{IsCaused, IsCausedAfter};
 ghost use Rattle.change_parts.specs.Change.{IsCounted, IsRefusal, IsRefusedBy, MakesChange};
 ghost use Rattle.change_parts.specs.ChangeFault.{HasChangeCause, LeavesSpace};
 ghost use Rattle.change_parts.specs.Damage.{BlamesBroken, BlamesMaking};
@@ -50,7 +50,7 @@ pub fn index<S: Space>(
         (commands.Index label.now key.now)) }
     ensures caused { S.tells → IfErr result (IsCaused (commands.Index label.now key.now)
         (S.state space.old) (S.state space.new) names.old.names names.new.names) }
-    ensures still { S.tells → IfErr result (IsStillCaused (commands.Index label.now key.now)
+    ensures caused_after { S.tells → IfErr result (IsCausedAfter (commands.Index label.now key.now)
         (S.state space.new) names.old.names names.new.names) }
     ensures damaged { S.tells → (known : List (List ℕ))
         → UsesName names.old.names label.now known

@@ -15,7 +15,7 @@ ghost use Rattle.rec_bytes.specs.Key.{IsKey};
 ghost use Rattle.rec_bytes.specs.Space.{meta_of};
 ghost use Rattle.store_rules.specs.Views.{key_in};
 ghost use Rattle.store_rules.specs.Writes.{WritesAtMost, WritesBeside};
-ghost use Rattle.change_parts.specs.Causes.{IsCaused, IsStillCaused};
+ghost use Rattle.change_parts.specs.Causes.{IsCaused, IsCausedAfter};
 ghost use Rattle.change_parts.specs.Change.{IsCounted, IsRefusal, MakesChange};
 ghost use Rattle.change_parts.specs.ChangeFault.{HasChangeCause, IsFailure, IsOutside, LeavesSpace};
 ghost use Rattle.change_parts.specs.Damage.{BlamesEntries, BlamesBroken, IfBlames};
@@ -54,7 +54,7 @@ pub fn add_node<S: Space>(
         (commands.Node label.now pairs.now)) }
     ensures caused { S.tells → IfErr result (IsCaused (commands.Node label.now pairs.now)
         (S.state space.old) (S.state space.new) names.old.names names.new.names) }
-    ensures still { S.tells → IfErr result (IsStillCaused (commands.Node label.now pairs.now)
+    ensures caused_after { S.tells → IfErr result (IsCausedAfter (commands.Node label.now pairs.now)
         (S.state space.new) names.old.names names.new.names) }
     ensures damaged { S.tells → IfErr result
         (BlamesEntries (S.state space.old) (S.state space.new)) }
@@ -119,8 +119,8 @@ fn put_node<S: Space>(space: &mut S, label: u32) -> Result<u32, ChangeFault>
         → IfErr result IsFailure }
     ensures damaged { S.tells → IfErr result
         (IfBlames (IsTakeDamage (S.state space.old) nodes_file)) }
-    ensures still { S.tells → IfErr result (BlamesBroken (S.state space.new)) }
-    ensures beside { S.tells → OnOk result (IsSameBeside nodes_file (S.state space.old).records
+    ensures damaged_after { S.tells → IfErr result (BlamesBroken (S.state space.new)) }
+    ensures other_files { S.tells → OnOk result (IsSameBeside nodes_file (S.state space.old).records
         (S.state space.new).records) }
     ensures key { IfOk result (λ id. IsKey (key_in nodes_file id)) }
     ensures writes { IfOk result (λ id. WritesBeside (key_in nodes_file id) 0

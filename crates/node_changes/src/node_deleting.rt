@@ -4,7 +4,7 @@ ghost use Rattle.plain_graph.specs.Reply.{Done};
 ghost use Rattle.plain_graph.specs.declared.command.Command.TheVariants as commands;
 ghost use Rattle.plain_graph.specs.declared.command.Target.TheVariants as targets;
 ghost use Rattle.store_rules.specs.Writes.{WritesAtMost};
-ghost use Rattle.change_parts.specs.Causes.{IsCaused, IsStillCaused};
+ghost use Rattle.change_parts.specs.Causes.{IsCaused, IsCausedAfter};
 ghost use Rattle.change_parts.specs.Change.{IsRefusal, MakesChange};
 ghost use Rattle.change_parts.specs.ChangeFault.{HasChangeCause, LeavesSpace};
 ghost use Rattle.change_parts.specs.Damage.{BlamesBroken};
@@ -38,7 +38,7 @@ pub fn delete_node<S: Space>(
         (commands.Delete (targets.Node id))) }
     ensures caused { S.tells → IfErr result (IsCaused (commands.Delete (targets.Node id))
         (S.state space.old) (S.state space.new) names.now.names names.now.names) }
-    ensures still { S.tells → IfErr result (IsStillCaused (commands.Delete (targets.Node id))
+    ensures caused_after { S.tells → IfErr result (IsCausedAfter (commands.Delete (targets.Node id))
         (S.state space.new) names.now.names names.now.names) }
     ensures found { S.tells → IfErr result (IsDeleteCause (S.state space.old)
         (S.state space.new) id) }

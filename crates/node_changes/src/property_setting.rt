@@ -8,7 +8,7 @@ ghost use Rattle.plain_graph.specs.Refusals.{most_names};
 ghost use Rattle.plain_graph.specs.Reply.{Done};
 ghost use Rattle.plain_graph.specs.declared.command.Command.TheVariants as commands;
 ghost use Rattle.store_rules.specs.Writes.{WritesAtMost};
-ghost use Rattle.change_parts.specs.Causes.{IsCaused, IsStillCaused};
+ghost use Rattle.change_parts.specs.Causes.{IsCaused, IsCausedAfter};
 ghost use Rattle.change_parts.specs.Change.{IsRefusal, IsSetCount, MakesChange};
 ghost use Rattle.change_parts.specs.ChangeFault.{HasChangeCause, LeavesSpace};
 ghost use Rattle.change_parts.specs.Damage.{BlamesGiven, BlamesEntries};
@@ -40,7 +40,7 @@ pub fn set<S: Space>(
         (commands.Set target key.now value.now)) }
     ensures caused { S.tells → IfErr result (IsCaused (commands.Set target key.now value.now)
         (S.state space.old) (S.state space.new) names.old.names names.new.names) }
-    ensures still { S.tells → IfErr result (IsStillCaused
+    ensures caused_after { S.tells → IfErr result (IsCausedAfter
         (commands.Set target key.now value.now) (S.state space.new)
         names.old.names names.new.names) }
     ensures damaged { S.tells → IfErr result
@@ -85,7 +85,7 @@ pub fn unset<S: Space>(
         (commands.Unset target key.now)) }
     ensures caused { S.tells → IfErr result (IsCaused (commands.Unset target key.now)
         (S.state space.old) (S.state space.new) names.now.names names.now.names) }
-    ensures still { S.tells → IfErr result (IsStillCaused (commands.Unset target key.now)
+    ensures caused_after { S.tells → IfErr result (IsCausedAfter (commands.Unset target key.now)
         (S.state space.new) names.now.names names.now.names) }
     ensures damaged { S.tells
         → IfErr result (BlamesEntries (S.state space.old) (S.state space.new)) }

@@ -43,7 +43,7 @@ pub(crate) fn define<S: Space>(space: &mut S, label: u32, key: u32) -> Result<De
         (CountsMore (S.state space.old) (S.state space.new) 13) }
     ensures roomy { S.tells → HasLeft (S.state space.old) 13 → IfErr result IsNotFull }
     ensures damaged { S.tells → IfErr result (BlamesList (S.state space.old) index_file) }
-    ensures still { S.tells → IfErr result
+    ensures damaged_after { S.tells → IfErr result
         (BlamesBroken (S.state space.new).records (S.state space.new).shape) }
     ensures kept { S.tells → IfOk result (λ definition.
         PutsHeads (S.state space.old) (S.state space.new) 12 definition.rec) }
@@ -73,7 +73,7 @@ fn add_heads<S: Space>(space: &mut S, start: Rec) -> Result<Rec, TakeFault>
         (CountsMore (S.state space.old) (S.state space.new) 12) }
     ensures roomy { S.tells → HasLeft (S.state space.old) 12 → IfErr result IsNotFull }
     ensures damaged { S.tells → IfErr result (BlamesList (S.state space.old) index_file) }
-    ensures still { S.tells → IfErr result
+    ensures damaged_after { S.tells → IfErr result
         (BlamesBroken (S.state space.new).records (S.state space.new).shape) }
     ensures kept { S.tells
         → IfOk result (PutsHeads (S.state space.old) (S.state space.new) 12) }
@@ -104,7 +104,7 @@ fn add_record<S: Space>(space: &mut S, rec: Rec) -> Result<u32, TakeFault>
         (CountsMore (S.state space.old) (S.state space.new) 1) }
     ensures roomy { S.tells → HasLeft (S.state space.old) 1 → IfErr result IsNotFull }
     ensures damaged { S.tells → IfErr result (BlamesList (S.state space.old) index_file) }
-    ensures still { S.tells → IfErr result
+    ensures damaged_after { S.tells → IfErr result
         (BlamesBroken (S.state space.new).records (S.state space.new).shape) }
     ensures kept { S.tells → field 1 rec KIND ≢ FREE
         → IfOk result (PutsInUse (S.state space.old) (S.state space.new)) }

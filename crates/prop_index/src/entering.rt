@@ -71,7 +71,7 @@ pub fn enter<S: Space>(
         → OnOk result (SameButReads (S.state space.old) (S.state space.new)) }
     ensures damaged { S.tells → IfErr result
         (BlamesBroken (S.state space.old).records (S.state space.old).shape) }
-    ensures still { S.tells → IfErr result
+    ensures damaged_after { S.tells → IfErr result
         (BlamesBroken (S.state space.new).records (S.state space.new).shape) }
     ensures listed { S.tells → (ds : List ℕ) → AreDefinitions (S.state space.old).records ds
         → IfErr result (TakeBlamesDefinition (S.state space.old)) }
@@ -116,7 +116,7 @@ fn add_entry<S: Space>(space: &mut S, bucket: Bucket, content: Content) -> Resul
     ensures full { S.tells → IfErr result (IsIndexFull (S.state space.old)) }
     ensures crowded { S.tells → IfErr result (IsIndexFull (S.state space.new)) }
     ensures damaged { S.tells → IfErr result (BlamesList (S.state space.old) index_file) }
-    ensures still { S.tells → IfErr result
+    ensures damaged_after { S.tells → IfErr result
         (BlamesBroken (S.state space.new).records (S.state space.new).shape) }
     ensures spares { S.tells → IsOpened (S.state space.old).records bucket
         → OnOk result (SparesDefinitions (S.state space.old) (S.state space.new)) }

@@ -45,7 +45,7 @@ pub(crate) fn fill<S: Space>(
         → IfErr result IsNotFull }
     ensures damaged { S.tells → AreHeadsUsed (S.state space.old) 12 definition.now.rec
         → IfErr result (BlamesList (S.state space.old) index_file) }
-    ensures still { S.tells → IfErr result
+    ensures damaged_after { S.tells → IfErr result
         (BlamesBroken (S.state space.new).records (S.state space.new).shape) }
     ensures touches { TouchesBeside S.tells (head_ids 12 definition.now.rec)
         (length contents.now) (S.state space.old) (S.state space.new) }

@@ -84,7 +84,7 @@ pub fn leave<S: Space>(
         ≡ (meta_of (S.state space.old) index_file).live - 1) }
     ensures damaged { S.tells → IfErr result
         (BlamesBroken (S.state space.old).records (S.state space.old).shape) }
-    ensures still { S.tells → IfErr result
+    ensures damaged_after { S.tells → IfErr result
         (BlamesBroken (S.state space.new).records (S.state space.new).shape) }
     ensures listed { S.tells → (ds : List ℕ) → AreDefinitions (S.state space.old).records ds
         → IfErr result (BlamesDefinition (S.state space.old)) }

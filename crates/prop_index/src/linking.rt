@@ -70,7 +70,7 @@ pub(crate) fn put_in_front<S: Space>(
         → kind_at (S.state space.old).records index_file bucket.slot.id ≡ heads
         → BeginsRight (S.state space.old).records bucket → 0 < bucket.slot.place
         → OnOk result (SparesDefinitions (S.state space.old) (S.state space.new)) }
-    ensures still { S.tells → IfErr result
+    ensures damaged_after { S.tells → IfErr result
         (BlamesBroken (S.state space.new).records (S.state space.new).shape) }
     ensures unwritten { IfErr result (IfTakeBlames
         (SameButReads (S.state space.old) (S.state space.new))) }

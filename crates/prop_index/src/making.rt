@@ -56,7 +56,7 @@ pub fn make<S: Space>(alloc: Global, space: &mut S, label: u32, key: u32) -> Res
     ensures caused { S.tells → IfErr result (IsMakeCause (S.state space.old) label key) }
     ensures damaged { S.tells → IfErr result
         (BlamesBroken (S.state space.old).records (S.state space.old).shape) }
-    ensures still { S.tells → IfErr result
+    ensures damaged_after { S.tells → IfErr result
         (BlamesBroken (S.state space.new).records (S.state space.new).shape) }
     ensures touches { S.tells → TouchesIndex S.tells
         (13 + count_of (S.state space.old).records label key)
@@ -148,7 +148,7 @@ fn write_index<S: Space>(
     ensures roomy { S.tells → HasLeft (S.state space.old) (13 + length contents.now)
         → IfErr result IsNotFull }
     ensures damaged { S.tells → IfErr result (BlamesList (S.state space.old) index_file) }
-    ensures still { S.tells → IfErr result
+    ensures damaged_after { S.tells → IfErr result
         (TakeBlamesBroken (S.state space.new).records (S.state space.new).shape) }
     ensures touches { TouchesIndex S.tells (13 + length contents.now)
         (S.state space.old) (S.state space.new) }

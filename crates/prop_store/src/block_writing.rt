@@ -21,13 +21,13 @@ pub(crate) fn write_text<S: Space>(space: &mut S, text: &[u8]) -> Result<u32, Ta
     ensures refused { S.tells → KeepsFile (S.state space.old) strings_file
         → IfErr result
         (IsWriteFault (S.state space.old) strings_file (blocks_for (length text.now))) }
-    ensures beside { S.tells → OnOk result (IsSameBeside strings_file
+    ensures other_files { S.tells → OnOk result (IsSameBeside strings_file
         (S.state space.old).records (S.state space.new).records) }
     ensures touches { TouchesProperties S.tells [] 0 (blocks_for (length text.now))
         (S.state space.old) (S.state space.new) }
     ensures caused { S.tells
         → IfErr result (IsTextCause (S.state space.new) (blocks_for (length text.now))) }
-    ensures still { S.tells
+    ensures damaged_after { S.tells
         → IfErr result (BlamesBroken (S.state space.new).records (S.state space.new).shape) }
     ensures damaged { S.tells → IfErr result (BlamesList (S.state space.old) strings_file) }
     ensures harmless { S.tells
@@ -66,12 +66,12 @@ fn write_block<S: Space>(space: &mut S, piece: &[u8], next: u32) -> Result<u32, 
         → WritesBlock (S.state space.old) (S.state space.new) piece.now next id) }
     ensures refused { S.tells → KeepsFile (S.state space.old) strings_file
         → IfErr result (IsWriteFault (S.state space.old) strings_file 1) }
-    ensures beside { S.tells → OnOk result (IsSameBeside strings_file
+    ensures other_files { S.tells → OnOk result (IsSameBeside strings_file
         (S.state space.old).records (S.state space.new).records) }
     ensures touches { TouchesProperties S.tells [] 0 1
         (S.state space.old) (S.state space.new) }
     ensures caused { S.tells → IfErr result (IsTextCause (S.state space.new) 1) }
-    ensures still { S.tells
+    ensures damaged_after { S.tells
         → IfErr result (BlamesBroken (S.state space.new).records (S.state space.new).shape) }
     ensures damaged { S.tells → IfErr result (BlamesList (S.state space.old) strings_file) }
     ensures harmless { S.tells

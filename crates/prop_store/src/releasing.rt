@@ -48,7 +48,7 @@ pub(crate) fn release<S: Space>(space: &mut S, blocks: &[u32]) -> Result<(), Spa
         → IsLinkBelow (meta_of (S.state space.old) strings_file).free
         (meta_of (S.state space.old) strings_file).high)
         → HarmsNoList (S.state space.old) (S.state space.new) strings_file) }
-    ensures beside { S.tells → OnOk result (IsSameBeside strings_file
+    ensures other_files { S.tells → OnOk result (IsSameBeside strings_file
         (S.state space.old).records (S.state space.new).records) }
     ensures touches { TouchesOnly S.tells (S.state space.old) (S.state space.new)
         (meta_key_of strings_file ∷ map (key_in strings_file) blocks.now) }
@@ -69,7 +69,7 @@ pub(crate) fn release_properties<S: Space>(space: &mut S, ids: &[u32]) -> Result
         (S.state space.old).shape properties_file ids.now ids.now
         → ChangesFile (S.state space.old).records (S.state space.new).records
         (S.state space.old).shape properties_file ids.now []) }
-    ensures beside { S.tells → OnOk result (IsSameBeside properties_file
+    ensures other_files { S.tells → OnOk result (IsSameBeside properties_file
         (S.state space.old).records (S.state space.new).records) }
     ensures touches { TouchesOnly S.tells (S.state space.old) (S.state space.new)
         (meta_key_of properties_file ∷ map (key_in properties_file) ids.now) }

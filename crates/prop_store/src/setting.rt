@@ -75,7 +75,7 @@ pub fn add<S: Space>(space: &mut S, owner: Owner, key: u32, value: &Value) -> Re
     ensures caused { S.tells → IfErr result (IsSetCause ⊥
         (SameButReads (S.state space.old) (S.state space.new)) (blocks_of value.now)
         (S.state space.new)) }
-    ensures still { S.tells → IfErr result (SetBlamesBroken (S.state space.new)) }
+    ensures damaged_after { S.tells → IfErr result (SetBlamesBroken (S.state space.new)) }
     ensures lists { S.tells → IfErr result (BlamesLists (S.state space.old)) }
     ensures damaged { S.tells → IfErr result (SetBlamesBroken (S.state space.old)) }
     ensures harmless { S.tells
@@ -124,7 +124,7 @@ pub fn set<S: Space>(space: &mut S, owner: Owner, key: u32, value: &Value) -> Re
         (LacksMet (S.state space.old).records owner key
         × SameButReads (S.state space.old) (S.state space.new)) (blocks_of value.now)
         (S.state space.new)) }
-    ensures still { S.tells → IsInUse (S.state space.old).records owner
+    ensures damaged_after { S.tells → IsInUse (S.state space.old).records owner
         → IfErr result (SetBlamesBroken (S.state space.new)) }
     ensures damaged { S.tells → IsInUse (S.state space.old).records owner
         → IfErr result (SetBlamesBroken (S.state space.old)) }
@@ -181,7 +181,7 @@ fn put_new<S: Space>(space: &mut S, key: u32, value: &Value, next: u32) -> Resul
         ((meta_of (S.state space.old) properties_file).live
         ≡ room_of (S.state space.old).shape properties_file) (blocks_of value.now)
         (S.state space.new)) }
-    ensures still { S.tells → IfErr result (SetBlamesBroken (S.state space.new)) }
+    ensures damaged_after { S.tells → IfErr result (SetBlamesBroken (S.state space.new)) }
     ensures damaged { S.tells → IfErr result (BlamesLists (S.state space.old)) }
     ensures harmless { S.tells
         → OnOk result (HarmsNoLists (S.state space.old) (S.state space.new)) }
@@ -218,7 +218,7 @@ fn put_again<S: Space>(space: &mut S, row: &PropertyRow, value: &Value) -> Resul
         (S.state space.old) (S.state space.new) }
     ensures caused { S.tells
         → IfErr result (IsSetCause ⊥ ⊥ (blocks_of value.now) (S.state space.new)) }
-    ensures still { S.tells → IsReadRow (S.state space.old).records row.now
+    ensures damaged_after { S.tells → IsReadRow (S.state space.old).records row.now
         → IfErr result (SetBlamesBroken (S.state space.new)) }
     ensures damaged { S.tells → IsReadRow (S.state space.old).records row.now
         → IfErr result (SetBlamesBroken (S.state space.old)) }

@@ -179,8 +179,8 @@ returns-clause-values g c tells names id is can =
 pub returns-clause-indexes : goal.returns-clause-indexes
 returns-clause-indexes g c tells names id is can = c.loop-assignment.invariant.indexes tells names id is can
 
-pub returns-in_err-add-clause-late : goal.returns-in_err-add-clause-late
-returns-in_err-add-clause-late g c tells = fault_exit of_set MayComeLate c.in_err-add.field-0.0 c.from_residual.result c.from_residual.ensures.1
+pub returns-in_err-add-clause-may_come_late : goal.returns-in_err-add-clause-may_come_late
+returns-in_err-add-clause-may_come_late g c tells = fault_exit of_set MayComeLate c.in_err-add.field-0.0 c.from_residual.result c.from_residual.ensures.1
     (set_late _ _ _ (g.S.Reads.state c.add.new.space) c.in_err-add.field-0.0 (c.in_err-add.ensures.caused tells))
 
 pub returns-in_err-add-clause-err_writes : goal.returns-in_err-add-clause-err_writes
@@ -223,11 +223,11 @@ pub returns-in_err-add-clause-cause : goal.returns-in_err-add-clause-cause
 returns-in_err-add-clause-cause g c =
     set_cause_passed _ _ _ c.from_residual.result c.in_err-add.field-0.0 c.loop-assignment.invariant.later c.in_err-add.ensures.cause c.from_residual.ensures.1
 
-pub returns-in_err-add-clause-still : goal.returns-in_err-add-clause-still
-returns-in_err-add-clause-still g c tells =
+pub returns-in_err-add-clause-damaged_after : goal.returns-in_err-add-clause-damaged_after
+returns-in_err-add-clause-damaged_after g c tells =
     let t = g.S.Reads.state c.add.new.space in
     fault_exit of_set (BlamesBroken t) c.in_err-add.field-0.0 c.from_residual.result c.from_residual.ensures.1
-    (set_blamed t c.in_err-add.field-0.0 (c.in_err-add.ensures.still tells))
+    (set_blamed t c.in_err-add.field-0.0 (c.in_err-add.ensures.damaged_after tells))
 
 pub returns-in_err-add-clause-put : goal.returns-in_err-add-clause-put
 returns-in_err-add-clause-put g c _ = never_ok c.from_residual.result _ _ c.from_residual.ensures.1

@@ -286,24 +286,25 @@ returns-in_err-blocks-clause-cause g c =
 
 -- ---- and by the space as it is left
 
-pub returns-in_err-label-clause-still : goal.returns-in_err-label-clause-still
-returns-in_err-label-clause-still g c tells =
+pub returns-in_err-label-clause-caused_after : goal.returns-in_err-label-clause-caused_after
+returns-in_err-label-clause-caused_after g c tells =
     let t = g.S.Reads.state c.intern.new.space in
     let old = c.args.names.now.names in
     fault_exit of_intern (IsLineCause t old c.args.label.now c.args.pairs.now) c.in_err-label.field-0.0 c.from_residual.result c.from_residual.ensures.1
     (label_caused t old c.args.label.now c.args.pairs.now c.in_err-label.field-0.0 (rw c.as_bytes.ensures at c.in_err-label.ensures.full_only))
 
-pub returns-in_err-assigned-clause-still : goal.returns-in_err-assigned-clause-still
-returns-in_err-assigned-clause-still g c tells =
+pub returns-in_err-assigned-clause-caused_after : goal.returns-in_err-assigned-clause-caused_after
+returns-in_err-assigned-clause-caused_after g c tells =
     let t = g.S.Reads.state c.assign_pairs.new.space in
     let old = c.args.names.now.names in
     fault_exit (λ f. f) (IsLineCause t old c.args.label.now c.args.pairs.now) c.in_err-assigned.field-0.0 c.from_residual-in_err-assigned.result
     c.from_residual-in_err-assigned.ensures.1
-    (assign_caused t old c.intern.new.self.names c.args.label.now c.args.pairs.now (uses g (goal.at.returns-in_err-assigned-clause-still g c).In_ok-label)
+    (assign_caused t old c.intern.new.self.names c.args.label.now c.args.pairs.now (uses g
+    (goal.at.returns-in_err-assigned-clause-caused_after g c).In_ok-label)
     c.in_err-assigned.field-0.0 c.in_err-assigned.ensures.refused c.in_err-assigned.ensures.counts)
 
-pub returns-in_err-blocks-clause-still : goal.returns-in_err-blocks-clause-still
-returns-in_err-blocks-clause-still g c tells =
+pub returns-in_err-blocks-clause-caused_after : goal.returns-in_err-blocks-clause-caused_after
+returns-in_err-blocks-clause-caused_after g c tells =
     let u = g.S.Reads.state c.assign_pairs.new.space in
     let old = c.args.names.now.names in
     let names = c.assign_pairs.new.names.names in
@@ -465,8 +466,8 @@ returns-clause-refused g c tells store = tt
 pub returns-clause-caused : goal.returns-clause-caused
 returns-clause-caused g c tells = tt
 
-pub returns-clause-still : goal.returns-clause-still
-returns-clause-still g c tells = tt
+pub returns-clause-caused_after : goal.returns-clause-caused_after
+returns-clause-caused_after g c tells = tt
 
 pub returns-clause-counts : goal.returns-clause-counts
 returns-clause-counts g c tells = tt

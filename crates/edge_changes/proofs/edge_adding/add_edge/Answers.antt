@@ -35,7 +35,7 @@ use Rattle.change_parts.proofs.Reasons.{outside_refused}
 use Rattle.edge_changes.proofs.OpenWrites.{ends_weigh, most_threshold}
 use Rattle.store_rules.proofs.WriteLaws.{beside_then, beside_written, more_written, none_written, then_written}
 use Rattle.change_parts.proofs.Writes.{on_any_err}
-use Rattle.change_parts.specs.Causes.{IsCaused, IsStillCaused}
+use Rattle.change_parts.specs.Causes.{IsCaused, IsCausedAfter}
 use Rattle.change_parts.proofs.Causes.{absent_caused, broken_left, caused_left, caused_read, failure_caused, line_edge, no_edge, node_of, put_caused}
 use Rattle.change_parts.proofs.Causes.{room_caused}
 use Rattle.change_parts.proofs.DiskCauses.{change_cause_passed, later_on, room_refusal_cause}
@@ -240,7 +240,7 @@ returns-in_err-put_properties-clause-leaves g c tells =
     let w = g.S.Reads.state c.put_properties.new.space in
     fault_exit (λ f. f) (LeavesSpace s w) c.in_err-put_properties.field-0.0 c.from_residual-in_err-put_properties.result
     c.from_residual-in_err-put_properties.ensures.1
-    (late_leaves s w c.in_err-put_properties.field-0.0 (c.in_err-put_properties.ensures.late tells))
+    (late_leaves s w c.in_err-put_properties.field-0.0 (c.in_err-put_properties.ensures.may_come_late tells))
 
 pub returns-in_err-put_properties-clause-refused_writes : goal.returns-in_err-put_properties-clause-refused_writes
 returns-in_err-put_properties-clause-refused_writes g c =
@@ -594,62 +594,62 @@ returns-in_err-put_properties-clause-damaged g c tells =
 
 -- ---- and by the space as it is left alone
 
-pub returns-in_err-ends-clause-still : goal.returns-in_err-ends-clause-still
-returns-in_err-ends-clause-still g c tells =
-    let at = (goal.at.returns-in_err-ends-clause-still g c).In_err-ends in
+pub returns-in_err-ends-clause-caused_after : goal.returns-in_err-ends-clause-caused_after
+returns-in_err-ends-clause-caused_after g c tells =
+    let at = (goal.at.returns-in_err-ends-clause-caused_after g c).In_err-ends in
     let s = g.S.Reads.state c.args.space.now in
     let n = g.S.Reads.state c.end_degrees.new.space in
     let names = c.args.names.now.names in
     let command = commands.Edge c.args.from c.args.label.now c.args.to c.args.pairs.now in
     let fault = c.in_err-ends.field-0.0 in
-    fault_exit (λ f. f) (IsStillCaused command n names names) fault c.from_residual.result c.from_residual.ensures.1
+    fault_exit (λ f. f) (IsCausedAfter command n names names) fault c.from_residual.result c.from_residual.ensures.1
     (record { caused = caused_left command s n n names names c.end_degrees.ensures.state fault (ends_caused g at tells); damaged = ends_blamed g at tells })
 
-pub returns-in_err-test_room-clause-still : goal.returns-in_err-test_room-clause-still
-returns-in_err-test_room-clause-still g c tells =
+pub returns-in_err-test_room-clause-caused_after : goal.returns-in_err-test_room-clause-caused_after
+returns-in_err-test_room-clause-caused_after g c tells =
     let n = g.S.Reads.state c.end_degrees.new.space in
     let names = c.args.names.now.names in
     let command = commands.Edge c.args.from c.args.label.now c.args.to c.args.pairs.now in
     let fault = c.in_err-test_room.field-0.0 in
-    fault_exit (λ f. f) (IsStillCaused command n names names) fault c.from_residual-in_err-test_room.result c.from_residual-in_err-test_room.ensures.1
+    fault_exit (λ f. f) (IsCausedAfter command n names names) fault c.from_residual-in_err-test_room.result c.from_residual-in_err-test_room.ensures.1
     (record {
       caused = room_caused command n n names names format.relationships_file 1 (inl (refl, refl)) fault c.in_err-test_room.ensures.full;
       damaged = room_blamed _ n format.relationships_file 1 fault c.in_err-test_room.ensures.full;
     })
 
-pub returns-in_err-prepared-clause-still : goal.returns-in_err-prepared-clause-still
-returns-in_err-prepared-clause-still g c tells =
+pub returns-in_err-prepared-clause-caused_after : goal.returns-in_err-prepared-clause-caused_after
+returns-in_err-prepared-clause-caused_after g c tells =
     let t = g.S.Reads.state c.prepare.new.space in
     let names = c.args.names.now.names in
     let now = c.prepare.new.names.names in
     let pairs = c.as_slice-pairs.result.now in
     let command = commands.Edge c.args.from c.args.label.now c.args.to pairs in
     let fault = c.in_err-prepared.field-0.0 in
-    let why = c.in_err-prepared.ensures.still tells in
-    subst (λ l. IfErr c.from_residual-in_err-prepared.result (IsStillCaused (commands.Edge c.args.from c.args.label.now c.args.to l) t names now))
+    let why = c.in_err-prepared.ensures.caused_after tells in
+    subst (λ l. IfErr c.from_residual-in_err-prepared.result (IsCausedAfter (commands.Edge c.args.from c.args.label.now c.args.to l) t names now))
     c.as_slice-pairs.ensures
-    (fault_exit (λ f. f) (IsStillCaused command t names now) fault c.from_residual-in_err-prepared.result c.from_residual-in_err-prepared.ensures.1
+    (fault_exit (λ f. f) (IsCausedAfter command t names now) fault c.from_residual-in_err-prepared.result c.from_residual-in_err-prepared.ensures.1
     (record {
       caused = line_edge t t names now c.args.label.now pairs c.args.from c.args.to fault why;
       damaged = line_blamed _ t names c.args.label.now pairs
           fault why;
     }))
 
-pub returns-in_err-id-clause-still : goal.returns-in_err-id-clause-still
-returns-in_err-id-clause-still g c tells =
+pub returns-in_err-id-clause-caused_after : goal.returns-in_err-id-clause-caused_after
+returns-in_err-id-clause-caused_after g c tells =
     let t = g.S.Reads.state c.put_edge.new.space in
     let names = c.args.names.now.names in
     let now = c.prepare.new.names.names in
     let command = commands.Edge c.args.from c.args.label.now c.args.to c.args.pairs.now in
     let fault = c.in_err-id.field-0.0 in
-    fault_exit (λ f. f) (IsStillCaused command t names now) fault c.from_residual-in_err-id.result c.from_residual-in_err-id.ensures.1
+    fault_exit (λ f. f) (IsCausedAfter command t names now) fault c.from_residual-in_err-id.result c.from_residual-in_err-id.ensures.1
     (record {
       caused = failure_caused command t t names now fault c.in_err-id.ensures.failure;
-      damaged = put_blamed g (goal.at.returns-in_err-id-clause-still g c).In_err-id tells;
+      damaged = put_blamed g (goal.at.returns-in_err-id-clause-caused_after g c).In_err-id tells;
     })
 
-pub returns-in_err-put_properties-clause-still : goal.returns-in_err-put_properties-clause-still
-returns-in_err-put_properties-clause-still g c tells =
+pub returns-in_err-put_properties-clause-caused_after : goal.returns-in_err-put_properties-clause-caused_after
+returns-in_err-put_properties-clause-caused_after g c tells =
     let t = g.S.Reads.state c.put_properties.new.space in
     let names = c.args.names.now.names in
     let now = c.prepare.new.names.names in
@@ -659,12 +659,12 @@ returns-in_err-put_properties-clause-still g c tells =
     let needs = c.in_ok-prepared.ensures.needs in
     let fault = c.in_err-put_properties.field-0.0 in
     let told = subst (λ l. IsPutCause t (length l) (assigned_blocks pairs l) fault) c.deref.ensures.0 (c.in_err-put_properties.ensures.caused tells) in
-    subst (λ l. IfErr c.from_residual-in_err-put_properties.result (IsStillCaused (commands.Edge c.args.from c.args.label.now c.args.to l) t names now))
+    subst (λ l. IfErr c.from_residual-in_err-put_properties.result (IsCausedAfter (commands.Edge c.args.from c.args.label.now c.args.to l) t names now))
     c.as_slice-pairs.ensures
-    (fault_exit (λ f. f) (IsStillCaused command t names now) fault c.from_residual-in_err-put_properties.result c.from_residual-in_err-put_properties.ensures.1
+    (fault_exit (λ f. f) (IsCausedAfter command t names now) fault c.from_residual-in_err-put_properties.result c.from_residual-in_err-put_properties.ensures.1
     (record {
       caused = put_caused command t t names now pairs (length items) (assigned_blocks pairs items) needs.0 needs.1 (λ file any. any) fault told;
-      damaged = blames_more (IsBroken t) (IsLinkingDamage t) (λ damage broken. inl broken) fault (c.in_err-put_properties.ensures.still tells);
+      damaged = blames_more (IsBroken t) (IsLinkingDamage t) (λ damage broken. inl broken) fault (c.in_err-put_properties.ensures.damaged_after tells);
     }))
 
 pub returns-in_err-ends-clause-made : goal.returns-in_err-ends-clause-made

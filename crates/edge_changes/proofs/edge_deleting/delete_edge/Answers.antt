@@ -19,7 +19,7 @@ use Rattle.change_parts.specs.Store.{IsMidway, graph_in}
 use Rattle.change_parts.proofs.KeptIndexes.{midway}
 use Rattle.edge_changes.proofs.Deleting.{edge_element, edge_lacked, edge_made, left_bare, left_store}
 use Rattle.change_parts.proofs.Elements.{edge_missing, same_rel}
-use Rattle.change_parts.specs.Causes.{IsCaused, IsStillCaused}
+use Rattle.change_parts.specs.Causes.{IsCaused, IsCausedAfter}
 use Rattle.change_parts.proofs.Causes.{any_blamed, broken_left, caused_left, failure_caused}
 use Rattle.change_parts.proofs.Exits.{failure_late, fault_exit, fault_fails, late_leaves, row_fails}
 use Rattle.change_parts.proofs.KeptLinks.{dropped_kinds}
@@ -261,47 +261,47 @@ returns-in_err-take_edge-clause-damaged g c tells =
 
 -- ---- and by the space as it is left alone
 
-pub returns-in_err-rel-clause-still : goal.returns-in_err-rel-clause-still
-returns-in_err-rel-clause-still g c tells =
+pub returns-in_err-rel-clause-caused_after : goal.returns-in_err-rel-clause-caused_after
+returns-in_err-rel-clause-caused_after g c tells =
     let t = g.S.Reads.state c.load.new.space in
     let names = c.args.names.now.names in
     let command = commands.Delete (targets.Edge c.args.id) in
     let fault = of_row c.in_err-rel.field-0.0 in
-    fault_exit of_row (IsStillCaused command t names names) c.in_err-rel.field-0.0 c.from_residual.result c.from_residual.ensures.1
+    fault_exit of_row (IsCausedAfter command t names names) c.in_err-rel.field-0.0 c.from_residual.result c.from_residual.ensures.1
     (record { caused = failure_caused command t t names names fault (row_fails c.in_err-rel.field-0.0); damaged = any_blamed _ (λ damage. tt) fault })
 
-pub returns-in_err-dropped-clause-still : goal.returns-in_err-dropped-clause-still
-returns-in_err-dropped-clause-still g c tells =
+pub returns-in_err-dropped-clause-caused_after : goal.returns-in_err-dropped-clause-caused_after
+returns-in_err-dropped-clause-caused_after g c tells =
     let t = g.S.Reads.state c.drop_all.new.space in
     let names = c.args.names.now.names in
     let command = commands.Delete (targets.Edge c.args.id) in
     let fault = of_fault c.in_err-dropped.field-0.0 in
-    fault_exit of_fault (IsStillCaused command t names names) c.in_err-dropped.field-0.0 c.from_residual-in_err-dropped.result
+    fault_exit of_fault (IsCausedAfter command t names names) c.in_err-dropped.field-0.0 c.from_residual-in_err-dropped.result
     c.from_residual-in_err-dropped.ensures.1 (record {
       caused = failure_caused command t t names names fault (fault_fails c.in_err-dropped.field-0.0);
       damaged =
           any_blamed _ (λ damage. tt) fault;
     })
 
-pub returns-in_err-take_edge-clause-still : goal.returns-in_err-take_edge-clause-still
-returns-in_err-take_edge-clause-still g c tells =
+pub returns-in_err-take_edge-clause-caused_after : goal.returns-in_err-take_edge-clause-caused_after
+returns-in_err-take_edge-clause-caused_after g c tells =
     let t = g.S.Reads.state c.take_edge.new.space in
     let names = c.args.names.now.names in
     let command = commands.Delete (targets.Edge c.args.id) in
     let fault = c.in_err-take_edge.field-0.0 in
-    fault_exit (λ f. f) (IsStillCaused command t names names) c.in_err-take_edge.field-0.0 c.from_residual-in_err-take_edge.result
+    fault_exit (λ f. f) (IsCausedAfter command t names names) c.in_err-take_edge.field-0.0 c.from_residual-in_err-take_edge.result
     c.from_residual-in_err-take_edge.ensures.1 (record {
       caused = failure_caused command t t names names fault (c.in_err-take_edge.ensures.failure);
       damaged =
           any_blamed _ (λ damage. tt) fault;
     })
 
-pub returns-in_default-clause-still : goal.returns-in_default-clause-still
-returns-in_default-clause-still g c tells =
+pub returns-in_default-clause-caused_after : goal.returns-in_default-clause-caused_after
+returns-in_default-clause-caused_after g c tells =
     let s = g.S.Reads.state c.args.space.now in
     let t = g.S.Reads.state c.load.new.space in
     let names = c.args.names.now.names in
-    let read = loaded g (goal.at.returns-in_default-clause-still g c).After-load in
+    let read = loaded g (goal.at.returns-in_default-clause-caused_after g c).After-load in
     record {
       caused = caused_left (commands.Delete (targets.Edge c.args.id)) s t t names names read (NoEdge c.args.id)
           (refl, sym (sym c.in_default.is ∙ c.in_ok-rel.ensures.found tells));
@@ -341,7 +341,7 @@ returns-in_err-take_edge-clause-broken g c tells =
     (subst (LeavesElement v w) c.edge_owner.ensures (c.drop_all.ensures.leaves tells))) in
     fault_exit (λ f. f) (BlamesBroken (g.S.Reads.state c.take_edge.new.space)) c.in_err-take_edge.field-0.0 c.from_residual-in_err-take_edge.result
     c.from_residual-in_err-take_edge.ensures.1
-    (c.in_err-take_edge.ensures.still tells (row_later s w id left c.in-Some.rel (row_found s id c.in-Some.rel (sym (found g at tells)))))
+    (c.in_err-take_edge.ensures.damaged_after tells (row_later s w id left c.in-Some.rel (row_found s id c.in-Some.rel (sym (found g at tells)))))
 
 pub returns-in_err-rel-clause-made : goal.returns-in_err-rel-clause-made
 returns-in_err-rel-clause-made g c _ = never_ok c.from_residual.result _ _ c.from_residual.ensures.1

@@ -106,16 +106,16 @@ returns-clause-counts g c tells =
     (c.in_ok-head.ensures.counts tells)
 
 -- ---- in the space as it is left
-pub returns-in_err-degree-clause-still : goal.returns-in_err-degree-clause-still
-returns-in_err-degree-clause-still g c tells has which =
+pub returns-in_err-degree-clause-damaged_after : goal.returns-in_err-degree-clause-damaged_after
+returns-in_err-degree-clause-damaged_after g c tells has which =
     let s = g.S.Reads.state c.args.space.now in
     let m = g.S.Reads.state c.end_degree.new.space in
     fault_exit (λ f. f) (BlamesBroken m) c.in_err-degree.field-0.0 c.from_residual.result c.from_residual.ensures.1
     (end_still s m c.args.id c.args.node c.args.rel has which c.end_degree.ensures.state c.in_err-degree.field-0.0 (c.in_err-degree.ensures.damaged tells
     c.args.rel.label))
 
-pub returns-in_err-head-clause-still : goal.returns-in_err-head-clause-still
-returns-in_err-head-clause-still g c tells has which =
+pub returns-in_err-head-clause-damaged_after : goal.returns-in_err-head-clause-damaged_after
+returns-in_err-head-clause-damaged_after g c tells has which =
     let s = g.S.Reads.state c.args.space.now in
     let m = g.S.Reads.state c.end_degree.new.space in
     let t = g.S.Reads.state c.open_head.new.space in

@@ -147,16 +147,16 @@ returns-clause-placed g c tells property =
     )
 
 -- ---- in the space as it is left
-pub returns-in_err-source-clause-still : goal.returns-in_err-source-clause-still
-returns-in_err-source-clause-still g c tells has =
+pub returns-in_err-source-clause-damaged_after : goal.returns-in_err-source-clause-damaged_after
+returns-in_err-source-clause-damaged_after g c tells has =
     fault_exit (λ f. f) (BlamesBroken (g.S.Reads.state c.edge_end.new.space)) c.in_err-source.field-0.0 c.from_residual.result c.from_residual.ensures.1
-    (c.in_err-source.ensures.still tells has (inl refl))
+    (c.in_err-source.ensures.damaged_after tells has (inl refl))
 
-pub returns-in_err-target-clause-still : goal.returns-in_err-target-clause-still
-returns-in_err-target-clause-still g c tells has =
+pub returns-in_err-target-clause-damaged_after : goal.returns-in_err-target-clause-damaged_after
+returns-in_err-target-clause-damaged_after g c tells has =
     let s = g.S.Reads.state c.args.space.now in
     let m = g.S.Reads.state c.edge_end.new.space in
     let left = edge_counted s m c.args.id (g.met.S.Reads.onward_shape _ _ c.edge_end.ensures.onward) (c.in_ok-source.ensures.counts tells) in
     fault_exit (λ f. f) (BlamesBroken (g.S.Reads.state c.edge_end-2.new.space)) c.in_err-target.field-0.0 c.from_residual-in_err-target.result
     c.from_residual-in_err-target.ensures.1
-    (c.in_err-target.ensures.still tells (row_later s m c.args.id left c.args.rel has) (inr refl))
+    (c.in_err-target.ensures.damaged_after tells (row_later s m c.args.id left c.args.rel has) (inr refl))

@@ -65,17 +65,17 @@ returns-clause-damaged g c tells has =
     }))
 
 -- ---- in the space as it is left
-pub returns-in_err-ends-clause-still : goal.returns-in_err-ends-clause-still
-returns-in_err-ends-clause-still g c tells has =
+pub returns-in_err-ends-clause-damaged_after : goal.returns-in_err-ends-clause-damaged_after
+returns-in_err-ends-clause-damaged_after g c tells has =
     fault_exit (λ f. f) (BlamesBroken (g.S.Reads.state c.edge_ends.new.space)) c.in_err-ends.field-0.0 c.from_residual.result c.from_residual.ensures.1
-    (c.in_err-ends.ensures.still tells has)
+    (c.in_err-ends.ensures.damaged_after tells has)
 
-pub returns-clause-still : goal.returns-clause-still
-returns-clause-still g c tells has =
+pub returns-clause-damaged_after : goal.returns-clause-damaged_after
+returns-clause-damaged_after g c tells has =
     let s = g.S.Reads.state c.args.space.now in
     let m = g.S.Reads.state c.edge_ends.new.space in
     let now = row_later s m c.args.id (c.in_ok-ends.ensures.counts tells) c.args.rel has in
-    c.unlink_edge.ensures.still tells (with_property c.args.id c.args.rel now.0)
+    c.unlink_edge.ensures.damaged_after tells (with_property c.args.id c.args.rel now.0)
     (record { live = now.1; source = c.in_ok-ends.ensures.nodes.0; target = c.in_ok-ends.ensures.nodes.1; places = c.in_ok-ends.ensures.placed tells now.0 })
 
 pub returns-in_err-ends-clause-taken : goal.returns-in_err-ends-clause-taken

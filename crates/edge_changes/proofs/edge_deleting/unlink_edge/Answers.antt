@@ -209,13 +209,13 @@ returns-in_err-close_chain-in-Two-2-clause-damaged g c tells row edge =
     (λ e. differ (sym e)) has.1 mid now told.grouped fault (told.damaged tells)))
 
 -- ---- in the space as it is left
-pub returns-in_err-part_edge-clause-still : goal.returns-in_err-part_edge-clause-still
-returns-in_err-part_edge-clause-still g c tells row edge =
+pub returns-in_err-part_edge-clause-damaged_after : goal.returns-in_err-part_edge-clause-damaged_after
+returns-in_err-part_edge-clause-damaged_after g c tells row edge =
     fault_exit (λ f. f) (BlamesBroken (g.S.Reads.state c.part_edge.new.space)) c.in_err-part_edge.field-0.0 c.from_residual.result c.from_residual.ensures.1
-    (c.in_err-part_edge.ensures.still tells row edge)
+    (c.in_err-part_edge.ensures.damaged_after tells row edge)
 
-pub returns-in_err-close_chain-in-Loop-clause-still : goal.returns-in_err-close_chain-in-Loop-clause-still
-returns-in_err-close_chain-in-Loop-clause-still g c tells row edge =
+pub returns-in_err-close_chain-in-Loop-clause-damaged_after : goal.returns-in_err-close_chain-in-Loop-clause-damaged_after
+returns-in_err-close_chain-in-Loop-clause-damaged_after g c tells row edge =
     let s = g.S.Reads.state c.args.space.now in
     let v = g.S.Reads.state c.close_chain.new.space in
     let end = c.in-Loop.end in
@@ -226,8 +226,8 @@ returns-in_err-close_chain-in-Loop-clause-still g c tells row edge =
     (break_left (g.S.Reads.state c.part_edge.new.space) v fault (c.in_err-close_chain-in-Loop.ensures.breaks tells now)
     c.in_err-close_chain-in-Loop.ensures.unwritten)
 
-pub returns-in_err-close_chain-in-Two-clause-still : goal.returns-in_err-close_chain-in-Two-clause-still
-returns-in_err-close_chain-in-Two-clause-still g c tells row edge =
+pub returns-in_err-close_chain-in-Two-clause-damaged_after : goal.returns-in_err-close_chain-in-Two-clause-damaged_after
+returns-in_err-close_chain-in-Two-clause-damaged_after g c tells row edge =
     let s = g.S.Reads.state c.args.space.now in
     let v = g.S.Reads.state c.close_chain-in-Two.new.space in
     let end = c.in-Two.source in
@@ -238,8 +238,8 @@ returns-in_err-close_chain-in-Two-clause-still g c tells row edge =
     (break_left (g.S.Reads.state c.part_edge.new.space) v fault (c.in_err-close_chain-in-Two.ensures.breaks tells now)
     c.in_err-close_chain-in-Two.ensures.unwritten)
 
-pub returns-in_err-close_chain-in-Two-2-clause-still : goal.returns-in_err-close_chain-in-Two-2-clause-still
-returns-in_err-close_chain-in-Two-2-clause-still g c tells row edge =
+pub returns-in_err-close_chain-in-Two-2-clause-damaged_after : goal.returns-in_err-close_chain-in-Two-2-clause-damaged_after
+returns-in_err-close_chain-in-Two-2-clause-damaged_after g c tells row edge =
     let s = g.S.Reads.state c.args.space.now in
     let w = g.S.Reads.state c.close_chain-in-Two-2.new.space in
     let source = c.in-Two.source in

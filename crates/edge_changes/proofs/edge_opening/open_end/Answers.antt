@@ -20,14 +20,14 @@ returns-clause-has g c tells used = c.in_ok-head.ensures.owns tells used
 pub returns-clause-heads : goal.returns-clause-heads
 returns-clause-heads g c tells = c.in_ok-head.ensures.heads tells
 
-pub returns-clause-beside : goal.returns-clause-beside
-returns-clause-beside g c tells = c.in_ok-head.ensures.beside tells
+pub returns-clause-leaves_others : goal.returns-clause-leaves_others
+returns-clause-leaves_others g c tells = c.in_ok-head.ensures.leaves_others tells
 
 pub returns-in_err-head-clause-opened : goal.returns-in_err-head-clause-opened
 returns-in_err-head-clause-opened g c _ = never_ok c.from_residual.result _ _ c.from_residual.ensures.1
 
-pub returns-in_err-head-clause-beside : goal.returns-in_err-head-clause-beside
-returns-in_err-head-clause-beside g c _ = never_ok c.from_residual.result _ _ c.from_residual.ensures.1
+pub returns-in_err-head-clause-leaves_others : goal.returns-in_err-head-clause-leaves_others
+returns-in_err-head-clause-leaves_others g c _ = never_ok c.from_residual.result _ _ c.from_residual.ensures.1
 
 pub returns-in_err-head-clause-has : goal.returns-in_err-head-clause-has
 returns-in_err-head-clause-has g c _ _ = never_ok c.from_residual.result _ _ c.from_residual.ensures.1
@@ -54,7 +54,7 @@ returns-clause-cause g c = ok_cause _ _ _ _ c.in_ok-head.ensures.cause.later
 
 pub returns-clause-leaves : goal.returns-clause-leaves
 returns-clause-leaves g c tells =
-    found_beside (g.S.Reads.state c.args.space.now) (g.S.Reads.state c.open_chain.new.space) c.args.end.node (c.in_ok-head.ensures.beside tells)
+    found_beside (g.S.Reads.state c.args.space.now) (g.S.Reads.state c.open_chain.new.space) c.args.end.node (c.in_ok-head.ensures.leaves_others tells)
 
 pub returns-in_err-head-clause-leaves : goal.returns-in_err-head-clause-leaves
 returns-in_err-head-clause-leaves g c _ = never_ok c.from_residual.result _ _ c.from_residual.ensures.1

@@ -70,17 +70,18 @@ returns-in_err-only-in-Loop-clause-damaged g c tells used limit =
     fault_exit (λ f. f) (BlamesLinking (g.S.Reads.state c.open_end.new.space)) c.in_err-only-in-Loop.field-0.0 c.from_residual.result c.from_residual.ensures.1
     (c.in_err-only-in-Loop.ensures.damaged tells (subst (AtEach (IsUsedEnd (g.S.Reads.state c.args.space.now))) c.in-Loop.is used) (omega (arith, limit)))
 
-pub returns-in_ok-only-in-Loop-clause-beside : goal.returns-in_ok-only-in-Loop-clause-beside
-returns-in_ok-only-in-Loop-clause-beside g c tells = meta_beside (g.S.Reads.state c.args.space.now) (g.S.Reads.state c.open_end.new.space) c.in-Loop.end.node
-    (c.in_ok-only-in-Loop.ensures.beside tells)
+pub returns-in_ok-only-in-Loop-clause-meta_record : goal.returns-in_ok-only-in-Loop-clause-meta_record
+returns-in_ok-only-in-Loop-clause-meta_record g c tells = meta_beside (g.S.Reads.state c.args.space.now)
+    (g.S.Reads.state c.open_end.new.space) c.in-Loop.end.node
+    (c.in_ok-only-in-Loop.ensures.leaves_others tells)
 
-pub returns-in_ok-last-in-Two-clause-beside : goal.returns-in_ok-last-in-Two-clause-beside
-returns-in_ok-last-in-Two-clause-beside g c tells =
+pub returns-in_ok-last-in-Two-clause-meta_record : goal.returns-in_ok-last-in-Two-clause-meta_record
+returns-in_ok-last-in-Two-clause-meta_record g c tells =
     let s = g.S.Reads.state c.args.space.now in
     let t = g.S.Reads.state c.open_end-in-Two.new.space in
     let u = g.S.Reads.state c.open_end-in-Two-2.new.space in
-    meta_beside t u c.in-Two.target.node (c.in_ok-last-in-Two.ensures.beside tells)
-    ∙ meta_beside s t c.in-Two.source.node (c.in_ok-first-in-Two.ensures.beside tells)
+    meta_beside t u c.in-Two.target.node (c.in_ok-last-in-Two.ensures.leaves_others tells)
+    ∙ meta_beside s t c.in-Two.source.node (c.in_ok-first-in-Two.ensures.leaves_others tells)
 
 -- ---- two nodes
 pub returns-in_err-first-in-Two-clause-sound : goal.returns-in_err-first-in-Two-clause-sound
@@ -206,7 +207,7 @@ returns-in_err-last-in-Two-clause-damaged g c tells used limit =
     let now = subst (λ (h : Shape). h.threshold ≤ c.args.joint.threshold) (sym (g.met.S.Reads.onward_shape _ _ c.open_end-in-Two.ensures.onward))
     (omega (arith, limit)) in
     let differ = differs g (goal.at.returns-in_err-last-in-Two-clause-damaged g c).In_ok-first-in-Two in
-    let still = used_beside s m a.node b.node (c.in_ok-first-in-Two.ensures.beside tells) (λ (e : b.node ≡ a.node). differ (sym e)) are.1 in
+    let still = used_beside s m a.node b.node (c.in_ok-first-in-Two.ensures.leaves_others tells) (λ (e : b.node ≡ a.node). differ (sym e)) are.1 in
     fault_exit (λ f. f) (BlamesLinking t) c.in_err-last-in-Two.field-0.0 c.from_residual-in_err-last-in-Two.result c.from_residual-in_err-last-in-Two.ensures.1
     (c.in_err-last-in-Two.ensures.damaged tells still now)
 
@@ -224,7 +225,7 @@ returns-in_ok-last-in-Two-clause-has g c tells used =
     let b = c.in-Two.target in
     let are = subst (AtEach (IsUsedEnd s)) c.in-Two.is used in
     let differ = differs g (goal.at.returns-in_ok-last-in-Two-clause-has g c).In_ok-first-in-Two in
-    let still = used_beside s m a.node b.node (c.in_ok-first-in-Two.ensures.beside tells) (λ (e : b.node ≡ a.node). differ (sym e)) are.1 in
+    let still = used_beside s m a.node b.node (c.in_ok-first-in-Two.ensures.leaves_others tells) (λ (e : b.node ≡ a.node). differ (sym e)) are.1 in
     let first = c.in_ok-first-in-Two.first in
     let own : first.node ≡ a.node = ap (λ (e : EdgeEnd). e.node) c.in_ok-first-in-Two.ensures.is in (
       c.in_ok-last-in-Two.ensures.heads tells (head_of first.head) first.node (λ (e : first.node ≡ b.node). differ (sym own ∙ e))
@@ -265,7 +266,7 @@ returns-in_err-last-in-Two-clause-leaves g c _ = never_ok c.from_residual-in_err
 pub returns-in_ok-only-in-Loop-clause-files : goal.returns-in_ok-only-in-Loop-clause-files
 returns-in_ok-only-in-Loop-clause-files g c tells =
     files_beside (g.S.Reads.state c.args.space.now) (g.S.Reads.state c.open_end.new.space) c.in-Loop.end.node
-    (g.met.S.Reads.onward_shape _ _ c.in_ok-only-in-Loop.ensures.onward) (c.in_ok-only-in-Loop.ensures.beside tells)
+    (g.met.S.Reads.onward_shape _ _ c.in_ok-only-in-Loop.ensures.onward) (c.in_ok-only-in-Loop.ensures.leaves_others tells)
     (c.in_ok-only-in-Loop.ensures.lists tells)
 
 pub returns-in_ok-last-in-Two-clause-files : goal.returns-in_ok-last-in-Two-clause-files
@@ -274,9 +275,10 @@ returns-in_ok-last-in-Two-clause-files g c tells =
     let m = g.S.Reads.state c.open_end-in-Two.new.space in
     let t = g.S.Reads.state c.open_end-in-Two-2.new.space in
     files_then s m t
-    (files_beside s m c.in-Two.source.node (g.met.S.Reads.onward_shape _ _ c.in_ok-first-in-Two.ensures.onward) (c.in_ok-first-in-Two.ensures.beside tells)
+    (files_beside s m c.in-Two.source.node (g.met.S.Reads.onward_shape _ _ c.in_ok-first-in-Two.ensures.onward)
+    (c.in_ok-first-in-Two.ensures.leaves_others tells)
     (c.in_ok-first-in-Two.ensures.lists tells))
-    (files_beside m t c.in-Two.target.node (g.met.S.Reads.onward_shape _ _ c.in_ok-last-in-Two.ensures.onward) (c.in_ok-last-in-Two.ensures.beside tells)
+    (files_beside m t c.in-Two.target.node (g.met.S.Reads.onward_shape _ _ c.in_ok-last-in-Two.ensures.onward) (c.in_ok-last-in-Two.ensures.leaves_others tells)
     (c.in_ok-last-in-Two.ensures.lists tells))
 
 pub returns-in_err-only-in-Loop-clause-files : goal.returns-in_err-only-in-Loop-clause-files
@@ -328,7 +330,7 @@ returns-in_err-last-in-Two-clause-found g c tells =
     let a = c.in-Two.source.node in
     let b = c.in-Two.target.node in
     let differ : a ≢ b = subst (AreApart (λ (end : EndDegree). end.node)) c.in-Two.is c.requires.apart in
-    let beside = c.in_ok-first-in-Two.ensures.beside tells in
+    let beside = c.in_ok-first-in-Two.ensures.leaves_others tells in
     fault_exit (λ f. f) (BlamesChains s t (groups_needed c.args.joint.threshold) from to) fault
     c.from_residual-in_err-last-in-Two.result c.from_residual-in_err-last-in-Two.ensures.1
     (end_blames (c.args.joint.threshold + 1) (c.args.joint.threshold + 1) (groups_needed c.args.joint.threshold) s m t from to b (inr enters) (omega arith)
@@ -354,9 +356,10 @@ returns-in_ok-last-in-Two-clause-reaches g c tells used =
     let first : one.node ≡ a = ap (λ (e : EdgeEnd). e.node) c.in_ok-first-in-Two.ensures.is in
     let last : other.node ≡ b = ap (λ (e : EdgeEnd). e.node) c.in_ok-last-in-Two.ensures.is in
     let has = returns-in_ok-last-in-Two-clause-has g c tells used in (
-      kept_after s m t b one.node (head_of one.head) (λ (e : one.node ≡ b). differ (sym first ∙ e)) (c.in_ok-last-in-Two.ensures.beside tells) has.0
+      kept_after s m t b one.node (head_of one.head) (λ (e : one.node ≡ b). differ (sym first ∙ e)) (c.in_ok-last-in-Two.ensures.leaves_others tells) has.0
           (c.in_ok-first-in-Two.ensures.reaches tells),
-      kept_before s m t a other.node (head_of other.head) (λ (e : other.node ≡ a). differ (sym (sym last ∙ e))) (c.in_ok-first-in-Two.ensures.beside tells)
+      kept_before s m t a other.node (head_of other.head) (λ (e : other.node ≡ a). differ (sym (sym last ∙ e)))
+          (c.in_ok-first-in-Two.ensures.leaves_others tells)
           has.1 (c.in_ok-last-in-Two.ensures.reaches tells),
     )
 

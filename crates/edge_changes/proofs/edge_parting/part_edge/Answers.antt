@@ -68,13 +68,13 @@ returns-clause-groups g c tells heads =
     (c.give.ensures.stays tells))
 
 -- ---- in the space as it is left
-pub returns-in_err-part_ends-clause-still : goal.returns-in_err-part_ends-clause-still
-returns-in_err-part_ends-clause-still g c tells row edge =
+pub returns-in_err-part_ends-clause-damaged_after : goal.returns-in_err-part_ends-clause-damaged_after
+returns-in_err-part_ends-clause-damaged_after g c tells row edge =
     fault_exit (λ f. f) (BlamesBroken (g.S.Reads.state c.part_ends.new.space)) c.in_err-part_ends.field-0.0 c.from_residual.result c.from_residual.ensures.1
-    (c.in_err-part_ends.ensures.still tells row edge)
+    (c.in_err-part_ends.ensures.damaged_after tells row edge)
 
-pub returns-in_err-give-clause-still : goal.returns-in_err-give-clause-still
-returns-in_err-give-clause-still g c tells row edge =
+pub returns-in_err-give-clause-damaged_after : goal.returns-in_err-give-clause-damaged_after
+returns-in_err-give-clause-damaged_after g c tells row edge =
     fault_exit of_space (BlamesBroken (g.S.Reads.state c.give.new.space)) c.in_err-give.field-0.0 c.from_residual-in_err-give.result
     c.from_residual-in_err-give.ensures.1 (space_blamed _ c.in_err-give.field-0.0)
 

@@ -57,16 +57,16 @@ returns-clause-groups g c tells owns =
     (c.in_ok-set_number.ensures.ok tells)
 
 -- ---- in the space as it is left
-pub returns-in_err-unlink_counted-clause-still : goal.returns-in_err-unlink_counted-clause-still
-returns-in_err-unlink_counted-clause-still g c tells row live place =
+pub returns-in_err-unlink_counted-clause-damaged_after : goal.returns-in_err-unlink_counted-clause-damaged_after
+returns-in_err-unlink_counted-clause-damaged_after g c tells row live place =
     let s = g.S.Reads.state c.args.space.now in
     let t = g.S.Reads.state c.unlink_counted.new.space in
     let fault = c.in_err-unlink_counted.field-0.0 in
     fault_exit of_fault (BlamesBroken t) fault c.from_residual.result c.from_residual.ensures.1
     (break_left s t fault (c.in_err-unlink_counted.ensures.breaks tells row live place) (few_read s t _ fault c.in_err-unlink_counted.ensures.unwritten))
 
-pub returns-in_err-set_number-clause-still : goal.returns-in_err-set_number-clause-still
-returns-in_err-set_number-clause-still g c tells row live place =
+pub returns-in_err-set_number-clause-damaged_after : goal.returns-in_err-set_number-clause-damaged_after
+returns-in_err-set_number-clause-damaged_after g c tells row live place =
     fault_exit of_space (BlamesBroken (g.S.Reads.state c.set_number.new.space)) c.in_err-set_number.field-0.0 c.from_residual-in_err-set_number.result
     c.from_residual-in_err-set_number.ensures.1 (space_blamed _ c.in_err-set_number.field-0.0)
 

@@ -75,19 +75,19 @@ returns-in_ok-part_end-in-Two-clause-groups g c tells heads =
     (c.part_end-in-Two-2.ensures.groups tells (first (head_of c.in-Two.target.head) c.in-Two.target.node has.1))
 
 -- ---- in the space as it is left
-pub returns-in-Loop-clause-still : goal.returns-in-Loop-clause-still
-returns-in-Loop-clause-still g c tells row edge =
-    c.part_end.ensures.still tells row edge.live (subst (AtEach (HasPlace (g.S.Reads.state c.args.space.now).records row)) c.in-Loop.is edge.places)
+pub returns-in-Loop-clause-damaged_after : goal.returns-in-Loop-clause-damaged_after
+returns-in-Loop-clause-damaged_after g c tells row edge =
+    c.part_end.ensures.damaged_after tells row edge.live (subst (AtEach (HasPlace (g.S.Reads.state c.args.space.now).records row)) c.in-Loop.is edge.places)
 
-pub returns-in_err-part_end-in-Two-clause-still : goal.returns-in_err-part_end-in-Two-clause-still
-returns-in_err-part_end-in-Two-clause-still g c tells row edge =
+pub returns-in_err-part_end-in-Two-clause-damaged_after : goal.returns-in_err-part_end-in-Two-clause-damaged_after
+returns-in_err-part_end-in-Two-clause-damaged_after g c tells row edge =
     let at = subst (AtEach (HasPlace (g.S.Reads.state c.args.space.now).records row)) c.in-Two.is edge.places in
     fault_exit (λ f. f) (BlamesBroken (g.S.Reads.state c.part_end-in-Two.new.space)) c.in_err-part_end-in-Two.field-0.0 c.from_residual.result
     c.from_residual.ensures.1
-    (c.in_err-part_end-in-Two.ensures.still tells row edge.live at.0)
+    (c.in_err-part_end-in-Two.ensures.damaged_after tells row edge.live at.0)
 
-pub returns-in_ok-part_end-in-Two-clause-still : goal.returns-in_ok-part_end-in-Two-clause-still
-returns-in_ok-part_end-in-Two-clause-still g c tells row edge =
+pub returns-in_ok-part_end-in-Two-clause-damaged_after : goal.returns-in_ok-part_end-in-Two-clause-damaged_after
+returns-in_ok-part_end-in-Two-clause-damaged_after g c tells row edge =
     let s = g.S.Reads.state c.args.space.now in
     let u = g.S.Reads.state c.part_end-in-Two.new.space in
     let a = c.in-Two.source in
@@ -95,7 +95,7 @@ returns-in_ok-part_end-in-Two-clause-still g c tells row edge =
     let differ : a.node ≢ b.node = subst (AreApart (λ (end : EdgeEnd). end.node)) c.in-Two.is c.requires.ends.apart in
     let later = place_later s u c.args.rel row a b (subst (IsPlacedEdge s.records c.args.rel row) c.in-Two.is edge) differ
     (c.in_ok-part_end-in-Two.ensures.ok tells) in
-    c.part_end-in-Two-2.ensures.still tells row later.0 later.1
+    c.part_end-in-Two-2.ensures.damaged_after tells row later.0 later.1
 
 pub returns-in_err-part_end-in-Two-clause-ok : goal.returns-in_err-part_end-in-Two-clause-ok
 returns-in_err-part_end-in-Two-clause-ok g c _ = never_ok c.from_residual.result _ _ c.from_residual.ensures.1

@@ -69,7 +69,7 @@ returns-clause-put g c tells limit =
 -- the ends' heads are found or made before, and the relationships' meta record stays
 pub returns-clause-is : goal.returns-clause-is
 returns-clause-is g c tells =
-    let same = ap (λ (r : Rec). taken_id (metas.meta_of r)) (c.in_ok-ends.ensures.beside tells) in
+    let same = ap (λ (r : Rec). taken_id (metas.meta_of r)) (c.in_ok-ends.ensures.meta_record tells) in
     if_ok c.join_edge.result _ _ (λ id taken. taken ∙ same) c.join_edge.ensures.is
 
 pub returns-in_err-ends-clause-is : goal.returns-in_err-ends-clause-is
@@ -120,7 +120,7 @@ returns-clause-damaged g c tells used limit has =
     let s = g.S.Reads.state c.args.space.now in
     let t = g.S.Reads.state c.open_ends.new.space in
     let u = g.S.Reads.state c.join_edge.new.space in
-    let room = room_still s t format.relationships_file 1 (ap (λ (r : Rec). (metas.meta_of r).live) (c.in_ok-ends.ensures.beside tells))
+    let room = room_still s t format.relationships_file 1 (ap (λ (r : Rec). (metas.meta_of r).live) (c.in_ok-ends.ensures.meta_record tells))
     (g.met.S.Reads.onward_shape _ _ c.open_ends.ensures.onward) has in
     if_blames c.join_edge.result (IsBroken u) (IsLinkingDamage u) (λ damage told. inl told)
     (c.join_edge.ensures.damaged tells (c.in_ok-ends.ensures.has tells used) room)
@@ -162,7 +162,7 @@ returns-clause-found g c tells used =
     let ends = c.in_ok-ends.ends in
     let nodes = c.in_ok-ends.ensures.nodes in
     let most = groups_needed c.args.joint.threshold in
-    let marks = marks_kept s t from to (c.in_ok-ends.ensures.leaves tells) (c.in_ok-ends.ensures.beside tells) in
+    let marks = marks_kept s t from to (c.in_ok-ends.ensures.leaves tells) (c.in_ok-ends.ensures.meta_record tells) in
     let has = c.in_ok-ends.ensures.has tells used in
     let keeps = lost_kept s t ends marks (c.in_ok-ends.ensures.reaches tells used) in
     if_blames c.join_edge.result (IsChainDamage t u 0 (IsOfLost t ends)) (IsChainDamage s u most (IsOfEnds from to))

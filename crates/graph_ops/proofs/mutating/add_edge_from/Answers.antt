@@ -27,9 +27,9 @@ returns-in-Edge-2-clause-part g c =
     none_from g.S.Reads.tells edge.label.now edge.to edge.pairs.now c.args.item.now c.args.shown.now.items (g.S.Reads.state c.args.space.now)
     c.args.names.now.names (⊎_elim (λ e. ap vertex_id e.4) (λ e. ap vertex_id e.1) c.in-Edge.is)
 
-pub returns-in-Vertex-clause-still : goal.returns-in-Vertex-clause-still
-returns-in-Vertex-clause-still g c tells =
+pub returns-in-Vertex-clause-caused_after : goal.returns-in-Vertex-clause-caused_after
+returns-in-Vertex-clause-caused_after g c tells =
     let t = g.S.Reads.state c.add_one_edge.new.space in
     let mutation = steps_for c.args.edge.now in
     subst (λ (item : Item). IfErr c.add_one_edge.result (IsListCaused (changes_of mutation (item ∷ [])) t c.args.names.now.names
-    c.add_one_edge.new.names.names)) (sym c.in-Vertex.is) (c.add_one_edge.ensures.still tells)
+    c.add_one_edge.new.names.names)) (sym c.in-Vertex.is) (c.add_one_edge.ensures.caused_after tells)

@@ -8,7 +8,7 @@ use Rattle.graph_ops.specs.Mutating.{IsListCaused, MakesPart, steps_for}
 use Rattle.change_parts.proofs.Exits.{fault_exit}
 use Rattle.plain_graph.specs.Mutations.{changes_of, new_elements}
 use Rattle.plain_graph.proofs.Making.{elements_then}
-use Rattle.graph_ops.proofs.Parts.{making_more, next_exit, next_still, up_to}
+use Rattle.graph_ops.proofs.Parts.{making_more, next_exit, next_caused, up_to}
 use Rattle.graph_ops.proofs.Spreading.{edges_spread}
 use Rattle.rec_bytes.proofs.Causes.{never_ok, ok_cause}
 use Rattle.graph_ops.proofs.mutating.add_edges.Goals as goal
@@ -64,17 +64,17 @@ returns-clause-part g c =
 
 -- ---- why it is refused, by the space as it is left
 
-pub returns-in_err-more-clause-still : goal.returns-in_err-more-clause-still
-returns-in_err-more-clause-still g c tells =
+pub returns-in_err-more-clause-caused_after : goal.returns-in_err-more-clause-caused_after
+returns-in_err-more-clause-caused_after g c tells =
     let t = g.S.Reads.state c.add_edge_from.new.space in
     let edge = c.args.edge.now in
     let item = c.item-item.result in
-    next_still (changes_of (steps_for edge)) (edges_spread edge.label.now edge.to edge.pairs.now) c.args.items.now c.loop-item.item-index item item
+    next_caused (changes_of (steps_for edge)) (edges_spread edge.label.now edge.to edge.pairs.now) c.args.items.now c.loop-item.item-index item item
     c.loop-item-test.true c.item-item.is t c.args.names.now.names c.loop-item.names.names c.add_edge_from.new.names.names c.in_err-more.field-0.0
-    c.from_residual.result c.loop-item.invariant.making.prefix c.from_residual.ensures.1 (c.in_err-more.ensures.still tells)
+    c.from_residual.result c.loop-item.invariant.making.prefix c.from_residual.ensures.1 (c.in_err-more.ensures.caused_after tells)
 
-pub returns-in_err-both-clause-still : goal.returns-in_err-both-clause-still
-returns-in_err-both-clause-still g c tells =
+pub returns-in_err-both-clause-caused_after : goal.returns-in_err-both-clause-caused_after
+returns-in_err-both-clause-caused_after g c tells =
     let t = g.S.Reads.state c.add_edge_from.new.space in
     fault_exit (λ f. f) (IsListCaused (changes_of (steps_for c.args.edge.now) c.args.items.now) t c.args.names.now.names
     c.add_edge_from.new.names.names) c.in_err-both.field-0.0 c.from_residual-in_err-both.result c.from_residual-in_err-both.ensures.1

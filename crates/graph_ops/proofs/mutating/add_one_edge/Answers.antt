@@ -25,21 +25,21 @@ returns-clause-part g c =
 
 -- ---- why it is refused, by the space as it is left
 
-pub returns-in_default-clause-still : goal.returns-in_default-clause-still
-returns-in_default-clause-still g c tells = inl refl
+pub returns-in_default-clause-caused_after : goal.returns-in_default-clause-caused_after
+returns-in_default-clause-caused_after g c tells = inl refl
 
-pub returns-in_err-id-clause-still : goal.returns-in_err-id-clause-still
-returns-in_err-id-clause-still g c tells =
+pub returns-in_err-id-clause-caused_after : goal.returns-in_err-id-clause-caused_after
+returns-in_err-id-clause-caused_after g c tells =
     let t = g.S.Reads.state c.add_edge.new.space in
     let names = c.args.names.now.names in
     let now = c.add_edge.new.names.names in
     let command = command_from c.args.from c.args.edge.now in
     let fault = c.in_err-id.field-0.0 in
     fault_exit (λ f. f) (IsListCaused (command ∷ []) t names now) fault c.from_residual.result c.from_residual.ensures.1
-    (one_caused command t names now fault c.add_edge.ensures.prefix (c.in_err-id.ensures.still tells))
+    (one_caused command t names now fault c.add_edge.ensures.prefix (c.in_err-id.ensures.caused_after tells))
 
-pub returns-in_err-show-clause-still : goal.returns-in_err-show-clause-still
-returns-in_err-show-clause-still g c tells =
+pub returns-in_err-show-clause-caused_after : goal.returns-in_err-show-clause-caused_after
+returns-in_err-show-clause-caused_after g c tells =
     let t = g.S.Reads.state c.add_edge.new.space in
     let command = command_from c.args.from c.args.edge.now in
     fault_exit (λ f. f) (IsListCaused (command ∷ []) t c.args.names.now.names c.add_edge.new.names.names) c.in_err-show.field-0.0

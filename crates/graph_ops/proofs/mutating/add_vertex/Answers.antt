@@ -23,18 +23,18 @@ returns-clause-part g c =
 
 -- ---- why it is refused, by the space as it is left
 
-pub returns-in_err-id-clause-still : goal.returns-in_err-id-clause-still
-returns-in_err-id-clause-still g c tells =
+pub returns-in_err-id-clause-caused_after : goal.returns-in_err-id-clause-caused_after
+returns-in_err-id-clause-caused_after g c tells =
     let t = g.S.Reads.state c.add_node.new.space in
     let names = c.args.names.now.names in
     let now = c.add_node.new.names.names in
     let command = commands.Node c.args.label.now c.args.pairs.now in
     let fault = c.in_err-id.field-0.0 in
     fault_exit (λ f. f) (IsListCaused (command ∷ []) t names now) fault c.from_residual.result c.from_residual.ensures.1
-    (one_caused command t names now fault c.add_node.ensures.prefix (c.in_err-id.ensures.still tells))
+    (one_caused command t names now fault c.add_node.ensures.prefix (c.in_err-id.ensures.caused_after tells))
 
-pub returns-in_err-show-clause-still : goal.returns-in_err-show-clause-still
-returns-in_err-show-clause-still g c tells =
+pub returns-in_err-show-clause-caused_after : goal.returns-in_err-show-clause-caused_after
+returns-in_err-show-clause-caused_after g c tells =
     let t = g.S.Reads.state c.add_node.new.space in
     let command = commands.Node c.args.label.now c.args.pairs.now in
     fault_exit (λ f. f) (IsListCaused (command ∷ []) t c.args.names.now.names c.add_node.new.names.names) c.in_err-show.field-0.0

@@ -8,7 +8,7 @@ use Rattle.change_parts.specs.declared.change_fault.ChangeFault.TheVariants.{NoN
 use Rattle.change_parts.specs.declared.change_fault.ChangeFault.TheVariants.{TooManyIndexes, IndexTooLarge, Full}
 use Rattle.change_parts.specs.declared.change_fault.ChangeFault.TheVariants.{NamesFull, PropsFull, Memory, Disk, Damaged}
 use Rattle.std.specs.Prelude.{IfErr, IfOk}
-use Rattle.change_parts.specs.Causes.{IsStillCaused}
+use Rattle.change_parts.specs.Causes.{IsCausedAfter}
 use Rattle.plain_graph.specs.Reply.{Done}
 use Rattle.plain_graph.specs.declared.command.Command.TheVariants as commands
 use Rattle.plain_graph.specs.declared.command.Target.{Target}
@@ -36,19 +36,19 @@ returns-in-Edge-clause-part g c =
     names)) (sym c.in-Edge.is)
     (one_result c.delete_edge.result g.S.Reads.tells _ Done s t names names c.delete_edge.ensures.made c.delete_edge.ensures.light c.delete_edge.ensures.writes)
 
-pub returns-in-Node-clause-still : goal.returns-in-Node-clause-still
-returns-in-Node-clause-still g c tells =
+pub returns-in-Node-clause-caused_after : goal.returns-in-Node-clause-caused_after
+returns-in-Node-clause-caused_after g c tells =
     let t = g.S.Reads.state c.delete_node.new.space in
     let names = c.args.names.now.names in
-    subst (λ (target : Target). IfErr c.delete_node.result (IsStillCaused (commands.Delete target) t names names)) (sym c.in-Node.is)
-    (c.delete_node.ensures.still tells)
+    subst (λ (target : Target). IfErr c.delete_node.result (IsCausedAfter (commands.Delete target) t names names)) (sym c.in-Node.is)
+    (c.delete_node.ensures.caused_after tells)
 
-pub returns-in-Edge-clause-still : goal.returns-in-Edge-clause-still
-returns-in-Edge-clause-still g c tells =
+pub returns-in-Edge-clause-caused_after : goal.returns-in-Edge-clause-caused_after
+returns-in-Edge-clause-caused_after g c tells =
     let t = g.S.Reads.state c.delete_edge.new.space in
     let names = c.args.names.now.names in
-    subst (λ (target : Target). IfErr c.delete_edge.result (IsStillCaused (commands.Delete target) t names names)) (sym c.in-Edge.is)
-    (c.delete_edge.ensures.still tells)
+    subst (λ (target : Target). IfErr c.delete_edge.result (IsCausedAfter (commands.Delete target) t names names)) (sym c.in-Edge.is)
+    (c.delete_edge.ensures.caused_after tells)
 
 -- ---- which record is blamed
 

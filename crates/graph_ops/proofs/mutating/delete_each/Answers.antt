@@ -7,7 +7,7 @@ use Rattle.plain_graph.specs.Mutations.{deletions}
 use Rattle.graph_ops.specs.Mutating.{BlamesDeletion, IsListCaused, any_replies}
 use Rattle.change_parts.specs.Damage.{BlamesBroken}
 use Rattle.change_parts.proofs.Exits.{fault_exit}
-use Rattle.graph_ops.proofs.Parts.{making_more, memory_blames, memory_breaks, next_exit, next_still, none_part, one_caused, one_refused}
+use Rattle.graph_ops.proofs.Parts.{making_more, memory_blames, memory_breaks, next_exit, next_caused, none_part, one_caused, one_refused}
 use Rattle.graph_ops.proofs.Spreading.{deletions_spread}
 use Rattle.store_rules.proofs.RowLaws.{append_none}
 use Rattle.change_parts.specs.Store.{graph_in}
@@ -59,19 +59,19 @@ loop-target-preserved g c =
 
 -- ---- why it is refused, by the space as it is left
 
-pub returns-in_err-more-clause-still : goal.returns-in_err-more-clause-still
-returns-in_err-more-clause-still g c tells =
+pub returns-in_err-more-clause-caused_after : goal.returns-in_err-more-clause-caused_after
+returns-in_err-more-clause-caused_after g c tells =
     let t = g.S.Reads.state c.delete.new.space in
     let names = c.args.names.now.names in
     let i = c.loop-target.target-index in
     let target = get_or c.args.targets.now i (targets.Node 0) in
     let fault = c.in_err-more.field-0.0 in
-    next_still deletions deletions_spread c.args.targets.now i target (targets.Node 0) c.loop-target-test.true refl t names names names fault
+    next_caused deletions deletions_spread c.args.targets.now i target (targets.Node 0) c.loop-target-test.true refl t names names names fault
     c.from_residual.result ([], sym (append_none names)) c.from_residual.ensures.1
-    (one_caused (commands.Delete target) t names names fault ([], sym (append_none names)) (c.in_err-more.ensures.still tells))
+    (one_caused (commands.Delete target) t names names fault ([], sym (append_none names)) (c.in_err-more.ensures.caused_after tells))
 
-pub returns-in_err-both-clause-still : goal.returns-in_err-both-clause-still
-returns-in_err-both-clause-still g c tells =
+pub returns-in_err-both-clause-caused_after : goal.returns-in_err-both-clause-caused_after
+returns-in_err-both-clause-caused_after g c tells =
     let t = g.S.Reads.state c.delete.new.space in
     let names = c.args.names.now.names in
     fault_exit (λ f. f) (IsListCaused (deletions c.args.targets.now) t names names) c.in_err-both.field-0.0 c.from_residual-in_err-both.result

@@ -86,8 +86,8 @@ returns-in_ok-weight-in-Drop-clause-made g c told store =
 
 -- ---- why it is refused, by the space as it is left
 
-pub returns-in_err-weight-in-AddV-clause-still : goal.returns-in_err-weight-in-AddV-clause-still
-returns-in_err-weight-in-AddV-clause-still g c tells =
+pub returns-in_err-weight-in-AddV-clause-caused_after : goal.returns-in_err-weight-in-AddV-clause-caused_after
+returns-in_err-weight-in-AddV-clause-caused_after g c tells =
     let t = g.S.Reads.state c.add_vertex.new.space in
     let names = c.args.names.now.names in
     let now = c.add_vertex.new.names.names in
@@ -95,7 +95,7 @@ returns-in_err-weight-in-AddV-clause-still g c tells =
     let command = commands.Node c.in-AddV.label c.in-AddV.pairs in
     subst (λ (m : Mutation). IfErr out (IsListCaused (changes_of m c.args.items.items) t names now)) (sym c.in-AddV.is)
     (fault_exit (λ f. f) (IsListCaused (command ∷ []) t names now) c.in_err-weight-in-AddV.field-0.0 out c.from_residual.ensures.1
-    (c.in_err-weight-in-AddV.ensures.still tells))
+    (c.in_err-weight-in-AddV.ensures.caused_after tells))
 
 -- ---- which record is blamed
 

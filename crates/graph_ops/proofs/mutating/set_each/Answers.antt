@@ -1,7 +1,7 @@
 use Rattle.std.proofs.Common.{inl}
 use Rattle.graph_ops.specs.Mutating.{IsListCaused}
 use Rattle.change_parts.proofs.Exits.{fault_exit}
-use Rattle.graph_ops.proofs.Parts.{making_more, next_exit, next_still}
+use Rattle.graph_ops.proofs.Parts.{making_more, next_exit, next_caused}
 use Rattle.graph_ops.proofs.Spreading.{items_spread}
 use Rattle.plain_graph.specs.Mutations.{changes_of}
 use Rattle.plain_graph.specs.declared.mutation.Mutation.TheVariants as mutations
@@ -32,17 +32,17 @@ loop-item-preserved g c =
 
 -- ---- why it is refused, by the space as it is left
 
-pub returns-in_err-more-clause-still : goal.returns-in_err-more-clause-still
-returns-in_err-more-clause-still g c tells =
+pub returns-in_err-more-clause-caused_after : goal.returns-in_err-more-clause-caused_after
+returns-in_err-more-clause-caused_after g c tells =
     let t = g.S.Reads.state c.set_item.new.space in
     let pairs = c.args.pairs.now in
     let item = c.item-item.result in
-    next_still (changes_of (mutations.Property pairs)) (items_spread pairs) c.args.items.now c.loop-item.item-index item item c.loop-item-test.true
+    next_caused (changes_of (mutations.Property pairs)) (items_spread pairs) c.args.items.now c.loop-item.item-index item item c.loop-item-test.true
     c.item-item.is t c.args.names.now.names c.loop-item.names.names c.set_item.new.names.names c.in_err-more.field-0.0 c.from_residual.result
-    c.loop-item.invariant.prefix c.from_residual.ensures.1 (c.in_err-more.ensures.still tells)
+    c.loop-item.invariant.prefix c.from_residual.ensures.1 (c.in_err-more.ensures.caused_after tells)
 
-pub returns-in_err-both-clause-still : goal.returns-in_err-both-clause-still
-returns-in_err-both-clause-still g c tells =
+pub returns-in_err-both-clause-caused_after : goal.returns-in_err-both-clause-caused_after
+returns-in_err-both-clause-caused_after g c tells =
     let t = g.S.Reads.state c.set_item.new.space in
     fault_exit (λ f. f) (IsListCaused (changes_of (mutations.Property c.args.pairs.now) c.args.items.now) t c.args.names.now.names c.set_item.new.names.names)
     c.in_err-both.field-0.0 c.from_residual-in_err-both.result c.from_residual-in_err-both.ensures.1 (inl c.in_err-both.ensures.memory)

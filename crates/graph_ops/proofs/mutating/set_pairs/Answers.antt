@@ -9,7 +9,7 @@ use Rattle.change_parts.proofs.Assigned.{pair_form}
 use Rattle.graph_ops.specs.Mutating.{IsListCaused, any_replies}
 use Rattle.change_parts.proofs.Exits.{fault_exit}
 use Rattle.plain_graph.specs.Mutations.{settings}
-use Rattle.graph_ops.proofs.Parts.{making_more, next_exit, next_still, one_caused, one_part, one_refused}
+use Rattle.graph_ops.proofs.Parts.{making_more, next_exit, next_caused, one_caused, one_part, one_refused}
 use Rattle.graph_ops.proofs.Spreading.{pairs_spread}
 use Rattle.rec_bytes.proofs.Causes.{never_ok, ok_cause}
 use Rattle.graph_ops.proofs.mutating.set_pairs.Goals as goal
@@ -52,20 +52,20 @@ loop-pair-preserved g c =
 
 -- ---- why it is refused, by the space as it is left
 
-pub returns-in_err-more-clause-still : goal.returns-in_err-more-clause-still
-returns-in_err-more-clause-still g c tells =
+pub returns-in_err-more-clause-caused_after : goal.returns-in_err-more-clause-caused_after
+returns-in_err-more-clause-caused_after g c tells =
     let t = g.S.Reads.state c.set.new.space in
     let target = c.args.target in
     let pair = c.pair-item.result in
     let mid = c.loop-pair.names.names in
     let now = c.set.new.names.names in
     let fault = c.in_err-more.field-0.0 in
-    next_still (λ (pairs : List Pair). settings pairs target) (pairs_spread target) c.args.pairs.now c.loop-pair.pair-index pair pair c.loop-pair-test.true
+    next_caused (λ (pairs : List Pair). settings pairs target) (pairs_spread target) c.args.pairs.now c.loop-pair.pair-index pair pair c.loop-pair-test.true
     c.pair-item.is t c.args.names.now.names mid now fault c.from_residual.result c.loop-pair.invariant.prefix c.from_residual.ensures.1
-    (one_caused (commands.Set target pair.key pair.value) t mid now fault c.set.ensures.prefix (c.in_err-more.ensures.still tells))
+    (one_caused (commands.Set target pair.key pair.value) t mid now fault c.set.ensures.prefix (c.in_err-more.ensures.caused_after tells))
 
-pub returns-in_err-both-clause-still : goal.returns-in_err-both-clause-still
-returns-in_err-both-clause-still g c tells =
+pub returns-in_err-both-clause-caused_after : goal.returns-in_err-both-clause-caused_after
+returns-in_err-both-clause-caused_after g c tells =
     let t = g.S.Reads.state c.set.new.space in
     fault_exit (λ f. f) (IsListCaused (settings c.args.pairs.now c.args.target) t c.args.names.now.names c.set.new.names.names) c.in_err-both.field-0.0
     c.from_residual-in_err-both.result c.from_residual-in_err-both.ensures.1 (inl c.in_err-both.ensures.memory)

@@ -117,10 +117,10 @@ loop-preserved g c =
       lists = λ tells. harms_none_then s now end groups_file (was.lists tells) (c.in_ok-turn.ensures.lists tells);
       list = λ tells. c.in_ok-turn.ensures.list tells (was.dense tells) (was.list tells);
       room = λ tells. let before = was.room tells in let one = c.in_ok-turn.ensures.room tells in omega (arith, before, one);
-      low = λ tells. low_next now.records end.records c.args.node c.loop.at came xs (c.in_ok-turn.ensures.beside tells) c.note.ensures.relationships
+      low = λ tells. low_next now.records end.records c.args.node c.loop.at came xs (c.in_ok-turn.ensures.leaves_others tells) c.note.ensures.relationships
           (λ none. rest_live s now c.args.node c.loop.at c.loop.counter c.if-at.false (was.rest tells)
           (sym (beside_rels s.records now.records c.args.node (was.beside tells) c.loop.at) ∙ none)) (was.low tells);
-      beside = λ tells. beside_then s.records now.records end.records c.args.node (was.beside tells) (c.in_ok-turn.ensures.beside tells);
+      beside = λ tells. beside_then s.records now.records end.records c.args.node (was.beside tells) (c.in_ok-turn.ensures.leaves_others tells);
       heads = λ tells. others_then s now end c.args.node (was.heads tells) (c.in_ok-turn.ensures.heads tells);
       writes = come_next s now end c.args.node c.loop.at turn came groups xs ys was.writes c.in_ok-turn.ensures.wrote
           (c.note.ensures.known.0 c.if-not-note.false) c.note.ensures.relationships c.note.ensures.groups;
@@ -620,11 +620,11 @@ returns-then-at-2-clause-told g c = λ tells thin le.
 
 -- ---- what is left of other records
 
-pub returns-then-at-clause-beside : goal.returns-then-at-clause-beside
-returns-then-at-clause-beside g c = λ tells. c.loop.invariant.beside tells
+pub returns-then-at-clause-leaves_others : goal.returns-then-at-clause-leaves_others
+returns-then-at-clause-leaves_others g c = λ tells. c.loop.invariant.beside tells
 
-pub returns-clause-beside : goal.returns-clause-beside
-returns-clause-beside g c = λ tells. c.loop.invariant.beside tells
+pub returns-clause-leaves_others : goal.returns-clause-leaves_others
+returns-clause-leaves_others g c = λ tells. c.loop.invariant.beside tells
 
 pub returns-in_err-row-clause-stays : goal.returns-in_err-row-clause-stays
 returns-in_err-row-clause-stays g c = λ tells.
@@ -671,7 +671,7 @@ returns-then-not-note-clause-stays g c = λ tells.
     let s = g.S.Reads.state c.args.space.now in
     let now = g.S.Reads.state c.loop.space in
     beside_then s.records now.records (g.S.Reads.state c.move_one.new.space).records c.args.node (c.loop.invariant.beside tells)
-    (c.in_ok-turn.ensures.beside tells)
+    (c.in_ok-turn.ensures.leaves_others tells)
 
 pub returns-then-at-2-clause-stays : goal.returns-then-at-2-clause-stays
 returns-then-at-2-clause-stays g c = λ tells. c.loop.invariant.beside tells
@@ -696,8 +696,8 @@ returns-in_err-row-clause-dense g c _ = never_ok c.from_residual.result _ _ c.fr
 pub returns-in_err-row-clause-heads : goal.returns-in_err-row-clause-heads
 returns-in_err-row-clause-heads g c _ = never_ok c.from_residual.result _ _ c.from_residual.ensures.1
 
-pub returns-in_err-row-clause-beside : goal.returns-in_err-row-clause-beside
-returns-in_err-row-clause-beside g c _ = never_ok c.from_residual.result _ _ c.from_residual.ensures.1
+pub returns-in_err-row-clause-leaves_others : goal.returns-in_err-row-clause-leaves_others
+returns-in_err-row-clause-leaves_others g c _ = never_ok c.from_residual.result _ _ c.from_residual.ensures.1
 
 pub returns-in_err-row-clause-wrote : goal.returns-in_err-row-clause-wrote
 returns-in_err-row-clause-wrote g c = never_ok c.from_residual.result _ _ c.from_residual.ensures.1
@@ -714,8 +714,8 @@ returns-in_err-test_chain-clause-dense g c _ = never_ok c.from_residual-in_err-t
 pub returns-in_err-test_chain-clause-heads : goal.returns-in_err-test_chain-clause-heads
 returns-in_err-test_chain-clause-heads g c _ = never_ok c.from_residual-in_err-test_chain.result _ _ c.from_residual-in_err-test_chain.ensures.1
 
-pub returns-in_err-test_chain-clause-beside : goal.returns-in_err-test_chain-clause-beside
-returns-in_err-test_chain-clause-beside g c _ = never_ok c.from_residual-in_err-test_chain.result _ _ c.from_residual-in_err-test_chain.ensures.1
+pub returns-in_err-test_chain-clause-leaves_others : goal.returns-in_err-test_chain-clause-leaves_others
+returns-in_err-test_chain-clause-leaves_others g c _ = never_ok c.from_residual-in_err-test_chain.result _ _ c.from_residual-in_err-test_chain.ensures.1
 
 pub returns-in_err-test_chain-clause-wrote : goal.returns-in_err-test_chain-clause-wrote
 returns-in_err-test_chain-clause-wrote g c = never_ok c.from_residual-in_err-test_chain.result _ _ c.from_residual-in_err-test_chain.ensures.1
@@ -732,8 +732,8 @@ returns-in_err-clear-clause-dense g c _ = never_ok c.from_residual-in_err-clear.
 pub returns-in_err-clear-clause-heads : goal.returns-in_err-clear-clause-heads
 returns-in_err-clear-clause-heads g c _ = never_ok c.from_residual-in_err-clear.result _ _ c.from_residual-in_err-clear.ensures.1
 
-pub returns-in_err-clear-clause-beside : goal.returns-in_err-clear-clause-beside
-returns-in_err-clear-clause-beside g c _ = never_ok c.from_residual-in_err-clear.result _ _ c.from_residual-in_err-clear.ensures.1
+pub returns-in_err-clear-clause-leaves_others : goal.returns-in_err-clear-clause-leaves_others
+returns-in_err-clear-clause-leaves_others g c _ = never_ok c.from_residual-in_err-clear.result _ _ c.from_residual-in_err-clear.ensures.1
 
 pub returns-in_err-clear-clause-wrote : goal.returns-in_err-clear-clause-wrote
 returns-in_err-clear-clause-wrote g c = never_ok c.from_residual-in_err-clear.result _ _ c.from_residual-in_err-clear.ensures.1
@@ -750,8 +750,8 @@ returns-in_err-turn-clause-dense g c _ = never_ok c.from_residual-in_err-turn.re
 pub returns-in_err-turn-clause-heads : goal.returns-in_err-turn-clause-heads
 returns-in_err-turn-clause-heads g c _ = never_ok c.from_residual-in_err-turn.result _ _ c.from_residual-in_err-turn.ensures.1
 
-pub returns-in_err-turn-clause-beside : goal.returns-in_err-turn-clause-beside
-returns-in_err-turn-clause-beside g c _ = never_ok c.from_residual-in_err-turn.result _ _ c.from_residual-in_err-turn.ensures.1
+pub returns-in_err-turn-clause-leaves_others : goal.returns-in_err-turn-clause-leaves_others
+returns-in_err-turn-clause-leaves_others g c _ = never_ok c.from_residual-in_err-turn.result _ _ c.from_residual-in_err-turn.ensures.1
 
 pub returns-in_err-turn-clause-wrote : goal.returns-in_err-turn-clause-wrote
 returns-in_err-turn-clause-wrote g c = never_ok c.from_residual-in_err-turn.result _ _ c.from_residual-in_err-turn.ensures.1

@@ -342,14 +342,14 @@ returns-in_err-first-clause-cause g c =
 
 -- ---- what is left of other records
 
-pub returns-clause-beside : goal.returns-clause-beside
-returns-clause-beside g c = λ tells.
+pub returns-clause-leaves_others : goal.returns-clause-leaves_others
+returns-clause-leaves_others g c = λ tells.
     let s = g.S.Reads.state c.args.space.now in
     let l = g.S.Reads.state c.load.new.space in
     let m = g.S.Reads.state c.own_group.new.space in
     let end = g.S.Reads.state c.push_counted.new.space in
     beside_then s.records l.records end.records c.args.node (beside_read s l c.args.node (only_loads s l c.args.rel c.load.ensures.state))
-    (beside_then l.records m.records end.records c.args.node (c.in_ok-own.ensures.beside tells)
+    (beside_then l.records m.records end.records c.args.node (c.in_ok-own.ensures.leaves_others tells)
     (beside_moved m (g.S.Reads.state c.free_previous.new.space) end c.args.node c.args.rel (head_of c.group_head-head.result) (ap (λ (h : Head). h.key.file)
     c.group_head-head.ensures.is) (subst (λ (h : Head). 20 ≤ h.field) (sym c.group_head-head.ensures.is) (place_range c.at.result).0)
     (subst (λ (h : Head). is_group_of (m.records h.key) c.args.node ≡ true) (sym c.group_head-head.ensures.is)
@@ -385,7 +385,7 @@ returns-in_err-first-clause-stays g c = λ tells.
     let p = err_from_is_err_and c.from_residual-in_err-first.result c.from_residual-in_err-first.ensures.1 in
     rw (p.1, p.2) (unpushed_beside s.records t (g.S.Reads.state c.push_counted.new.space) c.args.node
     (beside_then s.records l.records t.records c.args.node (beside_read s l c.args.node (only_loads s l c.args.rel c.load.ensures.state))
-    (beside_then l.records m.records t.records c.args.node (c.in_ok-own.ensures.beside tells) (beside_freed m t c.args.node c.args.rel
+    (beside_then l.records m.records t.records c.args.node (c.in_ok-own.ensures.leaves_others tells) (beside_freed m t c.args.node c.args.rel
     (c.in_ok-free_previous.ensures.ok tells))))
     c.in_err-first.field-0.0 c.in_err-first.ensures.unwritten)
 
@@ -431,8 +431,8 @@ returns-in_err-row-clause-dense g c _ _ = never_ok c.from_residual.result _ _ c.
 pub returns-in_err-row-clause-heads : goal.returns-in_err-row-clause-heads
 returns-in_err-row-clause-heads g c _ = never_ok c.from_residual.result _ _ c.from_residual.ensures.1
 
-pub returns-in_err-row-clause-beside : goal.returns-in_err-row-clause-beside
-returns-in_err-row-clause-beside g c _ = never_ok c.from_residual.result _ _ c.from_residual.ensures.1
+pub returns-in_err-row-clause-leaves_others : goal.returns-in_err-row-clause-leaves_others
+returns-in_err-row-clause-leaves_others g c _ = never_ok c.from_residual.result _ _ c.from_residual.ensures.1
 
 pub returns-in_err-row-clause-wrote : goal.returns-in_err-row-clause-wrote
 returns-in_err-row-clause-wrote g c = never_ok c.from_residual.result _ _ c.from_residual.ensures.1
@@ -461,8 +461,8 @@ returns-in_err-own-clause-dense g c _ _ = never_ok c.from_residual-in_err-own.re
 pub returns-in_err-own-clause-heads : goal.returns-in_err-own-clause-heads
 returns-in_err-own-clause-heads g c _ = never_ok c.from_residual-in_err-own.result _ _ c.from_residual-in_err-own.ensures.1
 
-pub returns-in_err-own-clause-beside : goal.returns-in_err-own-clause-beside
-returns-in_err-own-clause-beside g c _ = never_ok c.from_residual-in_err-own.result _ _ c.from_residual-in_err-own.ensures.1
+pub returns-in_err-own-clause-leaves_others : goal.returns-in_err-own-clause-leaves_others
+returns-in_err-own-clause-leaves_others g c _ = never_ok c.from_residual-in_err-own.result _ _ c.from_residual-in_err-own.ensures.1
 
 pub returns-in_err-own-clause-wrote : goal.returns-in_err-own-clause-wrote
 returns-in_err-own-clause-wrote g c = never_ok c.from_residual-in_err-own.result _ _ c.from_residual-in_err-own.ensures.1
@@ -488,8 +488,9 @@ returns-in_err-free_previous-clause-dense g c _ _ = never_ok c.from_residual-in_
 pub returns-in_err-free_previous-clause-heads : goal.returns-in_err-free_previous-clause-heads
 returns-in_err-free_previous-clause-heads g c _ = never_ok c.from_residual-in_err-free_previous.result _ _ c.from_residual-in_err-free_previous.ensures.1
 
-pub returns-in_err-free_previous-clause-beside : goal.returns-in_err-free_previous-clause-beside
-returns-in_err-free_previous-clause-beside g c _ = never_ok c.from_residual-in_err-free_previous.result _ _ c.from_residual-in_err-free_previous.ensures.1
+pub returns-in_err-free_previous-clause-leaves_others : goal.returns-in_err-free_previous-clause-leaves_others
+returns-in_err-free_previous-clause-leaves_others g c _ = never_ok c.from_residual-in_err-free_previous.result _ _
+    c.from_residual-in_err-free_previous.ensures.1
 
 pub returns-in_err-free_previous-clause-wrote : goal.returns-in_err-free_previous-clause-wrote
 returns-in_err-free_previous-clause-wrote g c = never_ok c.from_residual-in_err-free_previous.result _ _ c.from_residual-in_err-free_previous.ensures.1
@@ -515,8 +516,8 @@ returns-in_err-first-clause-dense g c _ _ = never_ok c.from_residual-in_err-firs
 pub returns-in_err-first-clause-heads : goal.returns-in_err-first-clause-heads
 returns-in_err-first-clause-heads g c _ = never_ok c.from_residual-in_err-first.result _ _ c.from_residual-in_err-first.ensures.1
 
-pub returns-in_err-first-clause-beside : goal.returns-in_err-first-clause-beside
-returns-in_err-first-clause-beside g c _ = never_ok c.from_residual-in_err-first.result _ _ c.from_residual-in_err-first.ensures.1
+pub returns-in_err-first-clause-leaves_others : goal.returns-in_err-first-clause-leaves_others
+returns-in_err-first-clause-leaves_others g c _ = never_ok c.from_residual-in_err-first.result _ _ c.from_residual-in_err-first.ensures.1
 
 pub returns-in_err-first-clause-wrote : goal.returns-in_err-first-clause-wrote
 returns-in_err-first-clause-wrote g c = never_ok c.from_residual-in_err-first.result _ _ c.from_residual-in_err-first.ensures.1
@@ -732,7 +733,7 @@ returns-in_err-first-clause-groups g c = λ tells came groups was low.
     let key = c.in_ok-own.ensures.key in
     let opened = c.in_ok-own.ensures.leads tells came groups (subst (λ (q : State). LeadsAmong q.records node came groups) (sym same) was) in
     let first = spread_first m.records node id came (groups ++ id ∷ []) c.at.result opened.0 (in_last id groups) (λ e. omega (arith, key.id))
-    (λ x i. low_beside l.records m.records node x (c.in_ok-own.ensures.beside tells) (low_read s l x same (low x i))) in
+    (λ x i. low_beside l.records m.records node x (c.in_ok-own.ensures.leaves_others tells) (low_read s l x same (low x i))) in
     let p = err_from_is_err_and c.from_residual-in_err-first.result c.from_residual-in_err-first.ensures.1 in
     rw (p.1, p.2) (push_apart s (g.S.Reads.state c.push_counted.new.space) t (head_of c.group_head-head.result)
     (turn_first m t node c.args.rel id c.at.result (head_of c.group_head-head.result) (c.in_ok-free_previous.ensures.ok tells) c.group_head-head.ensures.is

@@ -276,14 +276,14 @@ returns-in_err-row-clause-cause g c =
 
 -- ---- what is left of other records
 
-pub returns-in-Some-clause-beside : goal.returns-in-Some-clause-beside
-returns-in-Some-clause-beside g c = λ tells.
+pub returns-in-Some-clause-leaves_others : goal.returns-in-Some-clause-leaves_others
+returns-in-Some-clause-leaves_others g c = λ tells.
     let s = g.S.Reads.state c.args.space.now in
     let now = g.S.Reads.state c.find_group.new.space in
     beside_read s now c.args.node (same_read _ s now c.find_group.ensures.at_most)
 
-pub returns-in-None-clause-beside : goal.returns-in-None-clause-beside
-returns-in-None-clause-beside g c = λ tells.
+pub returns-in-None-clause-leaves_others : goal.returns-in-None-clause-leaves_others
+returns-in-None-clause-leaves_others g c = λ tells.
     let s = g.S.Reads.state c.args.space.now in
     let now = g.S.Reads.state c.find_group.new.space in
     let end = g.S.Reads.state c.make_own.new.space in
@@ -386,8 +386,8 @@ returns-in_err-row-clause-owns g c _ = never_ok c.from_residual.result _ _ c.fro
 pub returns-in_err-row-clause-heads : goal.returns-in_err-row-clause-heads
 returns-in_err-row-clause-heads g c _ = never_ok c.from_residual.result _ _ c.from_residual.ensures.1
 
-pub returns-in_err-row-clause-beside : goal.returns-in_err-row-clause-beside
-returns-in_err-row-clause-beside g c _ = never_ok c.from_residual.result _ _ c.from_residual.ensures.1
+pub returns-in_err-row-clause-leaves_others : goal.returns-in_err-row-clause-leaves_others
+returns-in_err-row-clause-leaves_others g c _ = never_ok c.from_residual.result _ _ c.from_residual.ensures.1
 
 pub returns-in_err-row-clause-group : goal.returns-in_err-row-clause-group
 returns-in_err-row-clause-group g c _ = never_ok c.from_residual.result _ _ c.from_residual.ensures.1

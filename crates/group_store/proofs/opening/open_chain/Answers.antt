@@ -287,14 +287,14 @@ pub returns-in_err-is_dense-clause-stays : goal.returns-in_err-is_dense-clause-s
 returns-in_err-is_dense-clause-stays g c = λ tells. on_damage c.from_residual.result _
     (beside_read (g.S.Reads.state c.args.space.now) (g.S.Reads.state c.is_dense.new.space) c.args.node c.is_dense.ensures.state)
 
-pub returns-then-branch-clause-beside : goal.returns-then-branch-clause-beside
-returns-then-branch-clause-beside g c = λ tells.
+pub returns-then-branch-clause-leaves_others : goal.returns-then-branch-clause-leaves_others
+returns-then-branch-clause-leaves_others g c = λ tells.
     let s = g.S.Reads.state c.args.space.now in
     let z = g.S.Reads.state c.is_dense.new.space in
     let t = g.S.Reads.state c.open_group.new.space in
     if_done c.open_group.result (LeavesBeside z.records t.records c.args.node) (LeavesBeside s.records t.records c.args.node)
     (λ k. beside_then s.records z.records t.records c.args.node (beside_read s z c.args.node c.in_ok-is_dense.ensures.state) k)
-    (c.open_group.ensures.beside tells)
+    (c.open_group.ensures.leaves_others tells)
 
 pub returns-then-branch-clause-stays : goal.returns-then-branch-clause-stays
 returns-then-branch-clause-stays g c = λ tells.
@@ -307,8 +307,9 @@ returns-then-branch-clause-stays g c = λ tells.
     (λ k. beside_then s.records z.records t.records c.args.node (beside_read s z c.args.node c.in_ok-is_dense.ensures.state) (beside_read z t c.args.node k))
     (c.open_group.ensures.unwritten tells dense)
 
-pub returns-then-degree-threshold-clause-beside : goal.returns-then-degree-threshold-clause-beside
-returns-then-degree-threshold-clause-beside g c = λ tells. beside_read (g.S.Reads.state c.args.space.now) (g.S.Reads.state c.is_dense.new.space) c.args.node
+pub returns-then-degree-threshold-clause-leaves_others : goal.returns-then-degree-threshold-clause-leaves_others
+returns-then-degree-threshold-clause-leaves_others g c = λ tells. beside_read (g.S.Reads.state c.args.space.now)
+    (g.S.Reads.state c.is_dense.new.space) c.args.node
     c.in_ok-is_dense.ensures.state
 
 pub returns-in_err-make_dense-clause-stays : goal.returns-in_err-make_dense-clause-stays
@@ -319,16 +320,16 @@ returns-in_err-make_dense-clause-stays g c = λ tells.
     rw (p.1, p.2) (later_beside s.records z.records (g.S.Reads.state c.make_dense.new.space).records c.args.node
     (beside_read s z c.args.node c.in_ok-is_dense.ensures.state) c.in_err-make_dense.field-0.0 (c.in_err-make_dense.ensures.stays tells))
 
-pub returns-clause-beside : goal.returns-clause-beside
-returns-clause-beside g c = λ tells.
+pub returns-clause-leaves_others : goal.returns-clause-leaves_others
+returns-clause-leaves_others g c = λ tells.
     let s = g.S.Reads.state c.args.space.now in
     let z = g.S.Reads.state c.is_dense.new.space in
     let u = g.S.Reads.state c.make_dense.new.space in
     let t = g.S.Reads.state c.open_group-2.new.space in
     let first = beside_then s.records z.records u.records c.args.node (beside_read s z c.args.node c.in_ok-is_dense.ensures.state)
-    (c.in_ok-make_dense.ensures.beside tells) in
+    (c.in_ok-make_dense.ensures.leaves_others tells) in
     if_done c.open_group-2.result (LeavesBeside u.records t.records c.args.node) (LeavesBeside s.records t.records c.args.node)
-    (λ k. beside_then s.records u.records t.records c.args.node first k) (c.open_group-2.ensures.beside tells)
+    (λ k. beside_then s.records u.records t.records c.args.node first k) (c.open_group-2.ensures.leaves_others tells)
 
 pub returns-clause-stays : goal.returns-clause-stays
 returns-clause-stays g c = λ tells.
@@ -337,7 +338,7 @@ returns-clause-stays g c = λ tells.
     let u = g.S.Reads.state c.make_dense.new.space in
     let t = g.S.Reads.state c.open_group-2.new.space in
     let first = beside_then s.records z.records u.records c.args.node (beside_read s z c.args.node c.in_ok-is_dense.ensures.state)
-    (c.in_ok-make_dense.ensures.beside tells) in
+    (c.in_ok-make_dense.ensures.leaves_others tells) in
     if_damage c.open_group-2.result (SameButReads u t) (LeavesBeside s.records t.records c.args.node)
     (λ k. beside_then s.records u.records t.records c.args.node first (beside_read u t c.args.node k))
     (c.open_group-2.ensures.unwritten tells (c.in_ok-make_dense.ensures.dense tells))
@@ -392,8 +393,8 @@ returns-in_err-is_dense-clause-owns g c _ _ = never_ok c.from_residual.result _ 
 pub returns-in_err-is_dense-clause-heads : goal.returns-in_err-is_dense-clause-heads
 returns-in_err-is_dense-clause-heads g c _ = never_ok c.from_residual.result _ _ c.from_residual.ensures.1
 
-pub returns-in_err-is_dense-clause-beside : goal.returns-in_err-is_dense-clause-beside
-returns-in_err-is_dense-clause-beside g c _ = never_ok c.from_residual.result _ _ c.from_residual.ensures.1
+pub returns-in_err-is_dense-clause-leaves_others : goal.returns-in_err-is_dense-clause-leaves_others
+returns-in_err-is_dense-clause-leaves_others g c _ = never_ok c.from_residual.result _ _ c.from_residual.ensures.1
 
 pub returns-in_err-is_dense-clause-at : goal.returns-in_err-is_dense-clause-at
 returns-in_err-is_dense-clause-at g c = never_ok c.from_residual.result _ _ c.from_residual.ensures.1
@@ -419,8 +420,8 @@ returns-in_err-make_dense-clause-owns g c _ _ = never_ok c.from_residual-in_err-
 pub returns-in_err-make_dense-clause-heads : goal.returns-in_err-make_dense-clause-heads
 returns-in_err-make_dense-clause-heads g c _ = never_ok c.from_residual-in_err-make_dense.result _ _ c.from_residual-in_err-make_dense.ensures.1
 
-pub returns-in_err-make_dense-clause-beside : goal.returns-in_err-make_dense-clause-beside
-returns-in_err-make_dense-clause-beside g c _ = never_ok c.from_residual-in_err-make_dense.result _ _ c.from_residual-in_err-make_dense.ensures.1
+pub returns-in_err-make_dense-clause-leaves_others : goal.returns-in_err-make_dense-clause-leaves_others
+returns-in_err-make_dense-clause-leaves_others g c _ = never_ok c.from_residual-in_err-make_dense.result _ _ c.from_residual-in_err-make_dense.ensures.1
 
 pub returns-in_err-make_dense-clause-at : goal.returns-in_err-make_dense-clause-at
 returns-in_err-make_dense-clause-at g c = never_ok c.from_residual-in_err-make_dense.result _ _ c.from_residual-in_err-make_dense.ensures.1
@@ -469,7 +470,7 @@ returns-clause-names g c = λ tells.
     let node = c.args.node in
     if_err c.open_group-2.result (NamesAt u node) (NamesAt s node)
     (λ fault told. named_read s z node fault c.in_ok-is_dense.ensures.state
-    (named_beside z u node (g.met.S.Reads.onward_shape _ _ c.in_ok-make_dense.ensures.onward) (c.in_ok-make_dense.ensures.beside tells) fault told))
+    (named_beside z u node (g.met.S.Reads.onward_shape _ _ c.in_ok-make_dense.ensures.onward) (c.in_ok-make_dense.ensures.leaves_others tells) fault told))
     (c.open_group-2.ensures.names tells)
 
 -- ---- a node or a group that is named is as it was found
@@ -509,7 +510,7 @@ returns-clause-named g c = λ tells.
     let list = c.in_ok-make_dense.ensures.list tells in
     if_err c.open_group-2.result (NamesFound z t c.args.node) (NamesFound s t c.args.node)
     (λ fault. found_read s z t c.args.node fault c.in_ok-is_dense.ensures.state)
-    (found_spread z u t c.args.node c.open_group-2.result (c.in_ok-make_dense.ensures.beside tells) (c.in_ok-make_dense.ensures.lists tells)
+    (found_spread z u t c.args.node c.open_group-2.result (c.in_ok-make_dense.ensures.leaves_others tells) (c.in_ok-make_dense.ensures.lists tells)
     (c.open_group-2.ensures.listed tells (c.in_ok-make_dense.ensures.dense tells) list.list) (c.open_group-2.ensures.groups tells list))
 
 -- ---- where the head is the node's nothing is written

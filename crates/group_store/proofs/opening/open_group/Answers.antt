@@ -143,10 +143,10 @@ pub returns-clause-at : goal.returns-clause-at
 returns-clause-at g c = ap (λ (h : Head). h.key.file) c.group_head.ensures.is
 
 -- what is left of other records
-pub returns-clause-beside : goal.returns-clause-beside
-returns-clause-beside g c = λ tells.
+pub returns-clause-leaves_others : goal.returns-clause-leaves_others
+returns-clause-leaves_others g c = λ tells.
     let m = g.S.Reads.state c.own_group.new.space in
-    beside_then _ _ _ c.args.node (c.in_ok-own.ensures.beside tells) (c.in_ok-count_group.ensures.beside tells
+    beside_then _ _ _ c.args.node (c.in_ok-own.ensures.leaves_others tells) (c.in_ok-count_group.ensures.leaves_others tells
     (group_says m.records c.args.node c.in_ok-own.own.row.id (c.in_ok-own.ensures.owns tells).group))
 
 -- ---- the head is the node's, and each node has the heads that it had
@@ -173,8 +173,8 @@ returns-in_err-own-clause-owns g c _ _ = never_ok c.from_residual.result _ _ c.f
 pub returns-in_err-own-clause-heads : goal.returns-in_err-own-clause-heads
 returns-in_err-own-clause-heads g c _ = never_ok c.from_residual.result _ _ c.from_residual.ensures.1
 
-pub returns-in_err-own-clause-beside : goal.returns-in_err-own-clause-beside
-returns-in_err-own-clause-beside g c _ = never_ok c.from_residual.result _ _ c.from_residual.ensures.1
+pub returns-in_err-own-clause-leaves_others : goal.returns-in_err-own-clause-leaves_others
+returns-in_err-own-clause-leaves_others g c _ = never_ok c.from_residual.result _ _ c.from_residual.ensures.1
 
 pub returns-in_err-own-clause-at : goal.returns-in_err-own-clause-at
 returns-in_err-own-clause-at g c = never_ok c.from_residual.result _ _ c.from_residual.ensures.1
@@ -200,8 +200,8 @@ returns-in_err-count_group-clause-owns g c _ _ = never_ok c.from_residual-in_err
 pub returns-in_err-count_group-clause-heads : goal.returns-in_err-count_group-clause-heads
 returns-in_err-count_group-clause-heads g c _ = never_ok c.from_residual-in_err-count_group.result _ _ c.from_residual-in_err-count_group.ensures.1
 
-pub returns-in_err-count_group-clause-beside : goal.returns-in_err-count_group-clause-beside
-returns-in_err-count_group-clause-beside g c _ = never_ok c.from_residual-in_err-count_group.result _ _ c.from_residual-in_err-count_group.ensures.1
+pub returns-in_err-count_group-clause-leaves_others : goal.returns-in_err-count_group-clause-leaves_others
+returns-in_err-count_group-clause-leaves_others g c _ = never_ok c.from_residual-in_err-count_group.result _ _ c.from_residual-in_err-count_group.ensures.1
 
 pub returns-in_err-count_group-clause-at : goal.returns-in_err-count_group-clause-at
 returns-in_err-count_group-clause-at g c = never_ok c.from_residual-in_err-count_group.result _ _ c.from_residual-in_err-count_group.ensures.1
@@ -314,7 +314,7 @@ returns-clause-reaches g c = λ tells.
       spread = λ h.
           let opened = c.in_ok-own.ensures.leads tells h.came h.groups h.leads in
           let first = spread_first m.records node own.row.id h.came (h.groups ++ own.row.id ∷ []) c.args.side opened.0 (in_last own.row.id h.groups)
-          (λ e. omega (arith, key.id)) (λ x i. low_beside s.records m.records node x (c.in_ok-own.ensures.beside tells) (h.low x i)) in
+          (λ e. omega (arith, key.id)) (λ x i. low_beside s.records m.records node x (c.in_ok-own.ensures.leaves_others tells) (h.low x i)) in
           subst (λ (q : Head). IsLowLink t.records (first_of t.records q)) (sym c.group_head.ensures.is)
           (subst (λ (q : State). IsLowLink q.records (first_of q.records (group_head own.row.id c.args.side)))
           (sym (c.in_ok-count_group.ensures.kept (c.in_ok-own.ensures.list tells h.list).1)) first);

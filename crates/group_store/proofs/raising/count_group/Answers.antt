@@ -61,11 +61,11 @@ returns-clause-heads g c = λ tells.
 
 -- ---- what is left of other records
 
-pub returns-then-row-clause-beside : goal.returns-then-row-clause-beside
-returns-then-row-clause-beside g c = λ tells own. beside_none (g.S.Reads.state c.args.space.now).records c.args.node
+pub returns-then-row-clause-leaves_others : goal.returns-then-row-clause-leaves_others
+returns-then-row-clause-leaves_others g c = λ tells own. beside_none (g.S.Reads.state c.args.space.now).records c.args.node
 
-pub returns-clause-beside : goal.returns-clause-beside
-returns-clause-beside g c = λ tells own.
+pub returns-clause-leaves_others : goal.returns-clause-leaves_others
+returns-clause-leaves_others g c = λ tells own.
     let s = g.S.Reads.state c.args.space.now in
     let y = g.S.Reads.state c.get.new.self in
     let z = g.S.Reads.state c.count_chains.new.space in
@@ -89,8 +89,8 @@ returns-in_err-rec-clause-raised g c _ = never_ok c.from_residual.result _ _ c.f
 pub returns-in_err-rec-clause-heads : goal.returns-in_err-rec-clause-heads
 returns-in_err-rec-clause-heads g c _ = never_ok c.from_residual.result _ _ c.from_residual.ensures.1
 
-pub returns-in_err-rec-clause-beside : goal.returns-in_err-rec-clause-beside
-returns-in_err-rec-clause-beside g c _ _ = never_ok c.from_residual.result _ _ c.from_residual.ensures.1
+pub returns-in_err-rec-clause-leaves_others : goal.returns-in_err-rec-clause-leaves_others
+returns-in_err-rec-clause-leaves_others g c _ _ = never_ok c.from_residual.result _ _ c.from_residual.ensures.1
 
 pub returns-in_err-rec-clause-counts : goal.returns-in_err-rec-clause-counts
 returns-in_err-rec-clause-counts g c _ _ = never_ok c.from_residual.result _ _ c.from_residual.ensures.1
@@ -104,8 +104,8 @@ returns-in_err-counts-clause-raised g c _ = never_ok c.from_residual-in_err-coun
 pub returns-in_err-counts-clause-heads : goal.returns-in_err-counts-clause-heads
 returns-in_err-counts-clause-heads g c _ = never_ok c.from_residual-in_err-counts.result _ _ c.from_residual-in_err-counts.ensures.1
 
-pub returns-in_err-counts-clause-beside : goal.returns-in_err-counts-clause-beside
-returns-in_err-counts-clause-beside g c _ _ = never_ok c.from_residual-in_err-counts.result _ _ c.from_residual-in_err-counts.ensures.1
+pub returns-in_err-counts-clause-leaves_others : goal.returns-in_err-counts-clause-leaves_others
+returns-in_err-counts-clause-leaves_others g c _ _ = never_ok c.from_residual-in_err-counts.result _ _ c.from_residual-in_err-counts.ensures.1
 
 pub returns-in_err-counts-clause-counts : goal.returns-in_err-counts-clause-counts
 returns-in_err-counts-clause-counts g c _ _ = never_ok c.from_residual-in_err-counts.result _ _ c.from_residual-in_err-counts.ensures.1
@@ -116,8 +116,8 @@ returns-in_err-set_counts-clause-raised g c _ = never_ok c.from_residual-in_err-
 pub returns-in_err-set_counts-clause-heads : goal.returns-in_err-set_counts-clause-heads
 returns-in_err-set_counts-clause-heads g c _ = never_ok c.from_residual-in_err-set_counts.result _ _ c.from_residual-in_err-set_counts.ensures.1
 
-pub returns-in_err-set_counts-clause-beside : goal.returns-in_err-set_counts-clause-beside
-returns-in_err-set_counts-clause-beside g c _ _ = never_ok c.from_residual-in_err-set_counts.result _ _ c.from_residual-in_err-set_counts.ensures.1
+pub returns-in_err-set_counts-clause-leaves_others : goal.returns-in_err-set_counts-clause-leaves_others
+returns-in_err-set_counts-clause-leaves_others g c _ _ = never_ok c.from_residual-in_err-set_counts.result _ _ c.from_residual-in_err-set_counts.ensures.1
 
 pub returns-in_err-set_counts-clause-counts : goal.returns-in_err-set_counts-clause-counts
 returns-in_err-set_counts-clause-counts g c _ _ = never_ok c.from_residual-in_err-set_counts.result _ _ c.from_residual-in_err-set_counts.ensures.1

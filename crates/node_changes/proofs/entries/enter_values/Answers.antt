@@ -142,7 +142,7 @@ pub returns-in_err-enter-clause-blames : goal.returns-in_err-enter-clause-blames
 returns-in_err-enter-clause-blames g c tells =
     let t = g.S.Reads.state c.enter.new.space in
     fault_exit of_take (BlamesEntry t) c.in_err-enter.field-0.0 c.from_residual.result c.from_residual.ensures.1
-    (take_blames t c.in_err-enter.field-0.0 (c.in_err-enter.ensures.still tells) (c.in_err-enter.ensures.names tells))
+    (take_blames t c.in_err-enter.field-0.0 (c.in_err-enter.ensures.damaged_after tells) (c.in_err-enter.ensures.names tells))
 
 pub returns-in_err-enter-clause-found : goal.returns-in_err-enter-clause-found
 returns-in_err-enter-clause-found g c tells has =

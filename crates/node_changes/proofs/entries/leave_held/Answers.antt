@@ -61,7 +61,7 @@ pub returns-in_err-leave-clause-blames : goal.returns-in_err-leave-clause-blames
 returns-in_err-leave-clause-blames g c tells =
     let t = g.S.Reads.state c.leave.new.space in
     fault_exit of_fault (BlamesEntry t) c.in_err-leave.field-0.0 c.from_residual.result c.from_residual.ensures.1
-    (fault_blames t c.in_err-leave.field-0.0 (c.in_err-leave.ensures.still tells) (c.in_err-leave.ensures.names tells))
+    (fault_blames t c.in_err-leave.field-0.0 (c.in_err-leave.ensures.damaged_after tells) (c.in_err-leave.ensures.names tells))
 
 pub returns-in_err-leave-clause-untouched : goal.returns-in_err-leave-clause-untouched
 returns-in_err-leave-clause-untouched g c tells =

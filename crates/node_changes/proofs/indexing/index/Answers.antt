@@ -12,7 +12,7 @@ use Rattle.name_store.specs.Interning.{IsFullFault, interned}
 use Rattle.name_store.specs.Names.{AreHeldNames}
 use Rattle.prop_index.specs.Defining.{AreNamesOf}
 use Rattle.prop_index.specs.Making.{count_of}
-use Rattle.change_parts.specs.Causes.{IsCaused, IsStillCaused}
+use Rattle.change_parts.specs.Causes.{IsCaused, IsCausedAfter}
 use Rattle.change_parts.specs.Change.{IsCounted, IsRefusal}
 use Rattle.change_parts.specs.Damage.{BlamesMaking, IsBroken}
 use Rattle.change_parts.specs.ChangeFault.{LeavesSpace, of_intern, of_make}
@@ -67,8 +67,8 @@ returns-in_err-test_pair-clause-caused g c tells =
     fault_exit (λ f. f) (IsCaused command s t names now) fault c.from_residual.result c.from_residual.ensures.1
     (c.in_err-test_pair.ensures.caused tells)
 
-pub returns-in_err-test_pair-clause-still : goal.returns-in_err-test_pair-clause-still
-returns-in_err-test_pair-clause-still g c tells =
+pub returns-in_err-test_pair-clause-caused_after : goal.returns-in_err-test_pair-clause-caused_after
+returns-in_err-test_pair-clause-caused_after g c tells =
     let s = g.S.Reads.state c.args.space.now in
     let t = g.S.Reads.state c.test_pair.new.space in
     let names = c.args.names.now.names in
@@ -77,7 +77,7 @@ returns-in_err-test_pair-clause-still g c tells =
     let key = c.args.key.now in
     let command = commands.Index c.args.label.now c.args.key.now in
     let fault = c.in_err-test_pair.field-0.0 in
-    fault_exit (λ f. f) (IsStillCaused command t names now) fault c.from_residual.result c.from_residual.ensures.1
+    fault_exit (λ f. f) (IsCausedAfter command t names now) fault c.from_residual.result c.from_residual.ensures.1
     (record {
       caused = caused_left command s t t names now c.test_pair.ensures.same fault (c.in_err-test_pair.ensures.caused tells);
       damaged = broken_left s t c.test_pair.ensures.same fault (c.in_err-test_pair.ensures.damaged tells);
@@ -153,8 +153,8 @@ returns-in_err-label-clause-caused g c tells =
     (name_caused s t names now names label key label (λ all lacks. first_lacks names label (key ∷ []) all lacks) fault
     (label_full g (goal.at.returns-in_err-label-clause-caused g c).In_err-label))
 
-pub returns-in_err-label-clause-still : goal.returns-in_err-label-clause-still
-returns-in_err-label-clause-still g c tells =
+pub returns-in_err-label-clause-caused_after : goal.returns-in_err-label-clause-caused_after
+returns-in_err-label-clause-caused_after g c tells =
     let t = g.S.Reads.state c.intern.new.space in
     let names = c.args.names.now.names in
     let now = c.intern.new.self.names in
@@ -162,10 +162,10 @@ returns-in_err-label-clause-still g c tells =
     let key = c.args.key.now in
     let command = commands.Index c.args.label.now c.args.key.now in
     let fault = c.in_err-label.field-0.0 in
-    fault_exit of_intern (IsStillCaused command t names now) fault c.from_residual-in_err-label.result c.from_residual-in_err-label.ensures.1
+    fault_exit of_intern (IsCausedAfter command t names now) fault c.from_residual-in_err-label.result c.from_residual-in_err-label.ensures.1
     (record {
       caused = (name_caused t t names now names label key label (λ all lacks. first_lacks names label (key ∷ []) all lacks) fault
-          (label_full g (goal.at.returns-in_err-label-clause-still g c).In_err-label));
+          (label_full g (goal.at.returns-in_err-label-clause-caused_after g c).In_err-label));
       damaged = intern_blamed (IsBroken t) fault;
     })
 
@@ -246,8 +246,8 @@ returns-in_err-key-clause-caused g c tells =
     (label_uses g (goal.at.returns-in_err-key-clause-caused g c).After-intern-2) all lacks) fault
     (key_full g (goal.at.returns-in_err-key-clause-caused g c).In_err-key))
 
-pub returns-in_err-key-clause-still : goal.returns-in_err-key-clause-still
-returns-in_err-key-clause-still g c tells =
+pub returns-in_err-key-clause-caused_after : goal.returns-in_err-key-clause-caused_after
+returns-in_err-key-clause-caused_after g c tells =
     let t = g.S.Reads.state c.intern-2.new.space in
     let names = c.args.names.now.names in
     let now = c.intern-2.new.self.names in
@@ -255,11 +255,11 @@ returns-in_err-key-clause-still g c tells =
     let key = c.args.key.now in
     let command = commands.Index c.args.label.now c.args.key.now in
     let fault = c.in_err-key.field-0.0 in
-    fault_exit of_intern (IsStillCaused command t names now) fault c.from_residual-in_err-key.result c.from_residual-in_err-key.ensures.1
+    fault_exit of_intern (IsCausedAfter command t names now) fault c.from_residual-in_err-key.result c.from_residual-in_err-key.ensures.1
     (record {
       caused = (name_caused t t names now c.intern.new.self.names label key key (λ all lacks. second_lacks names c.intern.new.self.names label key
-          (label_uses g (goal.at.returns-in_err-key-clause-still g c).After-intern-2) all lacks) fault
-          (key_full g (goal.at.returns-in_err-key-clause-still g c).In_err-key));
+          (label_uses g (goal.at.returns-in_err-key-clause-caused_after g c).After-intern-2) all lacks) fault
+          (key_full g (goal.at.returns-in_err-key-clause-caused_after g c).In_err-key));
       damaged = intern_blamed (IsBroken t) fault;
     })
 
@@ -462,8 +462,8 @@ returns-in_err-count-clause-caused g c tells =
     (make_caused (g.S.Reads.state c.intern-2.new.space) names now label key c.in_ok-label.label c.in_ok-key.key s t
     (named_for g (goal.at.returns-in_err-count-clause-caused g c).After-make tells) fault (c.in_err-count.ensures.caused tells))
 
-pub returns-in_err-count-clause-still : goal.returns-in_err-count-clause-still
-returns-in_err-count-clause-still g c tells =
+pub returns-in_err-count-clause-caused_after : goal.returns-in_err-count-clause-caused_after
+returns-in_err-count-clause-caused_after g c tells =
     let t = g.S.Reads.state c.make.new.space in
     let names = c.args.names.now.names in
     let now = c.intern-2.new.self.names in
@@ -471,13 +471,13 @@ returns-in_err-count-clause-still g c tells =
     let key = c.args.key.now in
     let command = commands.Index c.args.label.now c.args.key.now in
     let fault = c.in_err-count.field-0.0 in
-    fault_exit of_make (IsStillCaused command t names now) fault c.from_residual-in_err-count.result c.from_residual-in_err-count.ensures.1
+    fault_exit of_make (IsCausedAfter command t names now) fault c.from_residual-in_err-count.result c.from_residual-in_err-count.ensures.1
     (record {
       caused = make_still (g.S.Reads.state c.intern-2.new.space) names now label key c.in_ok-label.label c.in_ok-key.key (g.S.Reads.state c.args.space.now) t
-          (named_for g (goal.at.returns-in_err-count-clause-still g c).After-make tells)
-          (left_count g (goal.at.returns-in_err-count-clause-still g c).After-make tells) fault (c.in_err-count.ensures.unwritten tells)
+          (named_for g (goal.at.returns-in_err-count-clause-caused_after g c).After-make tells)
+          (left_count g (goal.at.returns-in_err-count-clause-caused_after g c).After-make tells) fault (c.in_err-count.ensures.unwritten tells)
           (c.in_err-count.ensures.caused tells);
-      damaged = make_blamed t fault (c.in_err-count.ensures.still tells);
+      damaged = make_blamed t fault (c.in_err-count.ensures.damaged_after tells);
     })
 
 -- the names that the label and the key have become

@@ -43,7 +43,7 @@ use Rattle.change_parts.proofs.Reasons.{outside_refused}
 use Rattle.store_rules.proofs.WriteLaws.{beside_then, beside_written, more_written, none_written, then_written}
 use Rattle.change_parts.proofs.Writes.{on_any_err}
 use Rattle.store_rules.specs.Views.{Records}
-use Rattle.change_parts.specs.Causes.{AsksRoom, IsCaused, IsStillCaused}
+use Rattle.change_parts.specs.Causes.{AsksRoom, IsCaused, IsCausedAfter}
 use Rattle.change_parts.proofs.Causes.{broken_left, failure_caused, line_node, put_caused, room_caused}
 use Rattle.node_changes.proofs.EntriesFaults.{entry_caused}
 use Rattle.node_changes.proofs.EntriesNamed.{found_before, some_leaves}
@@ -187,15 +187,15 @@ returns-in_err-listed-clause-caused g c tells =
     fault_exit (λ f. f) (IsCaused command s u names now) c.in_err-listed.field-0.0 c.from_residual-in_err-listed.result c.from_residual-in_err-listed.ensures.1
     (failure_caused command s u names now c.in_err-listed.field-0.0 c.in_err-listed.ensures.failure)
 
-pub returns-in_err-listed-clause-still : goal.returns-in_err-listed-clause-still
-returns-in_err-listed-clause-still g c tells =
+pub returns-in_err-listed-clause-caused_after : goal.returns-in_err-listed-clause-caused_after
+returns-in_err-listed-clause-caused_after g c tells =
     let z = g.S.Reads.state c.prepare.new.space in
     let u = g.S.Reads.state c.listed_pairs.new.space in
     let names = c.args.names.now.names in
     let now = c.prepare.new.names.names in
     let command = commands.Node c.args.label.now c.args.pairs.now in
     let fault = c.in_err-listed.field-0.0 in
-    fault_exit (λ f. f) (IsStillCaused command u names now) fault c.from_residual-in_err-listed.result c.from_residual-in_err-listed.ensures.1
+    fault_exit (λ f. f) (IsCausedAfter command u names now) fault c.from_residual-in_err-listed.result c.from_residual-in_err-listed.ensures.1
     (record {
       caused = failure_caused command u u names now fault c.in_err-listed.ensures.failure;
       damaged = broken_left z u c.listed_pairs.ensures.same fault
@@ -271,7 +271,8 @@ asked g c records now =
       ⊎_elim
           (λ (k : (format.properties_file ≡ format.properties_file) × (length assigned ≡ maps.len given)).
           let few = c.entry_count-entries.ensures.few in let same = ap length c.deref-2.ensures.0 in let len = k.1 in omega (arith, few, same, len))
-          (λ (k : (format.properties_file ≡ format.strings_file) × (length assigned ≡ blocks_in given)). absurd (omega (arith, k.0))) c.in_ok-prepared.ensures.needs.0,
+          (λ (k : (format.properties_file ≡ format.strings_file) × (length assigned ≡ blocks_in given)). absurd (omega
+          (arith, k.0))) c.in_ok-prepared.ensures.needs.0,
     ))
 
 pub returns-in_err-test_room-2-clause-caused : goal.returns-in_err-test_room-2-clause-caused
@@ -289,16 +290,16 @@ returns-in_err-test_room-2-clause-caused g c tells =
     (room_before s u format.index_file c.entry_count-entries.result (index_meta g at.After-listed_pairs tells) (same_shape g at.After-listed_pairs)
     fault c.in_err-test_room-2.ensures.full)))
 
-pub returns-in_err-test_room-2-clause-still : goal.returns-in_err-test_room-2-clause-still
-returns-in_err-test_room-2-clause-still g c tells =
-    let at = goal.at.returns-in_err-test_room-2-clause-still g c in
+pub returns-in_err-test_room-2-clause-caused_after : goal.returns-in_err-test_room-2-clause-caused_after
+returns-in_err-test_room-2-clause-caused_after g c tells =
+    let at = goal.at.returns-in_err-test_room-2-clause-caused_after g c in
     let u = g.S.Reads.state c.listed_pairs.new.space in
     let names = c.args.names.now.names in
     let now = c.prepare.new.names.names in
     let command = commands.Node c.args.label.now c.as_slice-pairs.result.now in
     let fault = c.in_err-test_room-2.field-0.0 in
-    subst (λ l. IfErr c.from_residual-in_err-test_room-2.result (IsStillCaused (commands.Node c.args.label.now l) u names now)) c.as_slice-pairs.ensures
-    (fault_exit (λ f. f) (IsStillCaused command u names now) fault c.from_residual-in_err-test_room-2.result c.from_residual-in_err-test_room-2.ensures.1
+    subst (λ l. IfErr c.from_residual-in_err-test_room-2.result (IsCausedAfter (commands.Node c.args.label.now l) u names now)) c.as_slice-pairs.ensures
+    (fault_exit (λ f. f) (IsCausedAfter command u names now) fault c.from_residual-in_err-test_room-2.result c.from_residual-in_err-test_room-2.ensures.1
     (record {
       caused = room_caused command u u names now format.index_file c.entry_count-entries.result (asked g at.After-entry_count-entries u.records now)
           fault c.in_err-test_room-2.ensures.full;
@@ -403,7 +404,7 @@ returns-in_err-put_properties-clause-leaves g c tells =
     let w = g.S.Reads.state c.put_properties.new.space in
     fault_exit (λ f. f) (LeavesSpace s w) c.in_err-put_properties.field-0.0 c.from_residual-in_err-put_properties.result
     c.from_residual-in_err-put_properties.ensures.1
-    (late_leaves s w c.in_err-put_properties.field-0.0 (c.in_err-put_properties.ensures.late tells))
+    (late_leaves s w c.in_err-put_properties.field-0.0 (c.in_err-put_properties.ensures.may_come_late tells))
 
 pub returns-in_err-put_properties-clause-refused_writes : goal.returns-in_err-put_properties-clause-refused_writes
 returns-in_err-put_properties-clause-refused_writes g c =
@@ -547,7 +548,7 @@ returns-in_err-enter_values-clause-leaves g c tells =
     let x = g.S.Reads.state c.enter_values.new.space in
     fault_exit (λ f. f) (LeavesSpace s x) c.in_err-enter_values.field-0.0 c.from_residual-in_err-enter_values.result
     c.from_residual-in_err-enter_values.ensures.1
-    (late_leaves s x c.in_err-enter_values.field-0.0 (c.in_err-enter_values.ensures.late tells))
+    (late_leaves s x c.in_err-enter_values.field-0.0 (c.in_err-enter_values.ensures.may_come_late tells))
 
 pub returns-in_err-enter_values-clause-damaged : goal.returns-in_err-enter_values-clause-damaged
 returns-in_err-enter_values-clause-damaged g c tells =
@@ -559,8 +560,8 @@ returns-in_err-enter_values-clause-damaged g c tells =
     let w = g.S.Reads.state c.put_properties.new.space in
     let x = g.S.Reads.state c.enter_values.new.space in
     let fault = c.in_err-enter_values.field-0.0 in
-    let later : LeavesIndexes u w = λ damage of. c.in_ok-put_properties.ensures.beside tells damage of
-    ∙ other_leaves u v format.nodes_file (λ e. omega arith) (λ e. omega arith) (c.in_ok-id.ensures.beside tells) damage of in
+    let later : LeavesIndexes u w = λ damage of. c.in_ok-put_properties.ensures.leaves_indexes tells damage of
+    ∙ other_leaves u v format.nodes_file (λ e. omega arith) (λ e. omega arith) (c.in_ok-id.ensures.other_files tells) damage of in
     let left : LeavesIndexes s w = λ damage of. later damage of ∙ names_leave s u (beside_names g after tells) damage of in
     let shape : w.shape ≡ s.shape = g.met.S.Reads.onward_shape _ _ c.put_properties.ensures.onward
     ∙ g.met.S.Reads.onward_shape _ _ c.put_node.ensures.onward ∙ same_shape g after in
@@ -605,17 +606,18 @@ returns-in_err-enter_values-clause-caused g c tells =
     (entry_caused command s x names now (inr (refl, given_any g (goal.at.returns-in_err-enter_values-clause-caused g c).In_err-enter_values)) fault
     (c.in_err-enter_values.ensures.full tells)))
 
-pub returns-in_err-enter_values-clause-still : goal.returns-in_err-enter_values-clause-still
-returns-in_err-enter_values-clause-still g c tells =
+pub returns-in_err-enter_values-clause-caused_after : goal.returns-in_err-enter_values-clause-caused_after
+returns-in_err-enter_values-clause-caused_after g c tells =
     let x = g.S.Reads.state c.enter_values.new.space in
     let names = c.args.names.now.names in
     let now = c.prepare.new.names.names in
     let command = commands.Node c.args.label.now c.as_slice-pairs.result.now in
     let fault = c.in_err-enter_values.field-0.0 in
-    subst (λ l. IfErr c.from_residual-in_err-enter_values.result (IsStillCaused (commands.Node c.args.label.now l) x names now)) c.as_slice-pairs.ensures
-    (fault_exit (λ f. f) (IsStillCaused command x names now) fault c.from_residual-in_err-enter_values.result c.from_residual-in_err-enter_values.ensures.1
+    subst (λ l. IfErr c.from_residual-in_err-enter_values.result (IsCausedAfter (commands.Node c.args.label.now l) x names now)) c.as_slice-pairs.ensures
+    (fault_exit (λ f. f) (IsCausedAfter command x names now) fault c.from_residual-in_err-enter_values.result c.from_residual-in_err-enter_values.ensures.1
     (record {
-      caused = entry_caused command x x names now (inr (refl, given_any g (goal.at.returns-in_err-enter_values-clause-still g c).In_err-enter_values)) fault
+      caused = entry_caused command x x names now (inr (refl, given_any g (goal.at.returns-in_err-enter_values-clause-caused_after g c).In_err-enter_values))
+          fault
           (c.in_err-enter_values.ensures.full tells);
       damaged = blames_more _ _ (λ damage entry. entry.1) fault (c.in_err-enter_values.ensures.blames tells);
     }))
@@ -816,7 +818,7 @@ returns-in_err-put_properties-clause-damaged g c tells =
     let after = (goal.at.returns-in_err-put_properties-clause-damaged g c).After-listed_pairs in
     let v = g.S.Reads.state c.put_node.new.space in
     let harmless = no_lists_then s u v (names_harm_no_lists s u (same_shape g after) (beside_names g after tells))
-    (node_harms_no_lists u v (g.met.S.Reads.onward_shape _ _ c.put_node.ensures.onward) (c.in_ok-id.ensures.beside tells)) in
+    (node_harms_no_lists u v (g.met.S.Reads.onward_shape _ _ c.put_node.ensures.onward) (c.in_ok-id.ensures.other_files tells)) in
     fault_exit (λ f. f) (BlamesEntries s (g.S.Reads.state c.put_properties.new.space))
     c.in_err-put_properties.field-0.0 c.from_residual-in_err-put_properties.result c.from_residual-in_err-put_properties.ensures.1
     (blames_more _ _ (λ damage told. inl (lists_broken s damage (lists_before s v harmless damage told))) c.in_err-put_properties.field-0.0
@@ -840,48 +842,48 @@ returns-in_err-put_properties-clause-cause g c =
 
 -- ---- and by the space as it is left alone
 
-pub returns-in_err-test_room-clause-still : goal.returns-in_err-test_room-clause-still
-returns-in_err-test_room-clause-still g c tells =
+pub returns-in_err-test_room-clause-caused_after : goal.returns-in_err-test_room-clause-caused_after
+returns-in_err-test_room-clause-caused_after g c tells =
     let s = g.S.Reads.state c.args.space.now in
     let names = c.args.names.now.names in
     let command = commands.Node c.args.label.now c.args.pairs.now in
     let fault = c.in_err-test_room.field-0.0 in
-    fault_exit (λ f. f) (IsStillCaused command s names names) fault c.from_residual.result c.from_residual.ensures.1
+    fault_exit (λ f. f) (IsCausedAfter command s names names) fault c.from_residual.result c.from_residual.ensures.1
     (record {
       caused = room_caused command s s names names format.nodes_file 1 (inl (refl, refl)) fault c.in_err-test_room.ensures.full;
       damaged = room_blamed _
           s format.nodes_file 1 fault c.in_err-test_room.ensures.full;
     })
 
-pub returns-in_err-prepared-clause-still : goal.returns-in_err-prepared-clause-still
-returns-in_err-prepared-clause-still g c tells =
+pub returns-in_err-prepared-clause-caused_after : goal.returns-in_err-prepared-clause-caused_after
+returns-in_err-prepared-clause-caused_after g c tells =
     let t = g.S.Reads.state c.prepare.new.space in
     let names = c.args.names.now.names in
     let now = c.prepare.new.names.names in
     let pairs = c.as_slice-pairs.result.now in
     let fault = c.in_err-prepared.field-0.0 in
-    let why = c.in_err-prepared.ensures.still tells in
-    subst (λ l. IfErr c.from_residual-in_err-prepared.result (IsStillCaused (commands.Node c.args.label.now l) t names now)) c.as_slice-pairs.ensures
-    (fault_exit (λ f. f) (IsStillCaused (commands.Node c.args.label.now pairs) t names now) fault c.from_residual-in_err-prepared.result
+    let why = c.in_err-prepared.ensures.caused_after tells in
+    subst (λ l. IfErr c.from_residual-in_err-prepared.result (IsCausedAfter (commands.Node c.args.label.now l) t names now)) c.as_slice-pairs.ensures
+    (fault_exit (λ f. f) (IsCausedAfter (commands.Node c.args.label.now pairs) t names now) fault c.from_residual-in_err-prepared.result
     c.from_residual-in_err-prepared.ensures.1
     (record { caused = line_node t t names now c.args.label.now pairs fault why; damaged = line_blamed _ t names c.args.label.now pairs fault why }))
 
-pub returns-in_err-id-clause-still : goal.returns-in_err-id-clause-still
-returns-in_err-id-clause-still g c tells =
+pub returns-in_err-id-clause-caused_after : goal.returns-in_err-id-clause-caused_after
+returns-in_err-id-clause-caused_after g c tells =
     let t = g.S.Reads.state c.put_node.new.space in
     let names = c.args.names.now.names in
     let now = c.prepare.new.names.names in
     let command = commands.Node c.args.label.now c.args.pairs.now in
     let fault = c.in_err-id.field-0.0 in
-    fault_exit (λ f. f) (IsStillCaused command t names now) fault c.from_residual-in_err-id.result c.from_residual-in_err-id.ensures.1
+    fault_exit (λ f. f) (IsCausedAfter command t names now) fault c.from_residual-in_err-id.result c.from_residual-in_err-id.ensures.1
     (record {
       caused = failure_caused command t t names now fault (c.in_err-id.ensures.failure tells
-          (room_there g (goal.at.returns-in_err-id-clause-still g c).After-listed_pairs tells));
-      damaged = c.in_err-id.ensures.still tells;
+          (room_there g (goal.at.returns-in_err-id-clause-caused_after g c).After-listed_pairs tells));
+      damaged = c.in_err-id.ensures.damaged_after tells;
     })
 
-pub returns-in_err-put_properties-clause-still : goal.returns-in_err-put_properties-clause-still
-returns-in_err-put_properties-clause-still g c tells =
+pub returns-in_err-put_properties-clause-caused_after : goal.returns-in_err-put_properties-clause-caused_after
+returns-in_err-put_properties-clause-caused_after g c tells =
     let t = g.S.Reads.state c.put_properties.new.space in
     let names = c.args.names.now.names in
     let now = c.prepare.new.names.names in
@@ -891,12 +893,12 @@ returns-in_err-put_properties-clause-still g c tells =
     let needs = c.in_ok-prepared.ensures.needs in
     let fault = c.in_err-put_properties.field-0.0 in
     let told = subst (λ l. IsPutCause t (length l) (assigned_blocks pairs l) fault) c.deref-3.ensures.0 (c.in_err-put_properties.ensures.caused tells) in
-    subst (λ l. IfErr c.from_residual-in_err-put_properties.result (IsStillCaused (commands.Node c.args.label.now l) t names now)) c.as_slice-pairs.ensures
-    (fault_exit (λ f. f) (IsStillCaused command t names now) fault c.from_residual-in_err-put_properties.result c.from_residual-in_err-put_properties.ensures.1
+    subst (λ l. IfErr c.from_residual-in_err-put_properties.result (IsCausedAfter (commands.Node c.args.label.now l) t names now)) c.as_slice-pairs.ensures
+    (fault_exit (λ f. f) (IsCausedAfter command t names now) fault c.from_residual-in_err-put_properties.result c.from_residual-in_err-put_properties.ensures.1
     (record {
       caused = put_caused command t t names now pairs (length items) (assigned_blocks pairs items) needs.0 needs.1 (λ file any. inl any)
           fault told;
-      damaged = c.in_err-put_properties.ensures.still tells;
+      damaged = c.in_err-put_properties.ensures.damaged_after tells;
     }))
 
 pub returns-in_err-test_room-clause-made : goal.returns-in_err-test_room-clause-made
@@ -1194,8 +1196,8 @@ returns-clause-refused g c tells whole = tt
 pub returns-clause-caused : goal.returns-clause-caused
 returns-clause-caused g c tells = tt
 
-pub returns-clause-still : goal.returns-clause-still
-returns-clause-still g c tells = tt
+pub returns-clause-caused_after : goal.returns-clause-caused_after
+returns-clause-caused_after g c tells = tt
 
 pub returns-clause-damaged : goal.returns-clause-damaged
 returns-clause-damaged g c tells = tt

@@ -80,8 +80,8 @@ returns-in_err-save-clause-damaged g c tells =
     fault_exit of_space (IfBlames (IsTakeDamage s format.nodes_file)) c.in_err-save.field-0.0 c.from_residual-in_err-save.result
     c.from_residual-in_err-save.ensures.1 (space_blamed _ c.in_err-save.field-0.0)
 
-pub returns-clause-beside : goal.returns-clause-beside
-returns-clause-beside g c tells =
+pub returns-clause-other_files : goal.returns-clause-other_files
+returns-clause-other_files g c tells =
     let s = g.S.Reads.state c.args.space.now in
     let t = g.S.Reads.state c.take.new.space in
     beside_put s t (g.S.Reads.state c.save.new.space) format.nodes_file c.in_ok-id.id (node_record (new_row c.in_ok-id.id c.args.label))
@@ -93,15 +93,15 @@ returns-in_err-save-clause-cause g c =
     space_cause_passed _ _ _ c.from_residual-in_err-save.result c.in_err-save.field-0.0 c.in_ok-id.ensures.cause.later c.in_err-save.ensures.cause
     c.from_residual-in_err-save.ensures.1
 
-pub returns-in_err-id-clause-still : goal.returns-in_err-id-clause-still
-returns-in_err-id-clause-still g c tells =
+pub returns-in_err-id-clause-damaged_after : goal.returns-in_err-id-clause-damaged_after
+returns-in_err-id-clause-damaged_after g c tells =
     let s = g.S.Reads.state c.args.space.now in
     let t = g.S.Reads.state c.take.new.space in
     fault_exit of_take (BlamesBroken t) c.in_err-id.field-0.0 c.from_residual.result c.from_residual.ensures.1
     (take_blamed_still s t c.in_err-id.field-0.0 (c.in_err-id.ensures.damaged tells) c.in_err-id.ensures.err)
 
-pub returns-in_err-save-clause-still : goal.returns-in_err-save-clause-still
-returns-in_err-save-clause-still g c tells =
+pub returns-in_err-save-clause-damaged_after : goal.returns-in_err-save-clause-damaged_after
+returns-in_err-save-clause-damaged_after g c tells =
     fault_exit of_space (BlamesBroken (g.S.Reads.state c.save.new.space)) c.in_err-save.field-0.0 c.from_residual-in_err-save.result
     c.from_residual-in_err-save.ensures.1 (space_blamed _ c.in_err-save.field-0.0)
 
@@ -111,8 +111,8 @@ returns-in_err-id-clause-put g c _ = never_ok c.from_residual.result _ _ c.from_
 pub returns-in_err-id-clause-is : goal.returns-in_err-id-clause-is
 returns-in_err-id-clause-is g c = never_ok c.from_residual.result _ _ c.from_residual.ensures.1
 
-pub returns-in_err-id-clause-beside : goal.returns-in_err-id-clause-beside
-returns-in_err-id-clause-beside g c _ = never_ok c.from_residual.result _ _ c.from_residual.ensures.1
+pub returns-in_err-id-clause-other_files : goal.returns-in_err-id-clause-other_files
+returns-in_err-id-clause-other_files g c _ = never_ok c.from_residual.result _ _ c.from_residual.ensures.1
 
 pub returns-in_err-id-clause-key : goal.returns-in_err-id-clause-key
 returns-in_err-id-clause-key g c = never_ok c.from_residual.result _ _ c.from_residual.ensures.1
@@ -129,8 +129,8 @@ returns-in_err-save-clause-put g c _ = never_ok c.from_residual-in_err-save.resu
 pub returns-in_err-save-clause-is : goal.returns-in_err-save-clause-is
 returns-in_err-save-clause-is g c = never_ok c.from_residual-in_err-save.result _ _ c.from_residual-in_err-save.ensures.1
 
-pub returns-in_err-save-clause-beside : goal.returns-in_err-save-clause-beside
-returns-in_err-save-clause-beside g c _ = never_ok c.from_residual-in_err-save.result _ _ c.from_residual-in_err-save.ensures.1
+pub returns-in_err-save-clause-other_files : goal.returns-in_err-save-clause-other_files
+returns-in_err-save-clause-other_files g c _ = never_ok c.from_residual-in_err-save.result _ _ c.from_residual-in_err-save.ensures.1
 
 pub returns-in_err-save-clause-key : goal.returns-in_err-save-clause-key
 returns-in_err-save-clause-key g c = never_ok c.from_residual-in_err-save.result _ _ c.from_residual-in_err-save.ensures.1

@@ -25,7 +25,7 @@ use Rattle.node_changes.proofs.Broken.{drop_cause, entry_cause, entry_left, held
 use Rattle.change_parts.proofs.Broken.{blames_both, blames_more}
 use Rattle.change_parts.proofs.Broken.{node_broken, node_in_use, unwritten_left}
 use Rattle.node_changes.proofs.Broken.{node_cause}
-use Rattle.change_parts.specs.Causes.{IsCaused, IsStillCaused}
+use Rattle.change_parts.specs.Causes.{IsCaused, IsCausedAfter}
 use Rattle.change_parts.proofs.Causes.{any_blamed, broken_left, caused_left, failure_caused}
 use Rattle.change_parts.proofs.Adding.{space_blamed}
 use Rattle.change_parts.proofs.Exits.{fault_exit, fault_fails, row_fails, space_fails, failure_late, late_leaves}
@@ -395,22 +395,22 @@ returns-in_err-entries-clause-caused g c tells =
     c.from_residual-in_err-entries.ensures.1
     (failure_caused command s t names names c.in_err-entries.field-0.0 c.in_err-entries.ensures.failure)
 
-pub returns-in_err-held-clause-still : goal.returns-in_err-held-clause-still
-returns-in_err-held-clause-still g c tells =
+pub returns-in_err-held-clause-caused_after : goal.returns-in_err-held-clause-caused_after
+returns-in_err-held-clause-caused_after g c tells =
     let t = g.S.Reads.state c.held_values.new.space in
     let names = c.args.names.now.names in
     let command = commands.Delete (targets.Node c.args.id) in
     let fault = c.in_err-held.field-0.0 in
-    fault_exit (λ f. f) (IsStillCaused command t names names) fault c.from_residual-in_err-held.result c.from_residual-in_err-held.ensures.1
+    fault_exit (λ f. f) (IsCausedAfter command t names names) fault c.from_residual-in_err-held.result c.from_residual-in_err-held.ensures.1
     (record { caused = failure_caused command t t names names fault c.in_err-held.ensures.failure; damaged = any_blamed _ (λ damage. tt) fault })
 
-pub returns-in_err-entries-clause-still : goal.returns-in_err-entries-clause-still
-returns-in_err-entries-clause-still g c tells =
+pub returns-in_err-entries-clause-caused_after : goal.returns-in_err-entries-clause-caused_after
+returns-in_err-entries-clause-caused_after g c tells =
     let t = g.S.Reads.state c.leave_values.new.space in
     let names = c.args.names.now.names in
     let command = commands.Delete (targets.Node c.args.id) in
     let fault = c.in_err-entries.field-0.0 in
-    fault_exit (λ f. f) (IsStillCaused command t names names) fault c.from_residual-in_err-entries.result c.from_residual-in_err-entries.ensures.1
+    fault_exit (λ f. f) (IsCausedAfter command t names names) fault c.from_residual-in_err-entries.result c.from_residual-in_err-entries.ensures.1
     (record { caused = failure_caused command t t names names fault c.in_err-entries.ensures.failure; damaged = any_blamed _ (λ damage. tt) fault })
 
 pub returns-in_err-held-clause-cause : goal.returns-in_err-held-clause-cause
@@ -494,55 +494,55 @@ returns-in_err-give-clause-caused g c tells =
 
 -- ---- and by the space as it is left alone
 
-pub returns-in_err-node-clause-still : goal.returns-in_err-node-clause-still
-returns-in_err-node-clause-still g c tells =
+pub returns-in_err-node-clause-caused_after : goal.returns-in_err-node-clause-caused_after
+returns-in_err-node-clause-caused_after g c tells =
     let t = g.S.Reads.state c.load.new.space in
     let names = c.args.names.now.names in
     let command = commands.Delete (targets.Node c.args.id) in
     let fault = of_row c.in_err-node.field-0.0 in
-    fault_exit of_row (IsStillCaused command t names names) c.in_err-node.field-0.0 c.from_residual.result c.from_residual.ensures.1
+    fault_exit of_row (IsCausedAfter command t names names) c.in_err-node.field-0.0 c.from_residual.result c.from_residual.ensures.1
     (record { caused = failure_caused command t t names names fault (row_fails c.in_err-node.field-0.0); damaged = any_blamed _ (λ damage. tt) fault })
 
-pub returns-in_err-dropped-clause-still : goal.returns-in_err-dropped-clause-still
-returns-in_err-dropped-clause-still g c tells =
+pub returns-in_err-dropped-clause-caused_after : goal.returns-in_err-dropped-clause-caused_after
+returns-in_err-dropped-clause-caused_after g c tells =
     let t = g.S.Reads.state c.drop_all.new.space in
     let names = c.args.names.now.names in
     let command = commands.Delete (targets.Node c.args.id) in
     let fault = of_fault c.in_err-dropped.field-0.0 in
-    fault_exit of_fault (IsStillCaused command t names names) c.in_err-dropped.field-0.0 c.from_residual-in_err-dropped.result
+    fault_exit of_fault (IsCausedAfter command t names names) c.in_err-dropped.field-0.0 c.from_residual-in_err-dropped.result
     c.from_residual-in_err-dropped.ensures.1 (record {
       caused = failure_caused command t t names names fault (fault_fails c.in_err-dropped.field-0.0);
       damaged =
           any_blamed _ (λ damage. tt) fault;
     })
 
-pub returns-in_err-give-clause-still : goal.returns-in_err-give-clause-still
-returns-in_err-give-clause-still g c tells =
+pub returns-in_err-give-clause-caused_after : goal.returns-in_err-give-clause-caused_after
+returns-in_err-give-clause-caused_after g c tells =
     let t = g.S.Reads.state c.give.new.space in
     let names = c.args.names.now.names in
     let command = commands.Delete (targets.Node c.args.id) in
     let fault = of_space c.in_err-give.field-0.0 in
-    fault_exit of_space (IsStillCaused command t names names) c.in_err-give.field-0.0 c.from_residual-in_err-give.result c.from_residual-in_err-give.ensures.1
+    fault_exit of_space (IsCausedAfter command t names names) c.in_err-give.field-0.0 c.from_residual-in_err-give.result c.from_residual-in_err-give.ensures.1
     (record { caused = failure_caused command t t names names fault (space_fails c.in_err-give.field-0.0); damaged = any_blamed _ (λ damage. tt) fault })
 
-pub returns-in_default-clause-still : goal.returns-in_default-clause-still
-returns-in_default-clause-still g c tells =
+pub returns-in_default-clause-caused_after : goal.returns-in_default-clause-caused_after
+returns-in_default-clause-caused_after g c tells =
     let s = g.S.Reads.state c.args.space.now in
     let t = g.S.Reads.state c.load.new.space in
     let names = c.args.names.now.names in
-    let read = same g (goal.at.returns-in_default-clause-still g c).After-load in
+    let read = same g (goal.at.returns-in_default-clause-caused_after g c).After-load in
     record {
       caused = caused_left (commands.Delete (targets.Node c.args.id)) s t t names names read (NoNode c.args.id)
           (refl, sym (sym c.in_default.is ∙ c.in_ok-node.ensures.found tells));
       damaged = tt;
     }
 
-pub returns-then-node-ne0-clause-still : goal.returns-then-node-ne0-clause-still
-returns-then-node-ne0-clause-still g c tells =
+pub returns-then-node-ne0-clause-caused_after : goal.returns-then-node-ne0-clause-caused_after
+returns-then-node-ne0-clause-caused_after g c tells =
     let s = g.S.Reads.state c.args.space.now in
     let t = g.S.Reads.state c.load.new.space in
     let names = c.args.names.now.names in
-    let read = same g (goal.at.returns-then-node-ne0-clause-still g c).After-load in
+    let read = same g (goal.at.returns-then-node-ne0-clause-caused_after g c).After-load in
     record {
       caused = caused_left (commands.Delete (targets.Node c.args.id)) s t t names names read (HasRelationships c.args.id c.in-Some.node.degree)
           (refl, record { row = c.in-Some.node; found = sym (sym c.in-Some.is ∙ c.in_ok-node.ensures.found tells); is = refl }, c.if-node-ne0.true);

@@ -32,7 +32,7 @@ use Rattle.node_changes.proofs.Setting.{few_blocks, set_known, set_missing, set_
 use Rattle.change_parts.proofs.Readings.{made_read, store_read, there_read}
 use Rattle.store_rules.proofs.WriteLaws.{more_written, none_written, then_written}
 use Rattle.change_parts.proofs.Writes.{on_any_err, own_record, touched_written}
-use Rattle.change_parts.specs.Causes.{IsCaused, IsNodeTarget, IsStillCaused}
+use Rattle.change_parts.specs.Causes.{IsCaused, IsNodeTarget, IsCausedAfter}
 use Rattle.change_parts.specs.Damage.{BlamesGiven, IsBroken, LeavesIndexes}
 use Rattle.node_changes.proofs.EntriesNamed.{found_before, held_leaves}
 use Rattle.change_parts.specs.Owners.{owner_of}
@@ -499,37 +499,37 @@ returns-in_err-released-clause-cause g c =
 
 -- ---- and by the space as it is left alone
 
-pub returns-in_err-owner-clause-still : goal.returns-in_err-owner-clause-still
-returns-in_err-owner-clause-still g c tells =
+pub returns-in_err-owner-clause-caused_after : goal.returns-in_err-owner-clause-caused_after
+returns-in_err-owner-clause-caused_after g c tells =
     let s = g.S.Reads.state c.args.space.now in
     let t = g.S.Reads.state c.find_owner.new.space in
     let names = c.args.names.now.names in
     let command = commands.Set c.args.target c.args.key.now c.args.value.now in
     let fault = c.in_err-owner.field-0.0 in
-    fault_exit (λ f. f) (IsStillCaused command t names names) fault c.from_residual.result c.from_residual.ensures.1
+    fault_exit (λ f. f) (IsCausedAfter command t names names) fault c.from_residual.result c.from_residual.ensures.1
     (record {
       caused = caused_left command s t t names names c.find_owner.ensures.state fault
           (absent_caused command s t names names c.args.target (λ id e. e) (λ id e. e) fault (c.in_err-owner.ensures.absent tells));
       damaged = broken_left s t c.find_owner.ensures.state fault (c.in_err-owner.ensures.damaged tells);
     })
 
-pub returns-in_err-number-clause-still : goal.returns-in_err-number-clause-still
-returns-in_err-number-clause-still g c tells =
+pub returns-in_err-number-clause-caused_after : goal.returns-in_err-number-clause-caused_after
+returns-in_err-number-clause-caused_after g c tells =
     let t = g.S.Reads.state c.intern.new.space in
     let names = c.args.names.now.names in
     let now = c.intern.new.self.names in
     let command = commands.Set c.args.target c.args.key.now c.args.value.now in
     let fault = c.in_err-number.field-0.0 in
-    fault_exit of_intern (IsStillCaused command t names now) fault c.from_residual-in_err-number.result c.from_residual-in_err-number.ensures.1
+    fault_exit of_intern (IsCausedAfter command t names now) fault c.from_residual-in_err-number.result c.from_residual-in_err-number.ensures.1
     (record {
       caused = key_caused t t names now c.args.target c.args.key.now c.args.value.now fault
           (subst (λ k. IsFullFault names k fault) c.as_bytes.ensures c.in_err-number.ensures.full_only);
       damaged = intern_blamed _ fault;
     })
 
-pub returns-in_err-released-clause-still : goal.returns-in_err-released-clause-still
-returns-in_err-released-clause-still g c tells =
-    let after = (goal.at.returns-in_err-released-clause-still g c).After-indexed_value in
+pub returns-in_err-released-clause-caused_after : goal.returns-in_err-released-clause-caused_after
+returns-in_err-released-clause-caused_after g c tells =
+    let after = (goal.at.returns-in_err-released-clause-caused_after g c).After-indexed_value in
     let m = g.S.Reads.state c.find_owner.new.space in
     let n = g.S.Reads.state c.intern.new.space in
     let t = g.S.Reads.state c.set.new.space in
@@ -551,11 +551,11 @@ returns-in_err-released-clause-still g c tells =
     let v = g.S.Reads.state c.indexed_value.new.space in
     let kept = subst (λ (z : State). IsInUse z.records (owner_of target)) (sym c.indexed_value.ensures.same)
     (subst (λ (z : State). IsInUse z.records (owner_of target)) (sym is) (interned_in_use m names key target used)) in
-    fault_exit of_set (IsStillCaused command t names now) fault c.from_residual-in_err-released.result c.from_residual-in_err-released.ensures.1
+    fault_exit of_set (IsCausedAfter command t names now) fault c.from_residual-in_err-released.result c.from_residual-in_err-released.ensures.1
     (record {
       caused = set_caused t t names now target key c.args.value.now number numbered t.records refl fault
           (subst (λ (o : Owner). IsSetCause (IsCrowded t.records o number) (LacksMet t.records o number) blocks t fault) c.in_ok-owner.ensures.owner why);
-      damaged = set_blamed t fault (c.in_err-released.ensures.still tells (subst (IsInUse v.records) (sym c.in_ok-owner.ensures.owner) kept));
+      damaged = set_blamed t fault (c.in_err-released.ensures.damaged_after tells (subst (IsInUse v.records) (sym c.in_ok-owner.ensures.owner) kept));
     })
 
 -- ---- the entries
@@ -565,7 +565,7 @@ returns-in_err-entries-clause-leaves g c tells =
     let s = g.S.Reads.state c.args.space.now in
     let v = g.S.Reads.state c.change_entry.new.space in
     fault_exit (λ f. f) (LeavesSpace s v) c.in_err-entries.field-0.0 c.from_residual-in_err-entries.result c.from_residual-in_err-entries.ensures.1
-    (late_leaves s v c.in_err-entries.field-0.0 (c.in_err-entries.ensures.late tells))
+    (late_leaves s v c.in_err-entries.field-0.0 (c.in_err-entries.ensures.may_come_late tells))
 
 pub returns-in_err-entries-clause-cause : goal.returns-in_err-entries-clause-cause
 returns-in_err-entries-clause-cause g c =
@@ -623,16 +623,16 @@ returns-in_err-entries-clause-damaged g c tells =
     (blames_more _ _ (λ damage told. ⊎_elim (λ broken. inl broken) (λ found. inr (inr found)) (found_before s u v damage both shape told.0 told.1)) fault
     (blames_both _ _ fault (c.in_err-entries.ensures.blames tells) (c.in_err-entries.ensures.found tells had)))
 
-pub returns-in_err-held-clause-still : goal.returns-in_err-held-clause-still
-returns-in_err-held-clause-still g c tells =
-    let after = (goal.at.returns-in_err-held-clause-still g c).After-indexed_value in
+pub returns-in_err-held-clause-caused_after : goal.returns-in_err-held-clause-caused_after
+returns-in_err-held-clause-caused_after g c tells =
+    let after = (goal.at.returns-in_err-held-clause-caused_after g c).After-indexed_value in
     let i = g.S.Reads.state c.intern.new.space in
     let t = g.S.Reads.state c.indexed_value.new.space in
     let names = c.args.names.now.names in
     let now = c.intern.new.self.names in
     let command = commands.Set c.args.target c.args.key.now c.args.value.now in
     let fault = c.in_err-held.field-0.0 in
-    fault_exit (λ f. f) (IsStillCaused command t names now) fault c.from_residual-in_err-held.result c.from_residual-in_err-held.ensures.1
+    fault_exit (λ f. f) (IsCausedAfter command t names now) fault c.from_residual-in_err-held.result c.from_residual-in_err-held.ensures.1
     (record {
       caused = failure_caused command t t names now fault c.in_err-held.ensures.failure;
       damaged = broken_left i t c.indexed_value.ensures.same fault (c.in_err-held.ensures.damaged tells (used_before g after tells));
@@ -682,14 +682,14 @@ returns-in_err-entries-clause-caused g c tells =
     (entry_caused (commands.Set c.args.target c.args.key.now c.args.value.now) s t names now (inr (refl, node)) c.in_err-entries.field-0.0
     (c.in_err-entries.ensures.full tells))
 
-pub returns-in_err-entries-clause-still : goal.returns-in_err-entries-clause-still
-returns-in_err-entries-clause-still g c tells =
+pub returns-in_err-entries-clause-caused_after : goal.returns-in_err-entries-clause-caused_after
+returns-in_err-entries-clause-caused_after g c tells =
     let t = g.S.Reads.state c.change_entry.new.space in
     let names = c.args.names.now.names in
     let now = c.intern.new.self.names in
     let fault = c.in_err-entries.field-0.0 in
-    let node = of_node g (goal.at.returns-in_err-entries-clause-still g c).In_err-entries in
-    fault_exit (λ f. f) (IsStillCaused (commands.Set c.args.target c.args.key.now c.args.value.now) t names now) fault c.from_residual-in_err-entries.result
+    let node = of_node g (goal.at.returns-in_err-entries-clause-caused_after g c).In_err-entries in
+    fault_exit (λ f. f) (IsCausedAfter (commands.Set c.args.target c.args.key.now c.args.value.now) t names now) fault c.from_residual-in_err-entries.result
     c.from_residual-in_err-entries.ensures.1
     (record {
       caused = entry_caused (commands.Set c.args.target c.args.key.now c.args.value.now) t t names now (inr (refl, node)) fault
@@ -883,8 +883,8 @@ returns-clause-refused g c tells whole = tt
 pub returns-clause-caused : goal.returns-clause-caused
 returns-clause-caused g c tells = tt
 
-pub returns-clause-still : goal.returns-clause-still
-returns-clause-still g c tells = tt
+pub returns-clause-caused_after : goal.returns-clause-caused_after
+returns-clause-caused_after g c tells = tt
 
 pub returns-clause-damaged : goal.returns-clause-damaged
 returns-clause-damaged g c tells = tt

@@ -16,7 +16,7 @@ use Rattle.node_changes.proofs.Broken.{read_broken}
 use Rattle.change_parts.proofs.Broken.{blames_both, blames_more}
 use Rattle.node_changes.proofs.EntriesFaults.{owner_file}
 use Rattle.change_parts.proofs.IndexesLeft.{properties_leave}
-use Rattle.change_parts.specs.Causes.{IsCaused, IsStillCaused}
+use Rattle.change_parts.specs.Causes.{IsCaused, IsCausedAfter}
 use Rattle.change_parts.proofs.Causes.{absent_caused, any_blamed, caused_left, failure_caused}
 use Rattle.change_parts.proofs.Exits.{fault_exit, fault_fails, failure_late, late_leaves, read_leaves}
 use Rattle.change_parts.proofs.Readings.{made_read, there_read}
@@ -81,14 +81,14 @@ returns-in_err-owner-clause-caused g c tells =
 
 -- ---- and by the space as it is left alone
 
-pub returns-in_err-owner-clause-still : goal.returns-in_err-owner-clause-still
-returns-in_err-owner-clause-still g c tells =
+pub returns-in_err-owner-clause-caused_after : goal.returns-in_err-owner-clause-caused_after
+returns-in_err-owner-clause-caused_after g c tells =
     let s = g.S.Reads.state c.args.space.now in
     let t = g.S.Reads.state c.find_owner.new.space in
     let names = c.args.names.now.names in
     let command = commands.Unset c.args.target c.args.key.now in
     let fault = c.in_err-owner.field-0.0 in
-    fault_exit (λ f. f) (IsStillCaused command t names names) fault c.from_residual.result c.from_residual.ensures.1
+    fault_exit (λ f. f) (IsCausedAfter command t names names) fault c.from_residual.result c.from_residual.ensures.1
     (record {
       caused = caused_left command s t t names names c.find_owner.ensures.state fault
           (absent_caused command s t names names c.args.target (λ id e. e) (λ id e. e) fault (c.in_err-owner.ensures.absent tells));
@@ -160,13 +160,13 @@ returns-in_err-held-clause-caused g c tells =
     fault_exit (λ f. f) (IsCaused command s t names names) c.in_err-held.field-0.0 c.from_residual-in_err-held.result c.from_residual-in_err-held.ensures.1
     (failure_caused command s t names names c.in_err-held.field-0.0 c.in_err-held.ensures.failure)
 
-pub returns-in_err-held-clause-still : goal.returns-in_err-held-clause-still
-returns-in_err-held-clause-still g c tells =
+pub returns-in_err-held-clause-caused_after : goal.returns-in_err-held-clause-caused_after
+returns-in_err-held-clause-caused_after g c tells =
     let t = g.S.Reads.state c.indexed_value.new.space in
     let names = c.args.names.now.names in
     let command = commands.Unset c.args.target c.args.key.now in
     let fault = c.in_err-held.field-0.0 in
-    fault_exit (λ f. f) (IsStillCaused command t names names) fault c.from_residual-in_err-held.result c.from_residual-in_err-held.ensures.1
+    fault_exit (λ f. f) (IsCausedAfter command t names names) fault c.from_residual-in_err-held.result c.from_residual-in_err-held.ensures.1
     (record { caused = failure_caused command t t names names fault c.in_err-held.ensures.failure; damaged = any_blamed _ (λ damage. tt) fault })
 
 pub returns-in_err-held-clause-cause : goal.returns-in_err-held-clause-cause
@@ -210,13 +210,13 @@ returns-in_err-released-clause-caused g c tells =
     c.from_residual-in_err-released.ensures.1
     (failure_caused command s t names names (of_fault c.in_err-released.field-0.0) (fault_fails c.in_err-released.field-0.0))
 
-pub returns-in_err-released-clause-still : goal.returns-in_err-released-clause-still
-returns-in_err-released-clause-still g c tells =
+pub returns-in_err-released-clause-caused_after : goal.returns-in_err-released-clause-caused_after
+returns-in_err-released-clause-caused_after g c tells =
     let t = g.S.Reads.state c.unset.new.space in
     let names = c.args.names.now.names in
     let command = commands.Unset c.args.target c.args.key.now in
     let fault = of_fault c.in_err-released.field-0.0 in
-    fault_exit of_fault (IsStillCaused command t names names) c.in_err-released.field-0.0 c.from_residual-in_err-released.result
+    fault_exit of_fault (IsCausedAfter command t names names) c.in_err-released.field-0.0 c.from_residual-in_err-released.result
     c.from_residual-in_err-released.ensures.1 (record {
       caused = failure_caused command t t names names fault (fault_fails c.in_err-released.field-0.0);
       damaged = any_blamed _ (λ damage. tt) fault;
@@ -297,13 +297,13 @@ returns-in_err-entries-clause-caused g c tells =
     c.from_residual-in_err-entries.ensures.1
     (failure_caused command s t names names c.in_err-entries.field-0.0 c.in_err-entries.ensures.failure)
 
-pub returns-in_err-entries-clause-still : goal.returns-in_err-entries-clause-still
-returns-in_err-entries-clause-still g c tells =
+pub returns-in_err-entries-clause-caused_after : goal.returns-in_err-entries-clause-caused_after
+returns-in_err-entries-clause-caused_after g c tells =
     let t = g.S.Reads.state c.leave_entry.new.space in
     let names = c.args.names.now.names in
     let command = commands.Unset c.args.target c.args.key.now in
     let fault = c.in_err-entries.field-0.0 in
-    fault_exit (λ f. f) (IsStillCaused command t names names) fault c.from_residual-in_err-entries.result c.from_residual-in_err-entries.ensures.1
+    fault_exit (λ f. f) (IsCausedAfter command t names names) fault c.from_residual-in_err-entries.result c.from_residual-in_err-entries.ensures.1
     (record { caused = failure_caused command t t names names fault c.in_err-entries.ensures.failure; damaged = any_blamed _ (λ damage. tt) fault })
 
 pub returns-in_err-entries-clause-cause : goal.returns-in_err-entries-clause-cause

@@ -148,10 +148,11 @@ returns-in_err-id-clause-mishap g c tells store left =
     (c.in_err-id.ensures.mishap tells (c.loop-number.invariant.added tells store).kept (counts_left s m c.loop-number.number 1 12
     (c.loop-number.invariant.counted tells) (omega (arith, test)) left))
 
-pub returns-in_err-id-clause-still : goal.returns-in_err-id-clause-still
-returns-in_err-id-clause-still g c tells =
+pub returns-in_err-id-clause-damaged_after : goal.returns-in_err-id-clause-damaged_after
+returns-in_err-id-clause-damaged_after g c tells =
     let t = g.S.Reads.state c.add_record.new.space in
-    take_has (TakeBlamesBroken t.records t.shape) c.from_residual.result c.in_err-id.field-0.0 c.from_residual.ensures.1 (c.in_err-id.ensures.still tells)
+    take_has (TakeBlamesBroken t.records t.shape) c.from_residual.result c.in_err-id.field-0.0 c.from_residual.ensures.1
+    (c.in_err-id.ensures.damaged_after tells)
 
 pub returns-clause-added : goal.returns-clause-added
 returns-clause-added g c tells store =

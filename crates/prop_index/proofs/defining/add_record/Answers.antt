@@ -90,15 +90,15 @@ returns-in_err-put-clause-roomy g c tells left =
     let p = err_from_is_err_and c.from_residual-in_err-put.result c.from_residual-in_err-put.ensures.1 in
     rw (p.1, p.2) (space_roomy c.in_err-put.field-0.0)
 
-pub returns-in_err-id-clause-still : goal.returns-in_err-id-clause-still
-returns-in_err-id-clause-still g c tells =
+pub returns-in_err-id-clause-damaged_after : goal.returns-in_err-id-clause-damaged_after
+returns-in_err-id-clause-damaged_after g c tells =
     let s = g.S.Reads.state c.args.space.now in
     let now = g.S.Reads.state c.take.new.space in
     take_has (BlamesBroken now.records now.shape) c.from_residual.result c.in_err-id.field-0.0 c.from_residual.ensures.1
     (take_reread s now c.in_err-id.field-0.0 c.in_err-id.ensures.err (any_take s.records s.shape c.in_err-id.field-0.0 (c.in_err-id.ensures.damaged tells)))
 
-pub returns-in_err-put-clause-still : goal.returns-in_err-put-clause-still
-returns-in_err-put-clause-still g c tells =
+pub returns-in_err-put-clause-damaged_after : goal.returns-in_err-put-clause-damaged_after
+returns-in_err-put-clause-damaged_after g c tells =
     let t = g.S.Reads.state c.put.new.self in
     space_take t.records t.shape c.from_residual-in_err-put.result c.in_err-put.field-0.0 c.from_residual-in_err-put.ensures.1
 

@@ -322,8 +322,8 @@ returns-in_err-meta-clause-mishap g c tells store left =
 pub returns-in_err-meta-clause-roomy : goal.returns-in_err-meta-clause-roomy
 returns-in_err-meta-clause-roomy g c tells left = take_has IsNotFull c.from_residual.result _ c.from_residual.ensures.1 (space_roomy c.in_err-meta.field-0.0)
 
-pub returns-in_err-meta-clause-still : goal.returns-in_err-meta-clause-still
-returns-in_err-meta-clause-still g c tells =
+pub returns-in_err-meta-clause-damaged_after : goal.returns-in_err-meta-clause-damaged_after
+returns-in_err-meta-clause-damaged_after g c tells =
     let t = g.S.Reads.state c.get.new.self in
     space_take t.records t.shape c.from_residual.result c.in_err-meta.field-0.0 c.from_residual.ensures.1
 
@@ -343,11 +343,11 @@ returns-in_err-rec-clause-mishap g c tells store left =
     take_has IsMishap c.from_residual-in_err-rec.result c.in_err-rec.field-0.0 c.from_residual-in_err-rec.ensures.1
     (c.in_err-rec.ensures.mishap tells (subst KeepsStore (sym c.get.ensures.state) store) (left_read s a 12 c.get.ensures.state fewer))
 
-pub returns-in_err-rec-clause-still : goal.returns-in_err-rec-clause-still
-returns-in_err-rec-clause-still g c tells =
+pub returns-in_err-rec-clause-damaged_after : goal.returns-in_err-rec-clause-damaged_after
+returns-in_err-rec-clause-damaged_after g c tells =
     let t = g.S.Reads.state c.add_heads.new.space in
     take_has (TakeBlamesBroken t.records t.shape) c.from_residual-in_err-rec.result c.in_err-rec.field-0.0 c.from_residual-in_err-rec.ensures.1
-    (c.in_err-rec.ensures.still tells)
+    (c.in_err-rec.ensures.damaged_after tells)
 
 pub returns-in_err-id-clause-cause : goal.returns-in_err-id-clause-cause
 returns-in_err-id-clause-cause g c =
@@ -364,11 +364,11 @@ returns-in_err-id-clause-mishap g c tells store left =
     (c.in_err-id.ensures.mishap tells heads.kept (counts_left a m 12 1 13 (c.in_ok-rec.ensures.counted tells) (omega arith)
     (left_read s a 13 c.get.ensures.state left)))
 
-pub returns-in_err-id-clause-still : goal.returns-in_err-id-clause-still
-returns-in_err-id-clause-still g c tells =
+pub returns-in_err-id-clause-damaged_after : goal.returns-in_err-id-clause-damaged_after
+returns-in_err-id-clause-damaged_after g c tells =
     let t = g.S.Reads.state c.add_record.new.space in
     take_has (TakeBlamesBroken t.records t.shape) c.from_residual-in_err-id.result c.in_err-id.field-0.0 c.from_residual-in_err-id.ensures.1
-    (c.in_err-id.ensures.still tells)
+    (c.in_err-id.ensures.damaged_after tells)
 
 pub returns-in_err-set_number-clause-cause : goal.returns-in_err-set_number-clause-cause
 returns-in_err-set_number-clause-cause g c =
@@ -376,8 +376,8 @@ returns-in_err-set_number-clause-cause g c =
     (later_on (later_on c.in_ok-meta.ensures.cause.later c.in_ok-rec.ensures.cause.later) c.in_ok-id.ensures.cause.later)
     c.in_err-set_number.ensures.cause c.from_residual-in_err-set_number.ensures.1
 
-pub returns-in_err-set_number-clause-still : goal.returns-in_err-set_number-clause-still
-returns-in_err-set_number-clause-still g c tells =
+pub returns-in_err-set_number-clause-damaged_after : goal.returns-in_err-set_number-clause-damaged_after
+returns-in_err-set_number-clause-damaged_after g c tells =
     let t = g.S.Reads.state c.set_number.new.space in
     space_take t.records t.shape c.from_residual-in_err-set_number.result c.in_err-set_number.field-0.0 c.from_residual-in_err-set_number.ensures.1
 

@@ -20,11 +20,11 @@ returns-in_err-put_in_front-clause-touches g c = front_index 3 c.args.bucket.slo
 pub returns-clause-touches : goal.returns-clause-touches
 returns-clause-touches g c = front_index 3 c.args.bucket.slot.id c.args.bucket.first _ _ (omega arith) c.in_ok-put_in_front.ensures.touches
 
-pub returns-in_err-put_in_front-clause-still : goal.returns-in_err-put_in_front-clause-still
-returns-in_err-put_in_front-clause-still g c tells =
+pub returns-in_err-put_in_front-clause-damaged_after : goal.returns-in_err-put_in_front-clause-damaged_after
+returns-in_err-put_in_front-clause-damaged_after g c tells =
     let t = g.S.Reads.state c.put_in_front.new.space in
     take_has (BlamesBroken t.records t.shape) c.from_residual.result c.in_err-put_in_front.field-0.0 c.from_residual.ensures.1
-    (c.in_err-put_in_front.ensures.still tells)
+    (c.in_err-put_in_front.ensures.damaged_after tells)
 
 pub returns-in_err-put_in_front-clause-names : goal.returns-in_err-put_in_front-clause-names
 returns-in_err-put_in_front-clause-names g c tells = take_has TakeNamesIndexes c.from_residual.result c.in_err-put_in_front.field-0.0 c.from_residual.ensures.1

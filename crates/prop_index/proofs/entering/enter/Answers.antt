@@ -93,8 +93,8 @@ returns-in-Err-clause-damaged g c tells =
     let s = g.S.Reads.state c.args.space.now in
     subst (TakeBlamesBroken s.records s.shape) (sym c.of_read.ensures) (read_blames s.records s.shape c.in-Err.fault (c.in-Err.ensures.damaged tells))
 
-pub returns-in-Err-clause-still : goal.returns-in-Err-clause-still
-returns-in-Err-clause-still g c tells =
+pub returns-in-Err-clause-damaged_after : goal.returns-in-Err-clause-damaged_after
+returns-in-Err-clause-damaged_after g c tells =
     let s = g.S.Reads.state c.args.space.now in
     let now = g.S.Reads.state c.open_bucket.new.space in
     subst (TakeBlamesBroken now.records now.shape) (sym c.of_read.ensures)
@@ -182,8 +182,8 @@ returns-clause-damaged g c tells =
     let now = g.S.Reads.state c.open_bucket.new.space in
     if_err c.add_entry.result (λ fault is. take_before s now fault c.open_bucket.ensures.same (any_list now fault is)) (c.add_entry.ensures.damaged tells)
 
-pub returns-clause-still : goal.returns-clause-still
-returns-clause-still g c tells = c.add_entry.ensures.still tells
+pub returns-clause-damaged_after : goal.returns-clause-damaged_after
+returns-clause-damaged_after g c tells = c.add_entry.ensures.damaged_after tells
 
 pub returns-clause-graph : goal.returns-clause-graph
 returns-clause-graph g c tells wanted free ix can =

@@ -204,10 +204,11 @@ returns-in_err-firsts-clause-damaged g c tells heads =
     (blames_before s m format.index_file c.in_err-firsts.field-0.0 (c.loop-content.invariant.kept tells heads).0.harmless
     (c.in_err-firsts.ensures.damaged tells))
 
-pub returns-in_err-firsts-clause-still : goal.returns-in_err-firsts-clause-still
-returns-in_err-firsts-clause-still g c tells =
+pub returns-in_err-firsts-clause-damaged_after : goal.returns-in_err-firsts-clause-damaged_after
+returns-in_err-firsts-clause-damaged_after g c tells =
     let t = g.S.Reads.state c.put_in_front.new.space in
-    take_has (BlamesBroken t.records t.shape) c.from_residual.result c.in_err-firsts.field-0.0 c.from_residual.ensures.1 (c.in_err-firsts.ensures.still tells)
+    take_has (BlamesBroken t.records t.shape) c.from_residual.result c.in_err-firsts.field-0.0 c.from_residual.ensures.1
+    (c.in_err-firsts.ensures.damaged_after tells)
 
 pub returns-in_err-firsts-clause-filled : goal.returns-in_err-firsts-clause-filled
 returns-in_err-firsts-clause-filled g c _ _ _ _ _ _ _ _ = never_ok c.from_residual.result _ _ c.from_residual.ensures.1

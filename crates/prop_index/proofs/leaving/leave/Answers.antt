@@ -27,8 +27,8 @@ returns-in-Err-clause-damaged g c tells =
     (broken_after s t c.args.label c.args.key c.in-Err.fault c.name_index.result c.in-Err.ensures.unwritten c.name_index.ensures.passed
     (c.in-Err.ensures.wrong tells) (c.in-Err.ensures.other tells) (c.name_index.ensures.damaged tells))
 
-pub returns-in-Err-clause-still : goal.returns-in-Err-clause-still
-returns-in-Err-clause-still g c tells =
+pub returns-in-Err-clause-damaged_after : goal.returns-in-Err-clause-damaged_after
+returns-in-Err-clause-damaged_after g c tells =
     let s = g.S.Reads.state c.args.space.now in
     let t = g.S.Reads.state c.leave_bucket.new.space in
     blames_reread t (g.S.Reads.state c.name_index.new.space) c.name_index.result c.name_index.ensures.same

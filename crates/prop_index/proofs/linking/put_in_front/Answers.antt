@@ -137,8 +137,8 @@ returns-in_err-id-clause-kept g c _ _ _ _ = never_ok c.from_residual.result _ _ 
 pub returns-in_err-link-clause-kept : goal.returns-in_err-link-clause-kept
 returns-in_err-link-clause-kept g c _ _ _ _ = never_ok c.from_residual-in_err-link.result _ _ c.from_residual-in_err-link.ensures.1
 
-pub returns-in_err-id-clause-still : goal.returns-in_err-id-clause-still
-returns-in_err-id-clause-still g c tells =
+pub returns-in_err-id-clause-damaged_after : goal.returns-in_err-id-clause-damaged_after
+returns-in_err-id-clause-damaged_after g c tells =
     let s = g.S.Reads.state c.args.space.now in
     let now = g.S.Reads.state c.take.new.space in
     take_has (BlamesBroken now.records now.shape) c.from_residual.result c.in_err-id.field-0.0 c.from_residual.ensures.1
@@ -150,8 +150,8 @@ returns-in_err-link-clause-damaged g c tells =
     take_has (BlamesList s format.index_file) c.from_residual-in_err-link.result _ c.from_residual-in_err-link.ensures.1
     (list_of_space s format.index_file c.in_err-link.field-0.0)
 
-pub returns-in_err-link-clause-still : goal.returns-in_err-link-clause-still
-returns-in_err-link-clause-still g c tells =
+pub returns-in_err-link-clause-damaged_after : goal.returns-in_err-link-clause-damaged_after
+returns-in_err-link-clause-damaged_after g c tells =
     let t = g.S.Reads.state c.link.new.space in
     space_take t.records t.shape c.from_residual-in_err-link.result c.in_err-link.field-0.0 c.from_residual-in_err-link.ensures.1
 

@@ -247,24 +247,24 @@ returns-clause-caused g c tells =
     (roomy_cause s c.args.label c.args.key c.in-Err.fault (c.in-Err.ensures.roomy tells (subst (λ n. HasLeft (g.S.Reads.state c.collect.new.space) (13 + n)) len
     (c.has_room.ensures.0 c.if-not-has_room.false))))
 
-pub returns-in_err-test_pair-clause-still : goal.returns-in_err-test_pair-clause-still
-returns-in_err-test_pair-clause-still g c tells =
+pub returns-in_err-test_pair-clause-damaged_after : goal.returns-in_err-test_pair-clause-damaged_after
+returns-in_err-test_pair-clause-damaged_after g c tells =
     let s = g.S.Reads.state c.args.space.now in
     let a = g.S.Reads.state c.test_pair.new.space in
     let p = err_from_is_err_and c.from_residual.result c.from_residual.ensures.1 in
     rw (p.1, p.2) (make_reread s a c.in_err-test_pair.field-0.0 (reads_same 17 s a c.test_pair.ensures.reads) (c.in_err-test_pair.ensures.damaged tells))
 
-pub returns-in_err-contents-clause-still : goal.returns-in_err-contents-clause-still
-returns-in_err-contents-clause-still g c tells =
+pub returns-in_err-contents-clause-damaged_after : goal.returns-in_err-contents-clause-damaged_after
+returns-in_err-contents-clause-damaged_after g c tells =
     let a = g.S.Reads.state c.test_pair.new.space in
     let b = g.S.Reads.state c.collect.new.space in
     let p = err_from_is_err_and c.from_residual-in_err-contents.result c.from_residual-in_err-contents.ensures.1 in
     rw (p.1, p.2) (make_reread a b c.in_err-contents.field-0.0 c.collect.ensures.same (c.in_err-contents.ensures.damaged tells))
 
-pub returns-clause-still : goal.returns-clause-still
-returns-clause-still g c tells =
+pub returns-clause-damaged_after : goal.returns-clause-damaged_after
+returns-clause-damaged_after g c tells =
     let t = g.S.Reads.state c.write_index.new.space in
-    subst (BlamesBroken t.records t.shape) (sym c.of_take.ensures) (take_make t.records t.shape c.in-Err.fault (c.in-Err.ensures.still tells))
+    subst (BlamesBroken t.records t.shape) (sym c.of_take.ensures) (take_make t.records t.shape c.in-Err.fault (c.in-Err.ensures.damaged_after tells))
 
 -- ---- which record is blamed
 

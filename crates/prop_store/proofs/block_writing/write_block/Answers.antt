@@ -24,8 +24,9 @@ returns-clause-written g c tells keeps follows =
     c.ranges.next.fits c.block_record.ensures (c.in_ok-id.ensures.taken tells) c.in_ok-id.ensures.small c.in_ok-id.ensures.key
     c.in_ok-put.ensures.ok keeps follows
 
-pub returns-clause-beside : goal.returns-clause-beside
-returns-clause-beside g c tells = beside_put (g.S.Reads.state c.args.space.now) (g.S.Reads.state c.take.new.space) (g.S.Reads.state c.put.new.self) strings_file
+pub returns-clause-other_files : goal.returns-clause-other_files
+returns-clause-other_files g c tells = beside_put (g.S.Reads.state c.args.space.now) (g.S.Reads.state c.take.new.space)
+    (g.S.Reads.state c.put.new.self) strings_file
     c.in_ok-id.id c.block_record.result (c.in_ok-id.ensures.ok tells) c.in_ok-put.ensures.ok
 
 pub returns-in_err-id-clause-touches : goal.returns-in_err-id-clause-touches
@@ -77,15 +78,15 @@ returns-in_err-id-clause-caused g c tells =
     take_has (IsTextCause t 1) c.from_residual.result c.in_err-id.field-0.0 c.from_residual.ensures.1
     (text_caused s t c.in_err-id.field-0.0 (c.in_err-id.ensures.refused tells) c.in_err-id.ensures.err)
 
-pub returns-in_err-id-clause-still : goal.returns-in_err-id-clause-still
-returns-in_err-id-clause-still g c tells =
+pub returns-in_err-id-clause-damaged_after : goal.returns-in_err-id-clause-damaged_after
+returns-in_err-id-clause-damaged_after g c tells =
     let s = g.S.Reads.state c.args.space.now in
     let t = g.S.Reads.state c.take.new.space in
     take_has (BlamesBroken t.records t.shape) c.from_residual.result c.in_err-id.field-0.0 c.from_residual.ensures.1
     (take_still s t c.in_err-id.field-0.0 (c.in_err-id.ensures.damaged tells) c.in_err-id.ensures.err)
 
-pub returns-in_err-put-clause-still : goal.returns-in_err-put-clause-still
-returns-in_err-put-clause-still g c tells =
+pub returns-in_err-put-clause-damaged_after : goal.returns-in_err-put-clause-damaged_after
+returns-in_err-put-clause-damaged_after g c tells =
     let t = g.S.Reads.state c.put.new.self in
     take_has (BlamesBroken t.records t.shape) c.from_residual-in_err-put.result _ c.from_residual-in_err-put.ensures.1
     (take_still_space t c.in_err-put.field-0.0)
@@ -98,8 +99,8 @@ returns-in_err-put-clause-caused g c tells =
 pub returns-in_err-id-clause-written : goal.returns-in_err-id-clause-written
 returns-in_err-id-clause-written g c _ = never_ok c.from_residual.result _ _ c.from_residual.ensures.1
 
-pub returns-in_err-id-clause-beside : goal.returns-in_err-id-clause-beside
-returns-in_err-id-clause-beside g c _ = never_ok c.from_residual.result _ _ c.from_residual.ensures.1
+pub returns-in_err-id-clause-other_files : goal.returns-in_err-id-clause-other_files
+returns-in_err-id-clause-other_files g c _ = never_ok c.from_residual.result _ _ c.from_residual.ensures.1
 
 pub returns-in_err-id-clause-onward : goal.returns-in_err-id-clause-onward
 returns-in_err-id-clause-onward g c = search rules
@@ -107,5 +108,5 @@ returns-in_err-id-clause-onward g c = search rules
 pub returns-in_err-put-clause-written : goal.returns-in_err-put-clause-written
 returns-in_err-put-clause-written g c _ = never_ok c.from_residual-in_err-put.result _ _ c.from_residual-in_err-put.ensures.1
 
-pub returns-in_err-put-clause-beside : goal.returns-in_err-put-clause-beside
-returns-in_err-put-clause-beside g c _ = never_ok c.from_residual-in_err-put.result _ _ c.from_residual-in_err-put.ensures.1
+pub returns-in_err-put-clause-other_files : goal.returns-in_err-put-clause-other_files
+returns-in_err-put-clause-other_files g c _ = never_ok c.from_residual-in_err-put.result _ _ c.from_residual-in_err-put.ensures.1

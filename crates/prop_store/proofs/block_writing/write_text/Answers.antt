@@ -56,7 +56,8 @@ loop-left-preserved g c =
           (c.in_ok-first.ensures.written tells (keeps_now old now (drop (48 * left) text) c.loop-left.first shape stands)
           (may_follow old now (drop (48 * left) text) c.loop-left.first shape stands));
       few = omega arith;
-      beside = λ tells. beside_then strings_file old.records now.records then.records (c.loop-left.invariant.beside tells) (c.in_ok-first.ensures.beside tells);
+      beside = λ tells. beside_then strings_file old.records now.records then.records (c.loop-left.invariant.beside tells)
+          (c.in_ok-first.ensures.other_files tells);
       harmless = λ tells. harms_none_then old now then strings_file (c.loop-left.invariant.harmless tells) (c.in_ok-first.ensures.harmless tells);
       touches = touches_then [] 0 (blocks_for (length text) - left) 0 1 0 _ old now then (omega arith) (omega arith) c.loop-left.invariant.touches
           c.write_block.ensures.touches;
@@ -112,13 +113,14 @@ returns-in_err-first-clause-caused g c tells =
     take_has (IsTextCause t count) c.from_residual.result c.in_err-first.field-0.0 c.from_residual.ensures.1
     (text_caused_more t count (omega arith) c.in_err-first.field-0.0 (c.in_err-first.ensures.caused tells))
 
-pub returns-in_err-first-clause-still : goal.returns-in_err-first-clause-still
-returns-in_err-first-clause-still g c tells =
+pub returns-in_err-first-clause-damaged_after : goal.returns-in_err-first-clause-damaged_after
+returns-in_err-first-clause-damaged_after g c tells =
     let t = g.S.Reads.state c.write_block.new.space in
-    take_has (BlamesBroken t.records t.shape) c.from_residual.result c.in_err-first.field-0.0 c.from_residual.ensures.1 (c.in_err-first.ensures.still tells)
+    take_has (BlamesBroken t.records t.shape) c.from_residual.result c.in_err-first.field-0.0 c.from_residual.ensures.1
+    (c.in_err-first.ensures.damaged_after tells)
 
 pub returns-in_err-first-clause-written : goal.returns-in_err-first-clause-written
 returns-in_err-first-clause-written g c _ = never_ok c.from_residual.result _ _ c.from_residual.ensures.1
 
-pub returns-in_err-first-clause-beside : goal.returns-in_err-first-clause-beside
-returns-in_err-first-clause-beside g c _ = never_ok c.from_residual.result _ _ c.from_residual.ensures.1
+pub returns-in_err-first-clause-other_files : goal.returns-in_err-first-clause-other_files
+returns-in_err-first-clause-other_files g c _ = never_ok c.from_residual.result _ _ c.from_residual.ensures.1

@@ -50,8 +50,8 @@ returns-clause-dropped g c tells es held =
       changes = all_dropped s a b t es c.args.first c.as_slice-ids.result.now c.as_slice-blocks.result.now held (reads_same 736 s a c.find_held.ensures.at_most)
           ids_are blocks_are
           (g.met.S.Reads.onward_shape _ _ (g.met.S.Reads.further_onward _ _ _ c.find_held.ensures.onward c.release.ensures.onward))
-          (c.in_ok-release.ensures.released tells) (c.in_ok-release.ensures.beside tells) (c.in_ok-release_properties.ensures.released tells)
-          (c.in_ok-release_properties.ensures.beside tells);
+          (c.in_ok-release.ensures.released tells) (c.in_ok-release.ensures.other_files tells) (c.in_ok-release_properties.ensures.released tells)
+          (c.in_ok-release_properties.ensures.other_files tells);
     }
 
 pub returns-in_err-held-clause-at_most : goal.returns-in_err-held-clause-at_most

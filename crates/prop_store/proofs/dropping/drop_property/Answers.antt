@@ -35,7 +35,7 @@ returns-clause-dropped g c tells e held =
     record {
       released_is = ap (λ (xs : List ℕ). length xs) ids_are;
       changes = property_dropped s a b t c.args.row.now e c.as_slice-ids.result.now held (reads_same 22 s a c.value_blocks.ensures.at_most) ids_are
-          (c.in_ok-release.ensures.released tells) (c.in_ok-release.ensures.beside tells) (c.in_ok-give.ensures.given tells);
+          (c.in_ok-release.ensures.released tells) (c.in_ok-release.ensures.other_files tells) (c.in_ok-give.ensures.given tells);
     }
 
 pub returns-in_err-blocks-clause-at_most : goal.returns-in_err-blocks-clause-at_most

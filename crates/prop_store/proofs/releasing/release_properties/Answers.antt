@@ -44,8 +44,8 @@ loop-id-preserved g c =
 pub returns-in_err-give-clause-released : goal.returns-in_err-give-clause-released
 returns-in_err-give-clause-released g c _ = never_ok c.from_residual.result _ _ c.from_residual.ensures.1
 
-pub returns-in_err-give-clause-beside : goal.returns-in_err-give-clause-beside
-returns-in_err-give-clause-beside g c _ = never_ok c.from_residual.result _ _ c.from_residual.ensures.1
+pub returns-in_err-give-clause-other_files : goal.returns-in_err-give-clause-other_files
+returns-in_err-give-clause-other_files g c _ = never_ok c.from_residual.result _ _ c.from_residual.ensures.1
 
 pub returns-clause-cause : goal.returns-clause-cause
 returns-clause-cause g c = ok_cause _ _ _ _ (omega arith)
@@ -61,8 +61,8 @@ returns-in_err-give-clause-onward g c = g.met.S.Reads.further_onward _ _ _ c.loo
 pub returns-clause-onward : goal.returns-clause-onward
 returns-clause-onward g c = c.loop-id.invariant.onward
 
-pub returns-clause-beside : goal.returns-clause-beside
-returns-clause-beside g c = c.loop-id.invariant.beside
+pub returns-clause-other_files : goal.returns-clause-other_files
+returns-clause-other_files g c = c.loop-id.invariant.beside
 
 pub returns-clause-touches : goal.returns-clause-touches
 returns-clause-touches g c = c.loop-id.invariant.touches

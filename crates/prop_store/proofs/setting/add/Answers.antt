@@ -233,18 +233,19 @@ returns-in_err-set_number-clause-caused g c tells =
 
 -- ---- what is blamed is broken still
 
-pub returns-in_err-next-clause-still : goal.returns-in_err-next-clause-still
-returns-in_err-next-clause-still g c tells =
+pub returns-in_err-next-clause-damaged_after : goal.returns-in_err-next-clause-damaged_after
+returns-in_err-next-clause-damaged_after g c tells =
     let t = g.S.Reads.state c.first.new.space in
     set_has (SetBlamesBroken t) c.from_residual.result _ c.from_residual.ensures.1 (set_still_space t c.in_err-next.field-0.0)
 
-pub returns-in_err-id-clause-still : goal.returns-in_err-id-clause-still
-returns-in_err-id-clause-still g c tells =
+pub returns-in_err-id-clause-damaged_after : goal.returns-in_err-id-clause-damaged_after
+returns-in_err-id-clause-damaged_after g c tells =
     let t = g.S.Reads.state c.put_new.new.space in
-    set_has (SetBlamesBroken t) c.from_residual-in_err-id.result c.in_err-id.field-0.0 c.from_residual-in_err-id.ensures.1 (c.in_err-id.ensures.still tells)
+    set_has (SetBlamesBroken t) c.from_residual-in_err-id.result c.in_err-id.field-0.0 c.from_residual-in_err-id.ensures.1
+    (c.in_err-id.ensures.damaged_after tells)
 
-pub returns-in_err-set_number-clause-still : goal.returns-in_err-set_number-clause-still
-returns-in_err-set_number-clause-still g c tells =
+pub returns-in_err-set_number-clause-damaged_after : goal.returns-in_err-set_number-clause-damaged_after
+returns-in_err-set_number-clause-damaged_after g c tells =
     let t = g.S.Reads.state c.set_number.new.space in
     set_has (SetBlamesBroken t) c.from_residual-in_err-set_number.result _ c.from_residual-in_err-set_number.ensures.1
     (set_still_space t c.in_err-set_number.field-0.0)

@@ -46,7 +46,8 @@ returns-in_err-first-clause-refused g c tells e held =
     let b = g.S.Reads.state c.release.new.space in
     rw (p.1, p.2) (again_text_fault s a b c.args.row.now e c.as_slice-ids.result.now held (reads_same 22 s a c.value_blocks.ensures.at_most)
     (c.as_slice-ids.ensures.is ∙ c.in_ok-blocks.ensures.followed tells e.value e.blocks held.value)
-    (c.in_ok-release.ensures.released tells) (c.in_ok-release.ensures.beside tells) (g.met.S.Reads.onward_shape _ _ c.release.ensures.onward) c.args.value.now
+    (c.in_ok-release.ensures.released tells) (c.in_ok-release.ensures.other_files tells)
+    (g.met.S.Reads.onward_shape _ _ c.release.ensures.onward) c.args.value.now
     c.long_bytes.result.now c.long_bytes.ensures.is c.in_err-first.field-0.0 (c.in_err-first.ensures.refused tells))
 
 pub returns-clause-put : goal.returns-clause-put
@@ -59,11 +60,11 @@ returns-clause-put g c tells e held may =
     let ids_are = c.as_slice-ids.ensures.is ∙ c.in_ok-blocks.ensures.followed tells e.value e.blocks held.value in (
       ap (λ (xs : List ℕ). length xs) ids_are,
       again_put s a b c.args.row.now e c.as_slice-ids.result.now held (reads_same 22 s a c.value_blocks.ensures.at_most) ids_are
-          (c.in_ok-release.ensures.released tells) (c.in_ok-release.ensures.beside tells) (g.met.S.Reads.onward_shape _ _ c.release.ensures.onward)
+          (c.in_ok-release.ensures.released tells) (c.in_ok-release.ensures.other_files tells) (g.met.S.Reads.onward_shape _ _ c.release.ensures.onward)
           d t c.long_bytes.result.now c.in_ok-first.first c.number-key.result c.number-next.result (field 4 c.args.row.now.rec property_key)
           (field 4 c.args.row.now.rec property_next) c.args.value.now c.property_record.result
           c.number-key.ensures c.number-next.ensures c.requires.kept (omega (arith, c.number-key.type_inv)) (omega (arith, c.number-next.type_inv))
-          c.long_bytes.ensures.is c.property_record.ensures c.requires.row.small (c.in_ok-first.ensures.written tells) (c.in_ok-first.ensures.beside tells)
+          c.long_bytes.ensures.is c.property_record.ensures c.requires.row.small (c.in_ok-first.ensures.written tells) (c.in_ok-first.ensures.other_files tells)
           c.in_ok-put.ensures.ok may,
     )
 
@@ -166,8 +167,8 @@ returns-in_err-put-clause-caused g c tells =
 
 -- ---- what is blamed is broken still
 
-pub returns-in_err-blocks-clause-still : goal.returns-in_err-blocks-clause-still
-returns-in_err-blocks-clause-still g c tells read =
+pub returns-in_err-blocks-clause-damaged_after : goal.returns-in_err-blocks-clause-damaged_after
+returns-in_err-blocks-clause-damaged_after g c tells read =
     let s = g.S.Reads.state c.args.space.now in
     let t = g.S.Reads.state c.value_blocks.new.space in
     let fault = c.in_err-blocks.field-0.0 in
@@ -175,27 +176,27 @@ returns-in_err-blocks-clause-still g c tells read =
     (set_still_fault s t fault (text_blames s c.args.row.now.id fault (c.in_err-blocks.ensures.damaged tells read))
     (reads_same 22 s t c.value_blocks.ensures.at_most))
 
-pub returns-in_err-test_free-clause-still : goal.returns-in_err-test_free-clause-still
-returns-in_err-test_free-clause-still g c tells read =
+pub returns-in_err-test_free-clause-damaged_after : goal.returns-in_err-test_free-clause-damaged_after
+returns-in_err-test_free-clause-damaged_after g c tells read =
     let t = g.S.Reads.state c.value_blocks.new.space in
     let fault = c.in_err-test_free.field-0.0 in
     set_has (SetBlamesBroken t) c.from_residual-in_err-test_free.result _ c.from_residual-in_err-test_free.ensures.1
     (set_still_fault t t fault (subst (BlamesBroken t.records t.shape) (sym c.in_err-test_free.ensures.named)
     (strings_free t c.in_err-test_free.ensures.broken)) refl)
 
-pub returns-in_err-release-clause-still : goal.returns-in_err-release-clause-still
-returns-in_err-release-clause-still g c tells read =
+pub returns-in_err-release-clause-damaged_after : goal.returns-in_err-release-clause-damaged_after
+returns-in_err-release-clause-damaged_after g c tells read =
     let t = g.S.Reads.state c.release.new.space in
     set_has (SetBlamesBroken t) c.from_residual-in_err-release.result _ c.from_residual-in_err-release.ensures.1 (set_still_space t c.in_err-release.field-0.0)
 
-pub returns-in_err-first-clause-still : goal.returns-in_err-first-clause-still
-returns-in_err-first-clause-still g c tells read =
+pub returns-in_err-first-clause-damaged_after : goal.returns-in_err-first-clause-damaged_after
+returns-in_err-first-clause-damaged_after g c tells read =
     let t = g.S.Reads.state c.write_text.new.space in
     set_has (SetBlamesBroken t) c.from_residual-in_err-first.result _ c.from_residual-in_err-first.ensures.1
-    (set_still_take t c.in_err-first.field-0.0 (c.in_err-first.ensures.still tells))
+    (set_still_take t c.in_err-first.field-0.0 (c.in_err-first.ensures.damaged_after tells))
 
-pub returns-in_err-put-clause-still : goal.returns-in_err-put-clause-still
-returns-in_err-put-clause-still g c tells read =
+pub returns-in_err-put-clause-damaged_after : goal.returns-in_err-put-clause-damaged_after
+returns-in_err-put-clause-damaged_after g c tells read =
     let t = g.S.Reads.state c.put.new.self in
     set_has (SetBlamesBroken t) c.from_residual-in_err-put.result _ c.from_residual-in_err-put.ensures.1 (set_still_space t c.in_err-put.field-0.0)
 

@@ -24,7 +24,7 @@ returns-in_err-id-clause-refused g c tells strings properties room =
     let s = g.S.Reads.state c.args.space.now in
     let a = g.S.Reads.state c.write_text.new.space in
     rw (p.1, p.2) (take_put_fault s a c.long_bytes.result.now c.in_ok-first.first (blocks_of c.args.value.now) c.in_err-id.field-0.0
-    (c.in_ok-first.ensures.written tells strings) (c.in_ok-first.ensures.beside tells) (g.met.S.Reads.onward_shape _ _ c.in_ok-first.ensures.onward)
+    (c.in_ok-first.ensures.written tells strings) (c.in_ok-first.ensures.other_files tells) (g.met.S.Reads.onward_shape _ _ c.in_ok-first.ensures.onward)
     (c.in_err-id.ensures.refused tells) (c.in_err-id.ensures.sound tells) properties room)
 
 pub returns-clause-put : goal.returns-clause-put
@@ -32,7 +32,7 @@ returns-clause-put g c tells strings properties may =
     property_put (g.S.Reads.state c.args.space.now) (g.S.Reads.state c.write_text.new.space) (g.S.Reads.state c.take.new.space) (g.S.Reads.state c.put.new.self)
     c.long_bytes.result.now c.in_ok-first.first c.in_ok-id.id c.args.key c.args.next c.args.value.now
     c.property_record.result c.requires c.ranges.key.fits c.ranges.next.fits c.long_bytes.ensures.is c.property_record.ensures
-    (c.in_ok-first.ensures.written tells strings) (c.in_ok-first.ensures.beside tells) (g.met.S.Reads.onward_shape _ _ c.in_ok-first.ensures.onward)
+    (c.in_ok-first.ensures.written tells strings) (c.in_ok-first.ensures.other_files tells) (g.met.S.Reads.onward_shape _ _ c.in_ok-first.ensures.onward)
     (c.in_ok-id.ensures.taken tells) c.in_ok-id.ensures.small c.in_ok-id.ensures.key (c.in_ok-id.ensures.ok tells) c.in_ok-put.ensures.ok properties may
 
 pub returns-in_err-first-clause-touches : goal.returns-in_err-first-clause-touches
@@ -71,7 +71,7 @@ returns-in_err-id-clause-damaged g c tells =
     let s = g.S.Reads.state c.args.space.now in
     let a = g.S.Reads.state c.write_text.new.space in
     set_has (BlamesLists s) c.from_residual-in_err-id.result _ c.from_residual-in_err-id.ensures.1
-    (property_take s a (c.in_ok-first.ensures.beside tells) (g.met.S.Reads.onward_shape _ _ c.in_ok-first.ensures.onward) c.in_err-id.field-0.0
+    (property_take s a (c.in_ok-first.ensures.other_files tells) (g.met.S.Reads.onward_shape _ _ c.in_ok-first.ensures.onward) c.in_err-id.field-0.0
     (c.in_err-id.ensures.refused tells))
 
 pub returns-in_err-put-clause-damaged : goal.returns-in_err-put-clause-damaged
@@ -87,7 +87,7 @@ returns-clause-harmless g c tells =
     let a = g.S.Reads.state c.write_text.new.space in
     put_harms_no_lists s a (g.S.Reads.state c.take.new.space) (g.S.Reads.state c.put.new.self) c.in_ok-id.id c.args.key c.in_ok-first.first c.args.next
     c.args.value.now c.property_record.result c.requires c.property_record.ensures
-    (c.in_ok-first.ensures.harmless tells) (c.in_ok-first.ensures.beside tells) (g.met.S.Reads.onward_shape _ _ c.in_ok-first.ensures.onward)
+    (c.in_ok-first.ensures.harmless tells) (c.in_ok-first.ensures.other_files tells) (g.met.S.Reads.onward_shape _ _ c.in_ok-first.ensures.onward)
     (c.in_ok-id.ensures.ok tells) c.in_ok-id.ensures.is (c.in_ok-id.ensures.undamaged tells)
     (c.in_ok-id.ensures.fresh tells) c.in_ok-id.ensures.key.id c.in_ok-id.ensures.small c.in_ok-put.ensures.ok
 
@@ -121,7 +121,7 @@ returns-in_err-id-clause-caused g c tells =
     let n = blocks_of c.args.value.now in
     let full = (meta_of s properties_file).live ≡ room_of s.shape properties_file in
     set_has (IsSetCause ⊥ full n t) c.from_residual-in_err-id.result _ c.from_residual-in_err-id.ensures.1
-    (set_caused_take ⊥ full a t n c.in_err-id.field-0.0 (full_before s a (c.in_ok-first.ensures.beside tells)
+    (set_caused_take ⊥ full a t n c.in_err-id.field-0.0 (full_before s a (c.in_ok-first.ensures.other_files tells)
     (g.met.S.Reads.onward_shape _ _ c.in_ok-first.ensures.onward)) (c.in_err-id.ensures.refused tells) c.in_err-id.ensures.err)
 
 pub returns-in_err-put-clause-caused : goal.returns-in_err-put-clause-caused
@@ -135,22 +135,22 @@ returns-in_err-put-clause-caused g c tells =
 
 -- ---- what is blamed is broken still
 
-pub returns-in_err-first-clause-still : goal.returns-in_err-first-clause-still
-returns-in_err-first-clause-still g c tells =
+pub returns-in_err-first-clause-damaged_after : goal.returns-in_err-first-clause-damaged_after
+returns-in_err-first-clause-damaged_after g c tells =
     let t = g.S.Reads.state c.write_text.new.space in
     set_has (SetBlamesBroken t) c.from_residual.result _ c.from_residual.ensures.1
-    (set_still_take t c.in_err-first.field-0.0 (c.in_err-first.ensures.still tells))
+    (set_still_take t c.in_err-first.field-0.0 (c.in_err-first.ensures.damaged_after tells))
 
-pub returns-in_err-id-clause-still : goal.returns-in_err-id-clause-still
-returns-in_err-id-clause-still g c tells =
+pub returns-in_err-id-clause-damaged_after : goal.returns-in_err-id-clause-damaged_after
+returns-in_err-id-clause-damaged_after g c tells =
     let a = g.S.Reads.state c.write_text.new.space in
     let t = g.S.Reads.state c.take.new.space in
     let fault = c.in_err-id.field-0.0 in
     set_has (SetBlamesBroken t) c.from_residual-in_err-id.result _ c.from_residual-in_err-id.ensures.1
     (set_still_take t fault (take_still a t fault (c.in_err-id.ensures.damaged tells) c.in_err-id.ensures.err))
 
-pub returns-in_err-put-clause-still : goal.returns-in_err-put-clause-still
-returns-in_err-put-clause-still g c tells =
+pub returns-in_err-put-clause-damaged_after : goal.returns-in_err-put-clause-damaged_after
+returns-in_err-put-clause-damaged_after g c tells =
     let t = g.S.Reads.state c.put.new.self in
     set_has (SetBlamesBroken t) c.from_residual-in_err-put.result _ c.from_residual-in_err-put.ensures.1 (set_still_space t c.in_err-put.field-0.0)
 

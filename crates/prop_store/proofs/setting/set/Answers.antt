@@ -300,26 +300,26 @@ returns-in-Found-clause-caused g c tells =
 
 -- ---- what is blamed is broken still
 
-pub returns-in_err-count-clause-still : goal.returns-in_err-count-clause-still
-returns-in_err-count-clause-still g c tells used =
+pub returns-in_err-count-clause-damaged_after : goal.returns-in_err-count-clause-damaged_after
+returns-in_err-count-clause-damaged_after g c tells used =
     let s = g.S.Reads.state c.args.space.now in
     let t = g.S.Reads.state c.find.new.space in
     set_has (SetBlamesBroken t) c.from_residual.result _ c.from_residual.ensures.1
     (set_still_fault s t c.in_err-count.field-0.0 (c.in_err-count.ensures.damaged tells used) (reads_same 33 s t c.find.ensures.at_most))
 
-pub returns-in_err-add-in-Absent-clause-still : goal.returns-in_err-add-in-Absent-clause-still
-returns-in_err-add-in-Absent-clause-still g c tells used =
+pub returns-in_err-add-in-Absent-clause-damaged_after : goal.returns-in_err-add-in-Absent-clause-damaged_after
+returns-in_err-add-in-Absent-clause-damaged_after g c tells used =
     let t = g.S.Reads.state c.add.new.space in
     set_has (SetBlamesBroken t) c.from_residual-in_err-add-in-Absent.result c.in_err-add-in-Absent.field-0.0 c.from_residual-in_err-add-in-Absent.ensures.1
-    (c.in_err-add-in-Absent.ensures.still tells)
+    (c.in_err-add-in-Absent.ensures.damaged_after tells)
 
-pub returns-in-Found-clause-still : goal.returns-in-Found-clause-still
-returns-in-Found-clause-still g c tells used =
+pub returns-in-Found-clause-damaged_after : goal.returns-in-Found-clause-damaged_after
+returns-in-Found-clause-damaged_after g c tells used =
     let s = g.S.Reads.state c.args.space.now in
     let z = g.S.Reads.state c.find.new.space in
     let read = subst (λ (r : Records). IsReadRow r c.find.new.row) (sym (reads_records 33 s z c.find.ensures.at_most))
     (subst (IsReadAt s.records c.find.new.row) c.in-Found.is (c.in_ok-count.ensures.read tells)) in
-    c.put_again.ensures.still tells read
+    c.put_again.ensures.damaged_after tells read
 
 pub returns-in_err-add-in-Absent-clause-cause : goal.returns-in_err-add-in-Absent-clause-cause
 returns-in_err-add-in-Absent-clause-cause g c =
