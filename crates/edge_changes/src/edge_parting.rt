@@ -10,10 +10,12 @@ ghost use Rattle.chain_edit.specs.Heads.{head_of};
 ghost use Rattle.group_store.specs.Leaving.{KeepsHeads};
 ghost use Rattle.change_parts.specs.ChangeFault.{HasChangeCause, IsFailure, IsOutside};
 ghost use Rattle.change_parts.specs.Damage.{BlamesBroken, IfBlames};
-ghost use Rattle.edge_changes.specs.EdgeDeleting.{HasPlace, IsBareEdge, IsCutDamage, IsPartedDamage};
+ghost use Rattle.edge_changes.specs.EdgeDeleting.{HasPlace, IsBareEdge, IsCutDamage};
+ghost use Rattle.edge_changes.specs.EdgeDeleting.{IsPartedDamage};
 ghost use Rattle.edge_changes.specs.EdgeDeleting.{IsPlacedEdge, KeepsGroups, PartsEdge, WritesEnds};
 ghost use Rattle.edge_changes.specs.EdgeEnds.{AreEdgeEnds, AtEach, HasRightLinks, HaveRightLinks};
-ghost use Rattle.edge_changes.specs.EdgeEnds.{HasHead, IsEdgeEnd, end_keys, end_parted, ends_parted};
+ghost use Rattle.edge_changes.specs.EdgeEnds.{HasHead, IsEdgeEnd, end_keys, end_parted};
+ghost use Rattle.edge_changes.specs.EdgeEnds.{ends_parted};
 ghost use Rattle.change_parts.specs.Store.{IsMidway};
 
 use crate::edge_end::{EdgeEnd, Ends};

@@ -1,4 +1,4 @@
--- What a change that is answered leaves of the records, whatever they are, and what it tells of them.
+-- What a change that is answered leaves of the records, whatever they are, and tells of them.
 use Rattle.std.specs.Prelude.{◌≡◌}
 use Rattle.plain_graph.specs.Reply.{EdgeMade, NodeMade, Reply}
 use Rattle.plain_graph.specs.declared.command.Command.{Command}

@@ -58,8 +58,8 @@ TellsMade (commands.Mutate reading mutation) reply =
     (results : List Item) × (reply ≡ mutated_reply results)
 TellsMade _ reply = ⊥
 
--- What `reopen` finds damaged: the log, the store's own record or a meta record, as recovery refuses
--- it; or of the records that it finds, the first name that isn't the one in memory.
+-- What `reopen` finds damaged: the log, the store's own record or a meta record, as recovery
+-- refuses it; or of the records that it finds, the first name that isn't the one in memory.
 abbrev pub IsFoundDamaged : Files → ConsoleView → Damage → Type 0
 IsFoundDamaged content console damage =
     RefusesAgain content console.shape (again_faults.Damaged damage)

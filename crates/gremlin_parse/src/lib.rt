@@ -1,5 +1,6 @@
 //! The grammar of the console's lines, and the reader that gives a line's session, and its command
-//! or the leftmost fault with its place. A line is read once; each of its names and texts is copied once.
+//! or the leftmost fault with its place. A line is read once; each of its names and texts is copied
+//! once.
 #![tactic(auto)]
 
 mod argument;
