@@ -14,6 +14,7 @@ use Rattle.plain_graph.specs.declared.value.Value.{Value}
 use Rattle.plain_graph.proofs.PropertyLaws.{blocks_in-empty, order}
 use Rattle.prop_store.specs.Changing.{ChangesElement, HasKey, IsSetRefusal, SetsValue, properties_of, target_of, text_at}
 use Rattle.prop_store.specs.Owner.{IsOwner}
+use Rattle.prop_store.specs.Touching.{LeavesElement}
 use Rattle.prop_store.specs.declared.owner.Owner.{Owner}
 use Rattle.prop_store.specs.declared.set_fault.SetFault.{SetFault}
 use Rattle.prop_store.specs.declared.set_fault.SetFault.TheVariants as set
@@ -280,6 +281,7 @@ pub record IsPutting (tells onward : Type 0) (s t : State) (before now : ℕ) (o
     pub shape : tells → t.shape ≡ s.shape
     pub harmless : tells → HarmsNoLists s t
     pub beside : tells → LeavesIndexes s t
+    pub leaves : tells → LeavesElement s t owner
     pub writes : WritesBeside owner.key (i + assigned_blocks pairs (take i assigned)) s t
     pub onward_is : onward
     pub later : before ≤ now

@@ -15,6 +15,7 @@ ghost use Rattle.name_store.specs.Interning.{IsFullFault, interned};
 ghost use Rattle.name_store.specs.NameRecord.{name_key};
 ghost use Rattle.name_store.specs.Names.{AreHeldNames};
 ghost use Rattle.prop_store.specs.Owner.{IsOwner};
+ghost use Rattle.prop_store.specs.Touching.{LeavesElement};
 ghost use Rattle.rec_bytes.specs.Format.{names_file};
 ghost use Rattle.rec_bytes.specs.RecordFiles.{meta_key_of};
 ghost use Rattle.rec_bytes.specs.Space.{WritesOnly};
@@ -217,6 +218,8 @@ pub fn put_properties<S: Space>(
         → GivesValues (S.state space.old) (S.state space.new) id pairs.now assigned.now) }
     ensures leaves_indexes { S.tells → OnOk result
         (LeavesIndexes (S.state space.old) (S.state space.new)) }
+    ensures leaves { S.tells
+        → OnOk result (LeavesElement (S.state space.old) (S.state space.new) owner) }
     ensures indexes { S.tells → OnOk result ((names : List (List ℕ)) (id : ℕ)
         → owner ≡ owner_of (targets.Edge id)
         → CanPut (S.state space.old) names (targets.Edge id) pairs.now assigned.now

@@ -7,6 +7,7 @@ pub mod EdgeCuts
 pub mod EdgeDrops
 pub mod EdgeFound
 pub mod EdgeFrames
+pub mod EdgeGone
 pub mod EdgeJoined
 pub mod EdgeLists
 pub mod EdgeOpened
@@ -14,6 +15,7 @@ pub mod EdgeOpening
 pub mod EdgeParted
 pub mod EdgePut
 pub mod EdgeSought
+pub mod EdgeStands
 pub mod EdgeSteps
 pub mod EdgeTaken
 pub mod EndLaws

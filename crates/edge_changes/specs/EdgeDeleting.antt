@@ -129,6 +129,10 @@ pub record WritesTaken (old new : State) (id : ℕ) (ends : Ends EdgeEnd) : Type
   pub only : WritesOnly old new (rel_key id ∷ (source_of ends).head.key
       ∷ (target_of ends).head.key ∷ keys ++ meta_keys)
 
+-- No relationship of this number is in use.
+abbrev pub IsUnusedEdge : Records → ℕ → Type 0
+IsUnusedEdge records id = kind_at records format.relationships_file id ≡ format.free_kind
+
 -- The store lacks the edge.
 pub record TakesEdge (s t : State) (names : List (List ℕ)) (id : ℕ) : Type 0 where
   pub store : IsMidway t names

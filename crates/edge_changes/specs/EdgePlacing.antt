@@ -7,7 +7,7 @@ use Rattle.rec_bytes.specs.Record.{field}
 use Rattle.rec_bytes.specs.Space.{State, meta_of}
 use Rattle.store_rules.specs.Ends.{IsEndHead}
 use Rattle.store_rules.specs.Rules.{Head, first_of}
-use Rattle.store_rules.specs.Views.{Records, RelRow, rec_at, rel_at}
+use Rattle.store_rules.specs.Views.{Records, RelRow, kind_at, rec_at, rel_at}
 use Rattle.group_store.specs.Opening.{IsCountedHead}
 use Rattle.change_parts.specs.Store.{IsMidway, KeepsIndexes, graph_in}
 
@@ -39,6 +39,15 @@ pub record IsFirst (records : Records) (id from to : ℕ) : Type 0 where
       format.relationship_target_previous ≡ format.nil
   pub next : from ≡ to → field 4 (rec_at records format.relationships_file id)
       format.relationship_target_next ≡ format.nil
+
+-- Whatever else the records are, a relationship of this number is in use, and leads from one node
+-- to the other.
+pub record IsEdgeBetween (records : Records) (id from to : ℕ) : Type 0 where
+  pub used : kind_at records format.relationships_file id ≢ format.free_kind
+  pub from_is : field 4 (rec_at records format.relationships_file id) format.relationship_source
+      ≡ from
+  pub to_is : field 4 (rec_at records format.relationships_file id) format.relationship_target
+      ≡ to
 
 -- The store has one more edge, of this type, without properties.
 pub record PutsEdge (s t : State) (names : List (List ℕ)) (from : ℕ) (label : List ℕ) (to id : ℕ)

@@ -21,7 +21,7 @@ ghost use Rattle.edge_changes.specs.EdgeAdding.{degree_weight, degrees_weight};
 ghost use Rattle.edge_changes.specs.EdgeAdding.{HasEndDegree, IsNodeEnd, IsUsedEnd, LeadFrom};
 ghost use Rattle.edge_changes.specs.EdgeEnds.{AtEach};
 ghost use Rattle.edge_changes.specs.EdgeOpening.{ends_moved};
-ghost use Rattle.edge_changes.specs.EdgePlacing.{IsFirst};
+ghost use Rattle.edge_changes.specs.EdgePlacing.{IsEdgeBetween, IsFirst};
 ghost use Rattle.change_parts.specs.Degrees.{HasDegree};
 ghost use Rattle.change_parts.specs.Owners.{IsAbsent};
 ghost use Rattle.change_parts.specs.Store.{IsMidway, IsStore, graph_in};
@@ -50,6 +50,9 @@ pub fn add_edge<S: Space>(
     // its identifier is the free one that was given back last, or else the mark
     ensures taken { S.tells → IfOk result (λ added.
         added.id ≡ taken_id (meta_of (S.state space.old) relationships_file)) }
+    // whatever the records are, it is in use, and leads from one node to the other
+    ensures stands { S.tells → IfOk result (λ added.
+        IsEdgeBetween (S.state space.new).records added.id from to) }
     ensures refused { S.tells → IsStore (S.state space.old) names.old.names
         → IfErr result (IsRefusal (S.state space.old).shape.limit (graph_in (S.state space.old))
         (commands.Edge from label.now to pairs.now)) }

@@ -10,6 +10,7 @@ ghost use Rattle.store_rules.specs.Views as views;
 ghost use Rattle.store_rules.specs.Views.{key_in};
 ghost use Rattle.rec_bytes.specs.Space.{SameButReads, WritesOnly};
 ghost use Rattle.node_store.specs.Loading.{IsReadable, row_at};
+ghost use Rattle.rel_store.specs.Loading as rels;
 ghost use Rattle.rel_store.specs.RelRecord.{rel_key};
 ghost use Rattle.rel_store.specs.declared.rel_row.RelRow.{RelRow};
 ghost use Rattle.group_store.specs.Densing.{IsSparse};
@@ -24,7 +25,8 @@ ghost use Rattle.change_parts.specs.Damage.{BlamesBroken, IfBlames};
 ghost use Rattle.edge_changes.specs.EdgeDeleting.{BlamesEnd, FindsEnd, FindsEnds};
 ghost use Rattle.edge_changes.specs.EdgeDeleting.{HasBareRow, HasPlace, HasRow, IsBareEdge};
 ghost use Rattle.edge_changes.specs.EdgeDeleting.{IsPartedDamage, IsPlacedEdge, IsTakenDamage};
-ghost use Rattle.edge_changes.specs.EdgeDeleting.{IsUndroppedDamage, KeepsKinds, LeavesEdge};
+ghost use Rattle.edge_changes.specs.EdgeDeleting.{IsUndroppedDamage, IsUnusedEdge, KeepsKinds};
+ghost use Rattle.edge_changes.specs.EdgeDeleting.{LeavesEdge};
 ghost use Rattle.edge_changes.specs.EdgeDeleting.{TakesEdge, WritesTaken, with_property};
 ghost use Rattle.edge_changes.specs.EdgeEnds.{AreEdgeEnds, AtEach, HasHead, IsEdgeEnd, source_of};
 ghost use Rattle.edge_changes.specs.EdgeEnds.{target_of};
@@ -55,6 +57,9 @@ pub fn delete_edge<S: Space>(space: &mut S, names: &Names, id: u32) -> Result<u3
         (S.state space.new) names.now.names names.now.names) }
     ensures damaged { S.tells → IfErr result (BlamesBroken (S.state space.old)) }
     ensures broken { S.tells → IfErr result (BlamesBroken (S.state space.new)) }
+    // whatever the records are, the edge was there, and is in use no more
+    ensures there { S.tells → OnOk result (rels.row_at (S.state space.old).records id ≢ None) }
+    ensures gone { S.tells → OnOk result (IsUnusedEdge (S.state space.new).records id) }
     // a dense node stays so, however few relationships it has
     ensures kinds { S.tells → IfOk result (λ _. IsStore (S.state space.old) names.now.names
         → KeepsKinds (S.state space.old) (S.state space.new)) }
@@ -89,6 +94,7 @@ fn take_edge<S: Space>(space: &mut S, id: u32, rel: RelRow) -> Result<(), Change
         (IfBlames (IsTakenDamage (S.state space.old) id rel)) }
     ensures damaged_after { S.tells → HasRow (S.state space.old).records id rel
         → IfErr result (BlamesBroken (S.state space.new)) }
+    ensures gone { S.tells → OnOk result (IsUnusedEdge (S.state space.new).records id) }
     ensures writes { WritesBeside (rel_key id) 12 (S.state space.old) (S.state space.new) }
     ensures failure { IfErr result IsFailure }
     ensures onward { S.onward space.old space.new }
@@ -218,6 +224,7 @@ fn unlink_edge<S: Space>(space: &mut S, id: u32, ends: Ends<EdgeEnd>) -> Result<
     ensures damaged_after { S.tells → (row : views.RelRow)
         → IsPlacedEdge (S.state space.old).records id row ends
         → IfErr result (BlamesBroken (S.state space.new)) }
+    ensures gone { S.tells → OnOk result (IsUnusedEdge (S.state space.new).records id) }
     ensures writes { WritesTaken (S.state space.old) (S.state space.new) id ends }
     ensures failure { IfErr result IsFailure }
     ensures onward { S.onward space.old space.new }

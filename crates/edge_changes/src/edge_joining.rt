@@ -16,7 +16,7 @@ ghost use Rattle.id_freelist.specs.Taking.{HasTaken, taken, taken_id};
 ghost use Rattle.rel_store.specs.Loading.{rel_mark};
 ghost use Rattle.rel_store.specs.RelRecord.{rel_key};
 ghost use Rattle.store_rules.specs.Rules.{KeepsRules, first_of};
-ghost use Rattle.store_rules.specs.Views.{key_in};
+ghost use Rattle.store_rules.specs.Views.{key_in, kind_at};
 ghost use Rattle.store_rules.specs.Writes.{ChangesOnly, meta_keys};
 ghost use Rattle.chain_edit.specs.Heads.{head_of};
 ghost use Rattle.chain_edit.specs.Links.{IsRightLink};
@@ -33,7 +33,7 @@ ghost use Rattle.edge_changes.specs.EdgeJoining.{AreRightFirsts, BlamesEndJoined
 ghost use Rattle.edge_changes.specs.EdgeJoining.{CanJoin, IsOfLost, KeepsBesideEnd};
 ghost use Rattle.edge_changes.specs.EdgeJoining.{HasPlaced, WritesJoined};
 ghost use Rattle.edge_changes.specs.EdgeJoining.{end_joined, ends_joined, joined_keys, new_row};
-ghost use Rattle.edge_changes.specs.EdgePlacing.{PutsEdge};
+ghost use Rattle.edge_changes.specs.EdgePlacing.{IsEdgeBetween, PutsEdge};
 ghost use Rattle.change_parts.specs.Rooms.{HasRoom};
 
 use crate::edge_end::{EdgeEnd, Ends};
@@ -71,6 +71,8 @@ pub(crate) fn join_edge<S: Space>(
     ensures found { S.tells → AtEach (HasHead (S.state space.old).records) ends
         → IfErr result (IfBlames (IsChainDamage (S.state space.old) (S.state space.new) 0
         (IsOfLost (S.state space.old) ends))) }
+    ensures stands { S.tells → IfOk result (λ id. IsEdgeBetween (S.state space.new).records id
+        (source_of ends).node (target_of ends).node) }
     ensures key { IfOk result (λ id. IsKey (key_in relationships_file id)) }
     ensures writes { IfOk result (λ id.
         WritesJoined (S.state space.old) (S.state space.new) id ends) }
@@ -111,6 +113,8 @@ fn place<S: Space>(space: &mut S, label: u32, from: u32, to: u32) -> Result<u32,
         (HarmsNoList (S.state space.old) (S.state space.new) relationships_file) }
     ensures heads { S.tells
         → OnOk result (KeepsHeads (S.state space.old) (S.state space.new)) }
+    ensures stands { S.tells
+        → IfOk result (λ id. IsEdgeBetween (S.state space.new).records id from to) }
     ensures key { IfOk result (λ id. IsKey (key_in relationships_file id)) }
     ensures writes { IfOk result (λ id.
         WritesOnly (S.state space.old) (S.state space.new) (rel_key id ∷ meta_keys)) }
@@ -146,6 +150,9 @@ fn take_id<S: Space>(space: &mut S) -> Result<u32, ChangeFault>
     ensures lists { S.tells → IfOk result (λ id. (t : State) (rec : Rec)
         → t ≡ after_put (S.state space.new) (rel_key id) rec → field 1 rec kind ≢ free_kind
         → HarmsNoList (S.state space.old) t relationships_file) }
+    ensures used { S.tells → IfOk result (λ id. (t : State) (rec : Rec)
+        → t ≡ after_put (S.state space.new) (rel_key id) rec → field 1 rec kind ≢ free_kind
+        → kind_at t.records relationships_file id ≢ free_kind) }
     ensures stays { S.tells → ChangesOnly (S.state space.old) (S.state space.new)
         (meta_key_of relationships_file ∷ []) }
     ensures grown { S.tells

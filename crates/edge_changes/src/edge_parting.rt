@@ -12,7 +12,8 @@ ghost use Rattle.change_parts.specs.ChangeFault.{HasChangeCause, IsFailure, IsOu
 ghost use Rattle.change_parts.specs.Damage.{BlamesBroken, IfBlames};
 ghost use Rattle.edge_changes.specs.EdgeDeleting.{HasPlace, IsBareEdge, IsCutDamage};
 ghost use Rattle.edge_changes.specs.EdgeDeleting.{IsPartedDamage};
-ghost use Rattle.edge_changes.specs.EdgeDeleting.{IsPlacedEdge, KeepsGroups, PartsEdge, WritesEnds};
+ghost use Rattle.edge_changes.specs.EdgeDeleting.{IsPlacedEdge, IsUnusedEdge, KeepsGroups};
+ghost use Rattle.edge_changes.specs.EdgeDeleting.{PartsEdge, WritesEnds};
 ghost use Rattle.edge_changes.specs.EdgeEnds.{AreEdgeEnds, AtEach, HasRightLinks, HaveRightLinks};
 ghost use Rattle.edge_changes.specs.EdgeEnds.{HasHead, IsEdgeEnd, end_keys, end_parted};
 ghost use Rattle.edge_changes.specs.EdgeEnds.{ends_parted};
@@ -49,6 +50,7 @@ pub(crate) fn part_edge<S: Space>(
         → OnOk result (KeepsHeads (S.state space.old) (S.state space.new)) }
     ensures groups { S.tells → AtEach (HasHead (S.state space.old).records) ends
         → OnOk result (KeepsGroups (S.state space.old) (S.state space.new)) }
+    ensures gone { S.tells → OnOk result (IsUnusedEdge (S.state space.new).records id) }
     ensures writes { WritesEnds (S.state space.old) (S.state space.new) id ends }
     ensures failure { IfErr result IsFailure }
     ensures onward { S.onward space.old space.new }

@@ -8,10 +8,9 @@ use Rattle.plain_graph.specs.Graph.{Graph}
 use Rattle.plain_graph.specs.LineChanges.{LineChanges, LineWeighs, asked_changes, first_refused, line_reasons, mutated_reply, read_items}
 use Rattle.plain_graph.specs.Mutations.{RefusesEach, changes_of}
 use Rattle.plain_graph.specs.Refusals.{FirstReason}
-use Rattle.plain_graph.specs.Reply.{Done, Reply}
+use Rattle.plain_graph.specs.Reply.{Reply}
 use Rattle.plain_graph.specs.declared.command.Command.{Command}
 use Rattle.plain_graph.specs.declared.command.Command.TheVariants as commands
-use Rattle.plain_graph.specs.declared.command.Target.TheVariants as targets
 use Rattle.plain_graph.specs.declared.item.Item.{Item}
 use Rattle.plain_graph.specs.declared.mutation.Mutation.{Mutation}
 use Rattle.plain_graph.specs.declared.query.Query.{Query}
@@ -19,7 +18,6 @@ use Rattle.plain_graph.specs.declared.refusal.Refusal.{Refusal}
 use Rattle.plain_graph.specs.declared.refusal.Refusal.TheVariants as refusals
 use Rattle.plain_graph.proofs.LineLaws.{HasIndexOf, change_first, change_free, mutation_first, mutation_free}
 use Rattle.rec_bytes.specs.Space.{SameButReads, State as Space}
-use Rattle.store_rules.specs.Views.{Records}
 use Rattle.store_rules.specs.Writes.{WritesAtMost}
 use Rattle.txn_core.specs.OnlyReading.{only_reads_base_on}
 use Rattle.txn_core.specs.Store as store
@@ -29,8 +27,6 @@ use Rattle.graph_ops.specs.Mutating.{IsListRefusal, MakesMutation, most_told}
 use Rattle.change_parts.specs.Store.{IsStore, graph_in}
 use Rattle.change_parts.specs.declared.change_fault.ChangeFault.{ChangeFault}
 use Rattle.change_parts.specs.declared.change_fault.ChangeFault.TheVariants as faults
-use Rattle.change_parts.specs.Degrees.{HasDegree}
-use Rattle.node_changes.specs.NodeDeleting.{IsUnused}
 use Rattle.graph_session.specs.Answering.{reply_of}
 use Rattle.graph_session.specs.ChangeLeft.{LeavesRecords}
 use Rattle.graph_session.specs.Drafting.{Drafts, HasStore, IsStopped, MakesLine, OnlyDrafts, answer_for, drafted_by}
@@ -231,8 +227,8 @@ module _ {D : Type 0} {g : Ghosts D} {T : Type 0} (answer : T → Answer) (weigh
 pub ok-has : {T E : Type 0} (P : T → Type 0) (outcome : Result T E) → IfOk outcome P → (made : T) → outcome ≡ Ok made → P made
 ok-has {T = T} {E = E} P outcome has made is = subst (λ (r : Result T E). IfOk r P) is has
 
--- what one that deletes a node leaves
-pub deletion-left : (id : ℕ) (old new : Records) (outcome : Result ℕ ChangeFault) → OnOk outcome (HasDegree old id 0) → OnOk outcome (IsUnused new id)
-    → (made : ℕ) → outcome ≡ Ok made → LeavesRecords (commands.Delete (targets.Node id)) Done old new
-deletion-left id old new (Ok weight) lone gone made is = (lone, gone)
-deletion-left id old new (Err fault) lone gone made is = let clash : Err fault ≡ Ok made = is in cc
+-- what one that deletes had before it, and leaves
+pub deletion-left : (before after : Type 0) (outcome : Result ℕ ChangeFault) → OnOk outcome before → OnOk outcome after → (made : ℕ) → outcome ≡ Ok made
+    → before × after
+deletion-left before after (Ok weight) was left made is = (was, left)
+deletion-left before after (Err fault) was left made is = let clash : Err fault ≡ Ok made = is in cc

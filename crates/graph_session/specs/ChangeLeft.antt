@@ -1,5 +1,5 @@
 -- What a change that is answered leaves of the records, whatever they are, and tells of them.
-use Rattle.std.specs.Prelude.{◌≡◌}
+use Rattle.std.specs.Prelude.{◌≡◌, ◌≢◌, None}
 use Rattle.plain_graph.specs.Reply.{EdgeMade, NodeMade, Reply}
 use Rattle.plain_graph.specs.declared.command.Command.{Command}
 use Rattle.plain_graph.specs.declared.command.Command.TheVariants as commands
@@ -8,17 +8,24 @@ use Rattle.rec_bytes.specs.Format as format
 use Rattle.rec_bytes.specs.Space.{meta_in}
 use Rattle.store_rules.specs.Views.{Records}
 use Rattle.id_freelist.specs.Taking.{taken_id}
+use Rattle.rel_store.specs.Loading as rels
 use Rattle.change_parts.specs.Degrees.{HasDegree}
+use Rattle.edge_changes.specs.EdgeDeleting.{IsUnusedEdge}
+use Rattle.edge_changes.specs.EdgePlacing.{IsEdgeBetween}
 use Rattle.node_changes.specs.NodeDeleting.{IsUnused}
 
 -- A new node has the first free identifier of the nodes, or else the mark, and a new edge that of
--- the relationships. A node that is deleted had no relationships, and is in use no more. Of another
--- change nothing is said but over a store.
+-- the relationships; it is in use and leads from the one node to the other. A node that is deleted
+-- had no relationships, and is in use no more. An edge that is deleted was there, and is in use no
+-- more. Of another change nothing is said but over a store.
 abbrev pub LeavesRecords : Command → Reply → Records → Records → Type 0
 LeavesRecords (commands.Node label pairs) reply old new =
     reply ≡ NodeMade (taken_id (meta_in old format.nodes_file))
 LeavesRecords (commands.Edge from label to pairs) reply old new =
-    reply ≡ EdgeMade (taken_id (meta_in old format.relationships_file))
+    (reply ≡ EdgeMade (taken_id (meta_in old format.relationships_file)))
+    × IsEdgeBetween new (taken_id (meta_in old format.relationships_file)) from to
 LeavesRecords (commands.Delete (targets.Node id)) reply old new =
     HasDegree old id 0 × IsUnused new id
+LeavesRecords (commands.Delete (targets.Edge id)) reply old new =
+    (rels.row_at old id ≢ None) × IsUnusedEdge new id
 LeavesRecords _ reply old new = Unit {0}

@@ -5,6 +5,7 @@ pub mod BrokenGroups
 pub mod Causes
 pub mod ChainHeads
 pub mod Clearing
+pub mod ClosedBeside
 pub mod Closings
 pub mod Comings
 pub mod CountedLists

@@ -1,7 +1,9 @@
 -- A head that lost a relationship.
 use Rattle.std.specs.Prelude.{◌≡◌, ◌≢◌, ◌⊎◌, ℕ, ◌<◌, List, ◌++◌, Some}
+use Rattle.rec_bytes.specs.declared.key.Key.{Key}
 use Rattle.rec_bytes.specs.Format as format
 use Rattle.rec_bytes.specs.Record.{field}
+use Rattle.rec_bytes.specs.RecordFiles.{meta_key_of}
 use Rattle.rec_bytes.specs.Space.{State}
 use Rattle.store_rules.specs.Breaking.{IsOwnedBy}
 use Rattle.store_rules.specs.Chains.{In}
@@ -26,7 +28,15 @@ pub record HasClosed (s t : State) (node most : ℕ) (empty : List ℕ) : Type 0
       → kind_at t.records format.groups_file g ≡ kind_at s.records format.groups_file g
   pub kind : kind_at t.records format.nodes_file node ≡ kind_at s.records format.nodes_file node
 
--- ---- what is left of another node's groups, whatever the records are
+-- ---- what is left, whatever the records are
+
+-- No record is other but those of nodes and groups, and the meta record of the groups.
+abbrev pub KeepsBesideGroups : State → State → Type 0
+KeepsBesideGroups s t =
+    (key : Key) → key.file ≢ format.nodes_file → key.file ≢ format.groups_file
+    → key ≢ meta_key_of format.groups_file → t.records key ≡ s.records key
+
+-- ---- what is left of another node's groups
 
 -- The links of groups lead both ways from the node through just these, and each is its own.
 pub record IsOwnChain (records : Records) (node : ℕ) (xs : List ℕ) : Type 0 where

@@ -7,7 +7,8 @@ ghost use Rattle.node_store.specs.NodeRecord.{node_key};
 ghost use Rattle.store_rules.specs.Breaking.{IsHeadOf};
 ghost use Rattle.chain_edit.specs.Breaks.{IsBreakFault};
 ghost use Rattle.chain_edit.specs.Heads.{head_of};
-ghost use Rattle.group_store.specs.Closing.{CanClose, HasClosed, KeepsOtherChains};
+ghost use Rattle.group_store.specs.Closing.{CanClose, HasClosed, KeepsBesideGroups};
+ghost use Rattle.group_store.specs.Closing.{KeepsOtherChains};
 ghost use Rattle.group_store.specs.Dropping.{IsDropFault, lead_key};
 ghost use Rattle.group_store.specs.Leaving.{KeepsOtherHeads};
 ghost use Rattle.rec_bytes.specs.Fault.{HasFaultCause, NotDamaged, OnDamage};
@@ -35,6 +36,8 @@ pub fn close_chain<S: Space>(space: &mut S, node: u32, head: Head) -> Result<(),
         (KeepsOtherHeads (S.state space.old) (S.state space.new) node) }
     ensures others { S.tells → IsHeadOf (S.state space.old).records (head_of head) node
         → OnOk result (KeepsOtherChains (S.state space.old) (S.state space.new) node) }
+    ensures keeps { S.tells
+        → OnOk result (KeepsBesideGroups (S.state space.old) (S.state space.new)) }
     ensures writes { (before after : ℕ) × WritesOnly (S.state space.old) (S.state space.new)
         (group_key after ∷ lead_key node before ∷ head.key ∷ meta_key_of groups_file ∷ []) }
     ensures onward { S.onward space.old space.new }

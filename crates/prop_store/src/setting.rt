@@ -23,7 +23,7 @@ ghost use Rattle.prop_store.specs.PropertyRow.{IsReadRow, IsRow};
 ghost use Rattle.prop_store.specs.SetFault.{HasSetCause, IsSetCause};
 ghost use Rattle.prop_store.specs.Setting.{BlamesLists, HarmsNoLists, IsPutFault, MayLead};
 ghost use Rattle.prop_store.specs.Setting.{PutsProperty, SetBlamesBroken};
-ghost use Rattle.prop_store.specs.Touching.{TouchesProperties};
+ghost use Rattle.prop_store.specs.Touching.{LeavesElement, TouchesProperties};
 ghost use Rattle.rec_bytes.specs.Format.{properties_file, property_key, property_next};
 ghost use Rattle.rec_bytes.specs.Format.{strings_file};
 ghost use Rattle.rec_bytes.specs.Record.{field};
@@ -80,6 +80,8 @@ pub fn add<S: Space>(space: &mut S, owner: Owner, key: u32, value: &Value) -> Re
     ensures damaged { S.tells → IfErr result (SetBlamesBroken (S.state space.old)) }
     ensures harmless { S.tells
         → OnOk result (HarmsNoLists (S.state space.old) (S.state space.new)) }
+    ensures leaves { S.tells
+        → OnOk result (LeavesElement (S.state space.old) (S.state space.new) owner) }
     ensures onward { S.onward space.old space.new }
     ensures cause { HasSetCause (S.faults space.old) (S.faults space.new) result }
 {

@@ -12,6 +12,7 @@ use Rattle.store_rules.specs.Indexes.{wanted_in}
 use Rattle.store_rules.specs.Properties.{Property}
 use Rattle.prop_store.specs.Alone.{IsKnownKey, LacksKey, OwnsProperties, SetsAlone}
 use Rattle.prop_store.specs.Owner.{IsOwner}
+use Rattle.prop_store.proofs.LeftElements.{left_then}
 use Rattle.prop_store.proofs.ElementGraphs.{count_is, lacks_key, listed_at, owns_listed}
 use Rattle.change_parts.specs.GivenValues.{with_assigned}
 use Rattle.change_parts.specs.Owners.{owner_of}
@@ -48,6 +49,7 @@ loop-assignment-init g c =
       shape = λ tells. refl;
       harmless = λ tells. no_lists_harmed s;
       beside = λ tells damage of. refl;
+      leaves = λ tells. record { others = λ key a b c d ne. refl; own = λ n at fits apart. refl };
       writes = this_written c.args.owner.key s s [] (λ q i. absurd i) (record { each = λ q w. inl w });
       onward_is = g.met.S.Reads.stays_onward c.args.space.now;
       later = omega arith;
@@ -127,6 +129,7 @@ loop-assignment-preserved g c =
       harmless = λ tells. no_lists_then s t u (inv.harmless tells) (c.in_ok-add.ensures.harmless tells);
       beside = λ tells damage of. properties_leave g.S.Reads.tells _ _ t u c.args.owner c.requires.owner.file tells c.add.ensures.touches damage of
           ∙ inv.beside tells damage of;
+      leaves = λ tells. left_then s t u c.args.owner (inv.leaves tells) (c.in_ok-add.ensures.leaves tells);
       writes =
           let more = sum_by_more (λ (a : Assignment). blocks_of (pair_at pairs a.pair).value) assigned i (record { key = 0; pair = 0 })
           c.loop-assignment-test.true in
@@ -243,3 +246,11 @@ returns-in_err-add-clause-writes g c = never_ok c.from_residual.result _ _ c.fro
 
 pub returns-clause-cause : goal.returns-clause-cause
 returns-clause-cause g c = ok_cause _ _ _ _ c.loop-assignment.invariant.later
+
+-- ---- which records are other
+
+pub returns-clause-leaves : goal.returns-clause-leaves
+returns-clause-leaves g c tells = c.loop-assignment.invariant.leaves tells
+
+pub returns-in_err-add-clause-leaves : goal.returns-in_err-add-clause-leaves
+returns-in_err-add-clause-leaves g c _ = never_ok c.from_residual.result _ _ c.from_residual.ensures.1

@@ -18,7 +18,7 @@ use Rattle.change_parts.specs.ChangeFault.{IsOutside, LeavesSpace}
 use Rattle.change_parts.specs.Damage.{BlamesLinking, IsLinkingDamage, KeepsButNames}
 use Rattle.edge_changes.specs.EdgeAdding.{BlamesAdded, BlamesChains, HasEndDegree, IsFullOfEdges, IsUsedEnd, KeepsButChains, degrees_weight, groups_needed}
 use Rattle.edge_changes.specs.EdgeEnds.{AtEach, source_of, target_of}
-use Rattle.edge_changes.specs.EdgePlacing.{PutsEdge}
+use Rattle.edge_changes.specs.EdgePlacing.{IsEdgeBetween, PutsEdge}
 use Rattle.change_parts.specs.Degrees.{HasDegree}
 use Rattle.change_parts.specs.Preparing.{IsPrepared}
 use Rattle.change_parts.specs.Store.{IsMidway, graph_in}
@@ -27,6 +27,8 @@ use Rattle.edge_changes.proofs.EdgeAdded.{can_put, degree_kept, edges_refused, l
 use Rattle.change_parts.proofs.Counted.{absent_counted, counted_read, outside_counted, room_counted}
 use Rattle.change_parts.proofs.Elements.{found_there}
 use Rattle.change_parts.proofs.KeptIndexes.{midway}
+use Rattle.edge_changes.proofs.EdgeStands.{owner_stands}
+use Rattle.prop_store.specs.Touching.{LeavesElement}
 use Rattle.edge_changes.proofs.EndLaws.{at_more, at_nodes, at_source, at_target}
 use Rattle.change_parts.proofs.Exits.{failure_late, fault_exit, late_leaves}
 use Rattle.change_parts.proofs.Readings.{made_read, refused_read, store_read}
@@ -765,3 +767,28 @@ pub returns-clause-cause : goal.returns-clause-cause
 returns-clause-cause g c =
     ok_cause _ _ _ _ (later_on (later_on (later_on c.in_ok-ends.ensures.cause.later c.in_ok-prepared.ensures.cause.later) c.in_ok-id.ensures.cause.later)
     c.in_ok-put_properties.ensures.cause.later)
+
+-- ---- whatever the records are, it is in use, and leads from one node to the other
+pub returns-clause-stands : goal.returns-clause-stands
+returns-clause-stands g c tells =
+    let v = g.S.Reads.state c.put_edge.new.space in
+    let w = g.S.Reads.state c.put_properties.new.space in
+    let id = c.in_ok-id.id in
+    owner_stands v w id c.args.from c.args.to (subst (LeavesElement v w) c.edge_owner.ensures (c.in_ok-put_properties.ensures.leaves tells))
+    (at_nodes (λ from to. IsEdgeBetween v.records id from to) c.in_ok-ends.ends c.args.from c.args.to c.in_ok-ends.ensures.ends
+    (c.in_ok-id.ensures.stands tells))
+
+pub returns-in_err-ends-clause-stands : goal.returns-in_err-ends-clause-stands
+returns-in_err-ends-clause-stands g c _ = never_ok c.from_residual.result _ _ c.from_residual.ensures.1
+
+pub returns-in_err-test_room-clause-stands : goal.returns-in_err-test_room-clause-stands
+returns-in_err-test_room-clause-stands g c _ = never_ok c.from_residual-in_err-test_room.result _ _ c.from_residual-in_err-test_room.ensures.1
+
+pub returns-in_err-prepared-clause-stands : goal.returns-in_err-prepared-clause-stands
+returns-in_err-prepared-clause-stands g c _ = never_ok c.from_residual-in_err-prepared.result _ _ c.from_residual-in_err-prepared.ensures.1
+
+pub returns-in_err-id-clause-stands : goal.returns-in_err-id-clause-stands
+returns-in_err-id-clause-stands g c _ = never_ok c.from_residual-in_err-id.result _ _ c.from_residual-in_err-id.ensures.1
+
+pub returns-in_err-put_properties-clause-stands : goal.returns-in_err-put_properties-clause-stands
+returns-in_err-put_properties-clause-stands g c _ = never_ok c.from_residual-in_err-put_properties.result _ _ c.from_residual-in_err-put_properties.ensures.1

@@ -33,6 +33,7 @@ use Rattle.change_parts.specs.Owners.{owner_of}
 use Rattle.change_parts.proofs.Broken.{blames_more, rel_broken, rel_in_use, unwritten_left}
 use Rattle.edge_changes.proofs.EdgeBlames.{drop_blamed}
 use Rattle.edge_changes.proofs.EdgeSought.{row_found, row_later, taken_told}
+use Rattle.edge_changes.proofs.EdgeGone.{some_there}
 use Rattle.edge_changes.proofs.EdgeFrames.{edge_left, edge_read, edge_then, taken_before}
 use Rattle.change_parts.specs.Damage.{BlamesBroken}
 use Rattle.rec_bytes.proofs.Causes.{never_ok, ok_cause}
@@ -385,3 +386,29 @@ returns-in_err-take_edge-clause-writes g c = never_ok c.from_residual-in_err-tak
 pub returns-clause-cause : goal.returns-clause-cause
 returns-clause-cause g c =
     ok_cause _ _ _ _ (later_on (later_on c.in_ok-rel.ensures.cause.later c.in_ok-dropped.ensures.cause.later) c.in_ok-take_edge.ensures.cause.later)
+
+-- ---- whatever the records are, it was there, and is in use no more
+pub returns-clause-there : goal.returns-clause-there
+returns-clause-there g c tells none =
+    some_there c.in-Some.rel (found g (goal.at.returns-clause-there g c).After-drop_all tells ∙ none)
+
+pub returns-clause-gone : goal.returns-clause-gone
+returns-clause-gone g c tells = c.in_ok-take_edge.ensures.gone tells
+
+pub returns-in_err-rel-clause-there : goal.returns-in_err-rel-clause-there
+returns-in_err-rel-clause-there g c _ = never_ok c.from_residual.result _ _ c.from_residual.ensures.1
+
+pub returns-in_err-rel-clause-gone : goal.returns-in_err-rel-clause-gone
+returns-in_err-rel-clause-gone g c _ = never_ok c.from_residual.result _ _ c.from_residual.ensures.1
+
+pub returns-in_err-dropped-clause-there : goal.returns-in_err-dropped-clause-there
+returns-in_err-dropped-clause-there g c _ = never_ok c.from_residual-in_err-dropped.result _ _ c.from_residual-in_err-dropped.ensures.1
+
+pub returns-in_err-dropped-clause-gone : goal.returns-in_err-dropped-clause-gone
+returns-in_err-dropped-clause-gone g c _ = never_ok c.from_residual-in_err-dropped.result _ _ c.from_residual-in_err-dropped.ensures.1
+
+pub returns-in_err-take_edge-clause-there : goal.returns-in_err-take_edge-clause-there
+returns-in_err-take_edge-clause-there g c _ = never_ok c.from_residual-in_err-take_edge.result _ _ c.from_residual-in_err-take_edge.ensures.1
+
+pub returns-in_err-take_edge-clause-gone : goal.returns-in_err-take_edge-clause-gone
+returns-in_err-take_edge-clause-gone g c _ = never_ok c.from_residual-in_err-take_edge.result _ _ c.from_residual-in_err-take_edge.ensures.1

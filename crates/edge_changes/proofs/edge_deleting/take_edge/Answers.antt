@@ -83,3 +83,7 @@ returns-in_err-ends-clause-taken g c _ = never_ok c.from_residual.result _ _ c.f
 
 pub returns-in_err-ends-clause-onward : goal.returns-in_err-ends-clause-onward
 returns-in_err-ends-clause-onward g c = search rules
+
+-- ---- it is in use no more
+pub returns-in_err-ends-clause-gone : goal.returns-in_err-ends-clause-gone
+returns-in_err-ends-clause-gone g c _ = never_ok c.from_residual.result _ _ c.from_residual.ensures.1

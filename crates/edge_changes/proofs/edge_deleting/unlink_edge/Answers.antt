@@ -12,6 +12,7 @@ use Rattle.change_parts.proofs.DiskCauses.{fault_cause_passed, later_on}
 use Rattle.edge_changes.proofs.EdgeDrops.{close_blamed, later_blamed}
 use Rattle.edge_changes.proofs.EdgeCuts.{placed_heads}
 use Rattle.edge_changes.proofs.EdgeClosed.{loop_taken, pair_taken, source_closes, target_closes}
+use Rattle.edge_changes.proofs.EdgeGone.{edge_beside}
 use Rattle.edge_changes.proofs.EndWrites.{ends_taken, source_taken, target_taken}
 use Rattle.change_parts.proofs.Exits.{fault_exit, fault_outside}
 use Rattle.rec_bytes.proofs.Causes.{never_ok}
@@ -271,4 +272,33 @@ returns-in_err-close_chain-in-Two-clause-taken g c _ =
 
 pub returns-in_err-close_chain-in-Two-2-clause-taken : goal.returns-in_err-close_chain-in-Two-2-clause-taken
 returns-in_err-close_chain-in-Two-2-clause-taken g c _ =
+    never_ok c.from_residual-in_err-close_chain-in-Two-2.result _ _ c.from_residual-in_err-close_chain-in-Two-2.ensures.1
+
+-- ---- it is in use no more
+pub returns-in_ok-close_chain-in-Loop-clause-gone : goal.returns-in_ok-close_chain-in-Loop-clause-gone
+returns-in_ok-close_chain-in-Loop-clause-gone g c tells =
+    edge_beside (g.S.Reads.state c.part_edge.new.space) (g.S.Reads.state c.close_chain.new.space) c.args.id
+    (c.in_ok-close_chain-in-Loop.ensures.keeps tells) (c.in_ok-part_edge.ensures.gone tells)
+
+pub returns-in_ok-close_chain-in-Two-2-clause-gone : goal.returns-in_ok-close_chain-in-Two-2-clause-gone
+returns-in_ok-close_chain-in-Two-2-clause-gone g c tells =
+    let u = g.S.Reads.state c.part_edge.new.space in
+    let v = g.S.Reads.state c.close_chain-in-Two.new.space in
+    let w = g.S.Reads.state c.close_chain-in-Two-2.new.space in
+    edge_beside v w c.args.id (c.in_ok-close_chain-in-Two-2.ensures.keeps tells)
+    (edge_beside u v c.args.id (c.in_ok-close_chain-in-Two.ensures.keeps tells) (c.in_ok-part_edge.ensures.gone tells))
+
+pub returns-in_err-part_edge-clause-gone : goal.returns-in_err-part_edge-clause-gone
+returns-in_err-part_edge-clause-gone g c _ = never_ok c.from_residual.result _ _ c.from_residual.ensures.1
+
+pub returns-in_err-close_chain-in-Loop-clause-gone : goal.returns-in_err-close_chain-in-Loop-clause-gone
+returns-in_err-close_chain-in-Loop-clause-gone g c _ =
+    never_ok c.from_residual-in_err-close_chain-in-Loop.result _ _ c.from_residual-in_err-close_chain-in-Loop.ensures.1
+
+pub returns-in_err-close_chain-in-Two-clause-gone : goal.returns-in_err-close_chain-in-Two-clause-gone
+returns-in_err-close_chain-in-Two-clause-gone g c _ =
+    never_ok c.from_residual-in_err-close_chain-in-Two.result _ _ c.from_residual-in_err-close_chain-in-Two.ensures.1
+
+pub returns-in_err-close_chain-in-Two-2-clause-gone : goal.returns-in_err-close_chain-in-Two-2-clause-gone
+returns-in_err-close_chain-in-Two-2-clause-gone g c _ =
     never_ok c.from_residual-in_err-close_chain-in-Two-2.result _ _ c.from_residual-in_err-close_chain-in-Two-2.ensures.1

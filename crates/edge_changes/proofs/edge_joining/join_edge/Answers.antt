@@ -2,6 +2,8 @@ use Rattle.std.proofs.Common.{ℕ, ◌∙◌, subst, arith, rules}
 use Rattle.change_parts.specs.ChangeFault.{IsOutside}
 use Rattle.edge_changes.specs.EdgeEnds.{HasHead}
 use Rattle.edge_changes.specs.EdgeJoining.{HasPlaced, IsJoinDamage, IsOfLost, WritesJoined}
+use Rattle.edge_changes.specs.EdgePlacing.{IsEdgeBetween}
+use Rattle.edge_changes.proofs.EdgeStands.{ends_stand}
 use Rattle.edge_changes.proofs.EdgePut.{firsts_right, puts_edge}
 use Rattle.change_parts.proofs.Exits.{fault_exit}
 use Rattle.edge_changes.proofs.JoinWrites.{placed_joined, placed_written}
@@ -141,3 +143,18 @@ returns-in_err-join_ends-clause-found g c tells heads =
     (blames_more (IsJoinDamage t u ends) (IsChainDamage s u 0 (IsOfLost s ends))
     (placed_then s t u ends (c.in_ok-id.ensures.lists tells) (c.in_ok-id.ensures.others tells) (c.in_ok-id.ensures.grown tells) heads) fault
     (c.in_err-join_ends.ensures.found tells has c.requires.apart))
+
+-- ---- it is in use, and leads from one node to the other
+pub returns-clause-stands : goal.returns-clause-stands
+returns-clause-stands g c tells =
+    let t = g.S.Reads.state c.place.new.space in
+    let id = c.in_ok-id.id in
+    ends_stand t (g.S.Reads.state c.join_ends.new.space) c.args.ends id c.requires.each (c.in_ok-join_ends.ensures.ok tells) id
+    (source_of c.args.ends).node (target_of c.args.ends).node
+    (subst (λ (p : ℕ × ℕ). IsEdgeBetween t.records id p.0 p.1) c.nodes-from.ensures (c.in_ok-id.ensures.stands tells))
+
+pub returns-in_err-id-clause-stands : goal.returns-in_err-id-clause-stands
+returns-in_err-id-clause-stands g c _ = never_ok c.from_residual.result _ _ c.from_residual.ensures.1
+
+pub returns-in_err-join_ends-clause-stands : goal.returns-in_err-join_ends-clause-stands
+returns-in_err-join_ends-clause-stands g c _ = never_ok c.from_residual-in_err-join_ends.result _ _ c.from_residual-in_err-join_ends.ensures.1

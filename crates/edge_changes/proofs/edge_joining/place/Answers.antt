@@ -218,3 +218,23 @@ returns-in_err-id-clause-lists g c _ = never_ok c.from_residual.result _ _ c.fro
 
 pub returns-in_err-save-clause-lists : goal.returns-in_err-save-clause-lists
 returns-in_err-save-clause-lists g c _ = never_ok c.from_residual-in_err-save.result _ _ c.from_residual-in_err-save.ensures.1
+
+-- ---- it is in use, and leads from one node to the other
+pub returns-clause-stands : goal.returns-clause-stands
+returns-clause-stands g c tells =
+    let t = g.S.Reads.state c.take_id.new.space in
+    let row = new_row c.in_ok-id.id c.args.label c.args.from c.args.to in
+    let got = subst (λ (r : RelRow). row_of ((g.S.Reads.state c.save.new.space).records (rel_key r.id)) r.id ≡ r) c.new_row.ensures c.in_ok-save.ensures.got in
+    record {
+      used = c.in_ok-id.ensures.used tells (g.S.Reads.state c.save.new.space) (rel_record row)
+          (c.in_ok-save.ensures.ok ∙ ap (λ (r : RelRow). after_put t (rel_key r.id) (rel_record r)) c.new_row.ensures)
+          (placed_used _ row got);
+      from_is = ap (λ (r : RelRow). r.from) got;
+      to_is = ap (λ (r : RelRow). r.to) got;
+    }
+
+pub returns-in_err-id-clause-stands : goal.returns-in_err-id-clause-stands
+returns-in_err-id-clause-stands g c _ = never_ok c.from_residual.result _ _ c.from_residual.ensures.1
+
+pub returns-in_err-save-clause-stands : goal.returns-in_err-save-clause-stands
+returns-in_err-save-clause-stands g c _ = never_ok c.from_residual-in_err-save.result _ _ c.from_residual-in_err-save.ensures.1

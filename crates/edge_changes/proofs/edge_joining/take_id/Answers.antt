@@ -8,7 +8,7 @@ use Rattle.change_parts.proofs.Takes.{kept_can_take}
 use Rattle.rec_bytes.specs.Space.{State, meta_of}
 use Rattle.id_freelist.specs.Taking.{IsTakeFault, room}
 use Rattle.store_rules.specs.Breaking.{Breaks}
-use Rattle.id_freelist.proofs.ListSteps.{blames_list, put_harms_none}
+use Rattle.id_freelist.proofs.ListSteps.{blames_list, put_harms_none, put_is_used}
 use Rattle.group_store.proofs.Leadings.{taken_grown}
 use Rattle.rel_store.specs.Loading.{rel_mark}
 use Rattle.edge_changes.proofs.edge_joining.take_id.Goals as goal
@@ -54,3 +54,10 @@ returns-in-Ok-clause-grown g c tells =
     let s = g.S.Reads.state c.args.space.now in
     subst (λ (z : State). rel_mark s ≤ rel_mark z) (sym (c.in-Ok.ensures.ok tells))
     (taken_grown s format.relationships_file c.in-Ok.id c.in-Ok.ensures.is c.in-Ok.ensures.key.id)
+
+-- ---- it is in use where its record is put
+pub returns-in-Ok-clause-used : goal.returns-in-Ok-clause-used
+returns-in-Ok-clause-used g c tells t rec put used =
+    put_is_used (g.S.Reads.state c.args.space.now) (g.S.Reads.state c.take.new.space) t format.relationships_file c.in-Ok.id rec refl
+    (c.in-Ok.ensures.ok tells) c.in-Ok.ensures.is (c.in-Ok.ensures.undamaged tells) (c.in-Ok.ensures.fresh tells) c.in-Ok.ensures.key.id
+    c.in-Ok.ensures.small put used

@@ -1,5 +1,6 @@
 use Rattle.std.proofs.Common.{◌∙◌, rules}
 use Rattle.change_parts.specs.ChangeFault.{IsOutside, of_space}
+use Rattle.edge_changes.proofs.EdgeGone.{edge_given}
 use Rattle.edge_changes.proofs.EdgeTaken.{links_right, parts_edge}
 use Rattle.edge_changes.proofs.EndWrites.{ends_given}
 use Rattle.change_parts.proofs.Exits.{fault_exit, space_outside}
@@ -101,3 +102,14 @@ returns-in_err-give-clause-groups g c _ _ = never_ok c.from_residual-in_err-give
 
 pub returns-clause-cause : goal.returns-clause-cause
 returns-clause-cause g c = ok_cause _ _ _ _ (later_on c.in_ok-part_ends.ensures.cause.later c.in_ok-give.ensures.cause.later)
+
+-- ---- it is in use no more
+pub returns-clause-gone : goal.returns-clause-gone
+returns-clause-gone g c tells =
+    edge_given (g.S.Reads.state c.part_ends.new.space) (g.S.Reads.state c.give.new.space) c.args.id (c.in_ok-give.ensures.ok tells)
+
+pub returns-in_err-part_ends-clause-gone : goal.returns-in_err-part_ends-clause-gone
+returns-in_err-part_ends-clause-gone g c _ = never_ok c.from_residual.result _ _ c.from_residual.ensures.1
+
+pub returns-in_err-give-clause-gone : goal.returns-in_err-give-clause-gone
+returns-in_err-give-clause-gone g c _ = never_ok c.from_residual-in_err-give.result _ _ c.from_residual-in_err-give.ensures.1

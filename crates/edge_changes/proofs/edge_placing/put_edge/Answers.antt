@@ -11,7 +11,7 @@ use Rattle.group_store.proofs.OwnGroups.{if_ok}
 use Rattle.change_parts.specs.ChangeFault.{IsOutside}
 use Rattle.edge_changes.specs.EdgeEnds.{AtEach, source_of}
 use Rattle.edge_changes.specs.EdgeOpening.{ends_moved, from_of, to_of}
-use Rattle.edge_changes.specs.EdgePlacing.{PutsEdge}
+use Rattle.edge_changes.specs.EdgePlacing.{IsEdgeBetween, PutsEdge}
 use Rattle.change_parts.specs.Store.{IsMidway}
 use Rattle.edge_changes.proofs.EdgeOpened.{puts_through}
 use Rattle.change_parts.proofs.ElementRooms.{room_still}
@@ -170,3 +170,18 @@ returns-clause-found g c tells used =
     (chain_then most 0 s t u (IsOfLost t ends) (g.met.S.Reads.onward_shape _ _ c.open_ends.ensures.onward) (c.in_ok-ends.ensures.room tells)
     (c.in_ok-ends.ensures.files tells) keeps damage told))
     (c.join_edge.ensures.found tells has)
+
+-- ---- it is in use, and leads from one node to the other
+pub returns-clause-stands : goal.returns-clause-stands
+returns-clause-stands g c tells =
+    let u = g.S.Reads.state c.join_edge.new.space in
+    let from = from_of c.args.joint in
+    let to = to_of c.args.joint in
+    let ends = c.in_ok-ends.ends in
+    let nodes = c.in_ok-ends.ensures.nodes in
+    if_ok c.join_edge.result (λ id. IsEdgeBetween u.records id (source_of ends).node (target_of ends).node) (λ id. IsEdgeBetween u.records id from to)
+    (λ id stands. subst (λ n. IsEdgeBetween u.records id n to) nodes.0 (subst (IsEdgeBetween u.records id (source_of ends).node) nodes.1 stands))
+    (c.join_edge.ensures.stands tells)
+
+pub returns-in_err-ends-clause-stands : goal.returns-in_err-ends-clause-stands
+returns-in_err-ends-clause-stands g c _ = never_ok c.from_residual.result _ _ c.from_residual.ensures.1

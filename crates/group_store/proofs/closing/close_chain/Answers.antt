@@ -9,6 +9,7 @@ use Rattle.group_store.specs.GroupRecord.{group_key}
 use Rattle.chain_edit.specs.Heads.{head_of}
 use Rattle.group_store.proofs.BrokenGroups.{close_breaks}
 use Rattle.group_store.proofs.Closings.{closable, closed_by}
+use Rattle.group_store.proofs.ClosedBeside.{beside_closed}
 use Rattle.group_store.proofs.KeptHeads.{heads_closed}
 use Rattle.group_store.proofs.Openings.{handed}
 use Rattle.group_store.proofs.OtherChains.{others_closed}
@@ -94,3 +95,12 @@ returns-in_err-drop_if_empty-clause-onward g c = search rules
 
 pub returns-in_err-drop_if_empty-clause-others : goal.returns-in_err-drop_if_empty-clause-others
 returns-in_err-drop_if_empty-clause-others g c _ _ = never_ok c.from_residual.result _ _ c.from_residual.ensures.1
+
+-- ---- records that stay
+pub returns-in_ok-drop_if_empty-clause-keeps : goal.returns-in_ok-drop_if_empty-clause-keeps
+returns-in_ok-drop_if_empty-clause-keeps g c = λ tells.
+    beside_closed (g.S.Reads.state c.args.space.now) (g.S.Reads.state c.drop_if_empty.new.space) c.args.node c.args.head.key.id c.in_ok-drop_if_empty.field-0
+    c.in_ok-drop_if_empty.ensures.kept (c.in_ok-drop_if_empty.ensures.ok tells)
+
+pub returns-in_err-drop_if_empty-clause-keeps : goal.returns-in_err-drop_if_empty-clause-keeps
+returns-in_err-drop_if_empty-clause-keeps g c _ = never_ok c.from_residual.result _ _ c.from_residual.ensures.1

@@ -21,6 +21,7 @@ use Rattle.prop_store.specs.declared.owner.Owner.{Owner}
 use Rattle.prop_store.specs.declared.set_fault.SetFault.TheVariants.{Full}
 use Rattle.prop_store.proofs.ElementGraphs.{count_is, lacks_key, listed_at, owns_listed, refusal_graph, sets_graph}
 use Rattle.prop_store.proofs.ElementSets.{first_leads, keeps_properties, keeps_strings, no_new_blocks, no_property, puts_read, value_added}
+use Rattle.prop_store.proofs.LeftElements.{left_after, left_set, left_then}
 use Rattle.prop_store.proofs.Midway.{set_caused_more, set_caused_space, set_has, lists_broken, lists_of_space, lists_read, set_still_space}
 use Rattle.prop_store.proofs.PutLists.{led_harms_no_lists, read_harms_no_lists}
 use Rattle.prop_store.proofs.ReadCounts.{reads_one, reads_same}
@@ -348,3 +349,25 @@ returns-in_err-set_number-clause-refused g c tells has none few =
 
 pub set_number-requires-clause-key : goal.set_number-requires-clause-key
 set_number-requires-clause-key g c = c.requires.owner.key
+
+-- ---- which records are other
+
+pub returns-clause-leaves : goal.returns-clause-leaves
+returns-clause-leaves g c tells =
+    let s = g.S.Reads.state c.args.space.now in
+    let z = g.S.Reads.state c.first.new.space in
+    let m = g.S.Reads.state c.put_new.new.space in
+    let t = g.S.Reads.state c.set_number.new.space in
+    left_then s m t c.args.owner
+    (left_after g.S.Reads.tells 1 (blocks_of c.args.value.now) s z m c.args.owner c.requires.owner tells (reads_same 1 s z (reads_one 1 s z (omega arith)
+    c.first.ensures.state)) c.put_new.ensures.touches)
+    (left_set m t c.args.owner c.in_ok-id.id (c.in_ok-set_number.ensures.ok tells))
+
+pub returns-in_err-next-clause-leaves : goal.returns-in_err-next-clause-leaves
+returns-in_err-next-clause-leaves g c _ = never_ok c.from_residual.result _ _ c.from_residual.ensures.1
+
+pub returns-in_err-id-clause-leaves : goal.returns-in_err-id-clause-leaves
+returns-in_err-id-clause-leaves g c _ = never_ok c.from_residual-in_err-id.result _ _ c.from_residual-in_err-id.ensures.1
+
+pub returns-in_err-set_number-clause-leaves : goal.returns-in_err-set_number-clause-leaves
+returns-in_err-set_number-clause-leaves g c _ = never_ok c.from_residual-in_err-set_number.result _ _ c.from_residual-in_err-set_number.ensures.1

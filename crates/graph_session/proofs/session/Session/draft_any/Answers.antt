@@ -1,4 +1,4 @@
-use Rattle.std.proofs.Common.{◌≡◌, ℕ, [], ap, refl, sym}
+use Rattle.std.proofs.Common.{◌≡◌, ℕ, [], ap, refl, subst, sym}
 use Rattle.std.proofs.lemmas.List.{append-nil}
 use Rattle.plain_graph.specs.declared.command.Command.TheVariants as commands
 use Rattle.plain_graph.specs.Reply.{EdgeMade, NodeMade}
@@ -9,6 +9,7 @@ use Rattle.name_store.specs.Interning.{interned}
 use Rattle.change_parts.specs.Damage.{BlamesEntries, BlamesGiven}
 use Rattle.change_parts.specs.declared.added.Added.{Added}
 use Rattle.txn_core.specs.Store.{drafted, state_of}
+use Rattle.edge_changes.specs.EdgePlacing.{IsEdgeBetween}
 use Rattle.graph_session.specs.declared.answer.Answer.TheVariants as answers
 use Rattle.graph_session.proofs.FoundDamage.{entries-aside, found-call, found-none, given-aside}
 use Rattle.graph_session.proofs.LineDrafts.{drafts-call, ok-has}
@@ -41,8 +42,13 @@ returns-in-Edge-clause-drafts g c =
     (drafts-call (λ (added : Added). answers.EdgeMade added.id) (λ (added : Added). added.weight) (commands.Edge c.in-Edge.from c.in-Edge.label.now c.in-Edge.to
     c.in-Edge.pairs.now) (λ added. (added.id, refl)) (returns-in-Edge-clause-only g c) c.add_edge.result (λ told. met.made told) met.light met.writes
     (λ told has. met.refused told has)
-    (λ made is told. ap EdgeMade (ok-has (λ (added : Added). added.id ≡ taken_id (meta_in (drafted c.args.self.now.store) format.relationships_file))
-    c.add_edge.result (met.taken told) made is)) met.cause)
+    (λ made is told.
+    let id_is : made.id ≡ taken_id (meta_in (drafted c.args.self.now.store) format.relationships_file)
+    = ok-has (λ (added : Added). added.id ≡ taken_id (meta_in (drafted c.args.self.now.store) format.relationships_file))
+    c.add_edge.result (met.taken told) made is in
+    let stands = ok-has (λ (added : Added). IsEdgeBetween (drafted c.add_edge.new.space) added.id c.in-Edge.from c.in-Edge.to)
+    c.add_edge.result (met.stands told) made is in
+    (ap EdgeMade id_is, subst (λ id. IsEdgeBetween (drafted c.add_edge.new.space) id c.in-Edge.from c.in-Edge.to) id_is stands)) met.cause)
 
 pub returns-in-Set-clause-only : goal.returns-in-Set-clause-only
 returns-in-Set-clause-only g c =

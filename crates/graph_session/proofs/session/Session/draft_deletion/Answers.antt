@@ -1,10 +1,13 @@
-use Rattle.std.proofs.Common.{ℕ, [], refl, sym}
+use Rattle.std.proofs.Common.{◌≢◌, ℕ, None, [], refl, sym}
 use Rattle.std.proofs.lemmas.List.{append-nil}
 use Rattle.plain_graph.specs.declared.command.Command.TheVariants as commands
 use Rattle.plain_graph.specs.declared.command.Target.TheVariants as targets
-use Rattle.change_parts.specs.Damage.{BlamesBroken}
-use Rattle.node_changes.specs.NodeDeleting.{IsDeleteCause}
+use Rattle.rel_store.specs.Loading as rels
 use Rattle.txn_core.specs.Store.{drafted, state_of}
+use Rattle.change_parts.specs.Damage.{BlamesBroken}
+use Rattle.change_parts.specs.Degrees.{HasDegree}
+use Rattle.edge_changes.specs.EdgeDeleting.{IsUnusedEdge}
+use Rattle.node_changes.specs.NodeDeleting.{IsDeleteCause, IsUnused}
 use Rattle.graph_session.specs.declared.answer.Answer.TheVariants as answers
 use Rattle.graph_session.proofs.FoundDamage.{broken-aside, deletion-aside, found-call}
 use Rattle.graph_session.proofs.LineDrafts.{deletion-left, drafts-call}
@@ -30,8 +33,8 @@ returns-in-Node-clause-drafts g c =
     (drafts-call (λ (weight : ℕ). answers.Done) (λ (weight : ℕ). weight) (commands.Delete (targets.Node c.in-Node.id)) (λ weight. refl)
     (returns-in-Node-clause-only g c) c.delete_node.result (λ told. met.made told) met.light met.writes
     (λ told has. met.refused told has)
-    (λ made is told. deletion-left c.in-Node.id (drafted c.args.self.now.store) (drafted c.delete_node.new.space) c.delete_node.result (met.lone told)
-    (met.gone told) made is) met.cause)
+    (λ made is told. deletion-left (HasDegree (drafted c.args.self.now.store) c.in-Node.id 0) (IsUnused (drafted c.delete_node.new.space) c.in-Node.id)
+    c.delete_node.result (met.lone told) (met.gone told) made is) met.cause)
 
 pub returns-in-Edge-clause-only : goal.returns-in-Edge-clause-only
 returns-in-Edge-clause-only g c =
@@ -52,7 +55,9 @@ returns-in-Edge-clause-drafts g c =
     rw (c.in-Edge.is, c.drafted_done-in-Edge.ensures)
     (drafts-call (λ (weight : ℕ). answers.Done) (λ (weight : ℕ). weight) (commands.Delete (targets.Edge c.in-Edge.id)) (λ weight. refl)
     (returns-in-Edge-clause-only g c) c.delete_edge.result (λ told. met.made told) met.light met.writes
-    (λ told has. met.refused told has) (λ made is told. tt) met.cause)
+    (λ told has. met.refused told has)
+    (λ made is told. deletion-left (rels.row_at (drafted c.args.self.now.store) c.in-Edge.id ≢ None)
+    (IsUnusedEdge (drafted c.delete_edge.new.space) c.in-Edge.id) c.delete_edge.result (met.there told) (met.gone told) made is) met.cause)
 
 pub returns-in-Node-clause-found : goal.returns-in-Node-clause-found
 returns-in-Node-clause-found g c =
