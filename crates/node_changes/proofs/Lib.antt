@@ -7,6 +7,7 @@ pub mod EntriesHeld
 pub mod EntriesMade
 mod EntriesNamed
 pub mod EntryChanges
+pub mod GivenKeys
 pub mod HeldValues
 pub mod HeldWeights
 pub mod IndexBeside

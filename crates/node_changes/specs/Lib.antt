@@ -2,3 +2,4 @@ pub mod Entries
 pub mod Indexing
 pub mod NodeAdding
 pub mod NodeDeleting
+pub mod PropertySetting

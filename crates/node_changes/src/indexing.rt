@@ -11,7 +11,7 @@ ghost use Rattle.plain_graph.specs.Reply.{Done};
 ghost use Rattle.plain_graph.specs.declared.command.Command.TheVariants as commands;
 ghost use Rattle.rec_bytes.specs.Space.{SameButReads};
 ghost use Rattle.store_rules.specs.Writes.{WritesAtMost};
-ghost use Rattle.change_parts.specs.Causes.{IsCaused, IsCausedAfter};
+ghost use Rattle.change_parts.specs.Causes.{HasDefinition, IsCaused, IsCausedAfter};
 ghost use Rattle.change_parts.specs.Change.{IsCounted, IsRefusal, IsRefusedBy, MakesChange};
 ghost use Rattle.change_parts.specs.ChangeFault.{HasChangeCause, LeavesSpace};
 ghost use Rattle.change_parts.specs.Damage.{BlamesBroken, BlamesMaking};
@@ -58,6 +58,8 @@ pub fn index<S: Space>(
         (interned (interned (S.state space.old) names.old.names label.now) known key.now)) }
     ensures counts { S.tells → IsStore (S.state space.old) names.old.names
         → IfErr result (IsCounted (S.state space.old)) }
+    ensures stands { S.tells → OnOk result (HasDefinition (S.state space.new).records
+        names.new.names label.now key.now) }
     ensures names_full { (used : List (List ℕ))
         → UsesNames names.old.names (label.now ∷ key.now ∷ []) used
         → most_names < length used → IsErr result }

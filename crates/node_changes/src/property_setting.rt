@@ -1,5 +1,5 @@
 ghost use Rattle.std.specs.Prelude.{◌≡◌, ◌++◌, ◌+◌, ◌<◌, ◌≤◌, ℕ, List, [], ◌∷◌, IfErr, IfOk, IsErr};
-ghost use Rattle.std.specs.Prelude.{OnErr, length};
+ghost use Rattle.std.specs.Prelude.{OnErr, OnOk, length};
 ghost use Rattle.plain_graph.specs.Changes.{most_weight, start_weight};
 ghost use Rattle.name_store.specs.Interning.{interned};
 ghost use Rattle.plain_graph.specs.Graph.{UsesNames};
@@ -13,6 +13,7 @@ ghost use Rattle.change_parts.specs.Change.{IsRefusal, IsSetCount, MakesChange};
 ghost use Rattle.change_parts.specs.ChangeFault.{HasChangeCause, LeavesSpace};
 ghost use Rattle.change_parts.specs.Damage.{BlamesGiven, BlamesEntries};
 ghost use Rattle.change_parts.specs.Store.{IsStore, graph_in};
+ghost use Rattle.node_changes.specs.PropertySetting.{GivesKey, LosesKey};
 
 use crate::entries::{change_entry, indexed_value, leave_entry};
 use change_parts::{ChangeFault, block_count, find_owner};
@@ -46,6 +47,9 @@ pub fn set<S: Space>(
     ensures damaged { S.tells → IfErr result
         (BlamesGiven (S.state space.old)
         (interned (S.state space.old) names.old.names key.now) (S.state space.new)) }
+    // the records lead to the value
+    ensures gives { S.tells → OnOk result (GivesKey (S.state space.new).records names.new.names
+        target key.now value.now) }
     ensures counts { S.tells → IfErr result (IsSetCount (S.state space.old).shape) }
     ensures names_full { (used : List (List ℕ)) → UsesNames names.old.names (key.now ∷ []) used
         → most_names < length used → IsErr result }
@@ -89,6 +93,9 @@ pub fn unset<S: Space>(
         (S.state space.new) names.now.names names.now.names) }
     ensures damaged { S.tells
         → IfErr result (BlamesEntries (S.state space.old) (S.state space.new)) }
+    // the property of the key that the records led to is in use no more
+    ensures gone { S.tells → OnOk result (LosesKey (S.state space.old).records
+        (S.state space.new).records names.now.names target key.now) }
     ensures leaves { IfErr result (LeavesSpace (S.state space.old) (S.state space.new)) }
     ensures light { IfOk result (λ weight. weight + start_weight ≤ most_weight) }
     ensures writes { IfOk result (λ weight.

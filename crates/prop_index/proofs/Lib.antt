@@ -29,6 +29,7 @@ mod Made
 pub mod IndexNamed
 mod MadeRules
 mod MakeFaults
+mod PairStands
 mod RecordFits
 mod RecordsAdded
 mod Reread

@@ -44,7 +44,7 @@ definition_some : format.definition ≢ 0
 definition_some e = omega (arith, e)
 
 -- what is in use and the byte of a definition is one
-is_definition : (records : Records) (x : ℕ) → kind_at records format.index_file x ≢ format.free_kind → field 1 (index_rec records x) format.kind ≡
+pub is_definition : (records : Records) (x : ℕ) → kind_at records format.index_file x ≢ format.free_kind → field 1 (index_rec records x) format.kind ≡
     format.definition
     → kind_at records format.index_file x ≡ format.definition
 is_definition records x used is =

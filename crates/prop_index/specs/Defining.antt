@@ -7,7 +7,7 @@ use Rattle.rec_bytes.specs.Record.{field}
 use Rattle.rec_bytes.specs.RecordFiles.{meta_key_of, room_of}
 use Rattle.rec_bytes.specs.Space.{State, meta_of}
 use Rattle.store_rules.specs.IndexChange.{IsDefinitionMade}
-use Rattle.store_rules.specs.Indexes.{first_definition, index_rec}
+use Rattle.store_rules.specs.Indexes.{first_definition, index_rec, indexed_key, indexed_label}
 use Rattle.store_rules.specs.Ranges.{Fits}
 use Rattle.store_rules.specs.Views.{Records, high, kind_at}
 use Rattle.id_freelist.specs.ListDamage.{KeepsInUse}
@@ -99,3 +99,26 @@ AreHeadsUsed s count rec =
 pub record PutsHeads (s t : State) (count : ℕ) (rec : Rec) : Type 0 where
   pub keeps : KeepsInUse s t format.index_file
   pub used : AreHeadsUsed t count rec
+
+-- a definition has the label and the key
+abbrev pub HasPair : Records → ℕ → ℕ → Type 0
+HasPair records label key =
+    (d : ℕ) × (kind_at records format.index_file d ≡ format.definition)
+    × (indexed_label records d ≡ label) × (indexed_key records d ≡ key)
+
+-- The record of the definition is in use, is none of its heads, and has the label and the key.
+pub record IsDefined (t : State) (label key : ℕ) (definition : Definition) : Type 0 where
+  pub used : kind_at t.records format.index_file definition.id ≢ format.free_kind
+  pub here : index_rec t.records definition.id ≡ definition.rec
+  pub apart : (c : ℕ) → c < 12 → definition.id ≢ head_of definition.rec c
+  pub kind : field 1 definition.rec format.kind ≡ format.definition
+  pub label_is : field 4 definition.rec format.definition_label ≡ label
+  pub key_is : field 4 definition.rec format.definition_key ≡ key
+
+-- Each record in use but these heads is still in use, and is as it was.
+abbrev pub KeepsBeside : State → State → Rec → Type 0
+KeepsBeside s t rec =
+    (x : ℕ) → kind_at s.records format.index_file x ≢ format.free_kind
+    → ((c : ℕ) → c < 12 → x ≢ head_of rec c)
+    → (kind_at t.records format.index_file x ≢ format.free_kind)
+    × (index_rec t.records x ≡ index_rec s.records x)

@@ -1,6 +1,6 @@
 //! A definition with empty buckets.
 
-ghost use Rattle.std.specs.Prelude.{◌≡◌, ◌≢◌, ◌<◌, ℕ, [], ◌∷◌, IfErr, IfOk, OnOk};
+ghost use Rattle.std.specs.Prelude.{◌≡◌, ◌≢◌, ◌+◌, ◌<◌, ◌≤◌, ℕ, [], ◌∷◌, IfErr, IfOk, OnOk};
 ghost use Rattle.id_freelist.specs.ListDamage.{BlamesList};
 ghost use Rattle.id_freelist.specs.TakeFault.{HasTakeCause};
 ghost use Rattle.prop_index.specs.Blaming.{TakeBlamesBroken as BlamesBroken};
@@ -9,6 +9,7 @@ ghost use Rattle.prop_index.specs.Defining.{
   AreNamesOf,
   CountsMore,
   HasLeft,
+  IsDefined,
   IsDefinitionAdded,
   IsRecordAdded,
   PutsHeads,
@@ -19,10 +20,10 @@ ghost use Rattle.prop_index.specs.Entering.{IsMishap, IsNotFull};
 ghost use Rattle.prop_index.specs.Reading.{KeepsStore};
 ghost use Rattle.prop_index.specs.Touching.{TouchesIndex, index_keys};
 ghost use Rattle.prop_store.specs.Touching.{TouchesOnly};
-ghost use Rattle.rec_bytes.specs.Format.{index_file};
+ghost use Rattle.rec_bytes.specs.Format.{definition_heads, free_kind, index_file};
 ghost use Rattle.rec_bytes.specs.Key.{IsKey};
 ghost use Rattle.rec_bytes.specs.Record.{field};
-ghost use Rattle.store_rules.specs.Views.{key_in};
+ghost use Rattle.store_rules.specs.Views.{key_in, kind_at};
 
 use crate::definition_record::{definition_start, empty_heads};
 use crate::finding::Definition;
@@ -47,6 +48,7 @@ pub(crate) fn define<S: Space>(space: &mut S, label: u32, key: u32) -> Result<De
         (BlamesBroken (S.state space.new).records (S.state space.new).shape) }
     ensures kept { S.tells → IfOk result (λ definition.
         PutsHeads (S.state space.old) (S.state space.new) 12 definition.rec) }
+    ensures defined { S.tells → IfOk result (IsDefined (S.state space.new) label key) }
     ensures heads { IfOk result (λ definition. (c : ℕ) → c < 12
         → IsKey (key_in index_file (head_of definition.rec c))) }
     ensures touched { IfOk result (λ definition. TouchesOnly S.tells (S.state space.old)
@@ -78,6 +80,8 @@ fn add_heads<S: Space>(space: &mut S, start: Rec) -> Result<Rec, TakeFault>
     ensures kept { S.tells
         → IfOk result (PutsHeads (S.state space.old) (S.state space.new) 12) }
     ensures kind { IfOk result (λ rec. field 1 rec KIND ≡ field 1 start KIND) }
+    ensures front { IfOk result (λ rec. (n at : ℕ) → at + n ≤ definition_heads
+        → field n rec at ≡ field n start at) }
     ensures heads { IfOk result (λ rec. (c : ℕ) → c < 12
         → IsKey (key_in index_file (head_of rec c))) }
     ensures touched { IfOk result (λ rec. TouchesOnly S.tells (S.state space.old)
@@ -108,6 +112,10 @@ fn add_record<S: Space>(space: &mut S, rec: Rec) -> Result<u32, TakeFault>
         (BlamesBroken (S.state space.new).records (S.state space.new).shape) }
     ensures kept { S.tells → field 1 rec KIND ≢ FREE
         → IfOk result (PutsInUse (S.state space.old) (S.state space.new)) }
+    ensures fresh { S.tells
+        → IfOk result (λ id. kind_at (S.state space.old).records index_file id ≡ free_kind) }
+    ensures here { S.tells
+        → IfOk result (λ id. (S.state space.new).records (key_in index_file id) ≡ rec) }
     ensures key { IfOk result (λ id. IsKey (key_in index_file id)) }
     ensures touched { IfOk result (λ id. TouchesOnly S.tells (S.state space.old)
         (S.state space.new) (index_keys (id ∷ []))) }

@@ -4,7 +4,7 @@ ghost use Rattle.std.specs.Prelude.{◌<◌, ℕ, IfErr, OnOk, length};
 ghost use Rattle.id_freelist.specs.ListDamage.{BlamesList};
 ghost use Rattle.id_freelist.specs.TakeFault.{HasTakeCause};
 ghost use Rattle.prop_index.specs.Blaming.{TakeBlamesBroken as BlamesBroken};
-ghost use Rattle.prop_index.specs.Defining.{AreHeadsUsed, HasLeft};
+ghost use Rattle.prop_index.specs.Defining.{AreHeadsUsed, HasLeft, KeepsBeside};
 ghost use Rattle.prop_index.specs.DefinitionRecord.{head_ids, head_of};
 ghost use Rattle.prop_index.specs.Entering.{IsMishap, IsNotFull};
 ghost use Rattle.prop_index.specs.Filling.{AreFillable, IsEmptyIndex, IsFilled, TouchesBeside};
@@ -45,6 +45,9 @@ pub(crate) fn fill<S: Space>(
         → IfErr result IsNotFull }
     ensures damaged { S.tells → AreHeadsUsed (S.state space.old) 12 definition.now.rec
         → IfErr result (BlamesList (S.state space.old) index_file) }
+    // the definitions are as they were, and all that was in use but the heads
+    ensures beside { S.tells → AreHeadsUsed (S.state space.old) 12 definition.now.rec
+        → OnOk result (KeepsBeside (S.state space.old) (S.state space.new) definition.now.rec) }
     ensures damaged_after { S.tells → IfErr result
         (BlamesBroken (S.state space.new).records (S.state space.new).shape) }
     ensures touches { TouchesBeside S.tells (head_ids 12 definition.now.rec)

@@ -54,6 +54,8 @@ pub(crate) fn put_in_front<S: Space>(
         → OnOk result (KeepsStore (S.state space.new)) }
     ensures counted { S.tells → OnOk result ((meta_of (S.state space.new) index_file).live
         ≡ (meta_of (S.state space.old) index_file).live + 1) }
+    ensures fresh { S.tells
+        → IfOk result (λ id. kind_at (S.state space.old).records index_file id ≡ free_kind) }
     ensures sound { S.tells → (free : List ℕ) → CanTake (S.state space.old) index_file free
         → NotDamaged result }
     ensures full { S.tells → IfErr result (IsIndexFull (S.state space.old)) }

@@ -7,7 +7,7 @@ ghost use Rattle.id_freelist.specs.TakeFault as takes;
 ghost use Rattle.id_freelist.specs.TakeFault.{HasTakeCause};
 ghost use Rattle.prop_index.specs.Blaming.{TakeBlamesBroken};
 ghost use Rattle.prop_index.specs.Collecting.{contents_in};
-ghost use Rattle.prop_index.specs.Defining.{AreNamesOf, HasLeft};
+ghost use Rattle.prop_index.specs.Defining.{AreNamesOf, HasLeft, HasPair};
 ghost use Rattle.prop_index.specs.Entering.{IsMishap, IsNotFull};
 ghost use Rattle.prop_index.specs.MakeFault.{BlamesBroken, HasMakeCause, of_take};
 ghost use Rattle.prop_index.specs.Making.{
@@ -64,6 +64,7 @@ pub fn make<S: Space>(alloc: Global, space: &mut S, label: u32, key: u32) -> Res
     ensures written { IfOk result (λ count.
         TouchesIndex S.tells (13 + count) (S.state space.old) (S.state space.new)) }
     ensures few { IfOk result (λ count. count ≤ 1024) }
+    ensures stands { S.tells → OnOk result (HasPair (S.state space.new).records label key) }
     ensures unwritten { S.tells → IfErr result
         (IsUnwrittenFull (S.state space.old) (S.state space.new)) }
     ensures at_most { TouchesIndex S.tells 1037 (S.state space.old) (S.state space.new) }
@@ -148,6 +149,7 @@ fn write_index<S: Space>(
     ensures roomy { S.tells → HasLeft (S.state space.old) (13 + length contents.now)
         → IfErr result IsNotFull }
     ensures damaged { S.tells → IfErr result (BlamesList (S.state space.old) index_file) }
+    ensures stands { S.tells → OnOk result (HasPair (S.state space.new).records label key) }
     ensures damaged_after { S.tells → IfErr result
         (TakeBlamesBroken (S.state space.new).records (S.state space.new).shape) }
     ensures touches { TouchesIndex S.tells (13 + length contents.now)

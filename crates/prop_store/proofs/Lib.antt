@@ -15,6 +15,7 @@ pub mod Exits
 pub mod FileMoves
 pub mod FileSteps
 pub mod Followed
+pub mod GivenValues
 pub mod HeldSteps
 pub mod Keys
 pub mod LeftElements
@@ -36,6 +37,7 @@ pub mod ReleaseSteps
 pub mod SetCauses
 pub mod TextSteps
 pub mod Touches
+pub mod Unused
 pub mod ValueRemovals
 pub mod ValueSteps
 pub mod WalkSteps

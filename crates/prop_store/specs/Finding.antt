@@ -1,13 +1,17 @@
 -- A search for a key among the properties of an element.
-use Rattle.std.specs.Prelude.{◌≡◌, ◌≤◌, ℕ, nat_eq, if◌then◌else◌, Option, None, Some, List, [], ◌∷◌}
+use Rattle.std.specs.Prelude.{◌≡◌, ◌≢◌, ◌≤◌, ℕ, nat_eq, if◌then◌else◌, Option, None, Some, List, [], ◌∷◌}
 use Rattle.std.specs.Prelude.{◌++◌, length}
 use Rattle.std.specs.Option.{option_map}
 use Rattle.plain_graph.specs.declared.value.Value.{Value}
+use Rattle.rec_bytes.specs.declared.key.Key.{Key}
+use Rattle.rec_bytes.specs.declared.record.Rec.{Rec}
 use Rattle.rec_bytes.specs.Format as format
 use Rattle.rec_bytes.specs.Record.{field}
-use Rattle.store_rules.specs.Properties.{IsProperty, Property, first_property, property_at}
+use Rattle.rec_bytes.specs.RecordFiles.{meta_key_of}
+use Rattle.store_rules.specs.Properties.{IsProperty, Property, content_for, content_of}
+use Rattle.store_rules.specs.Properties.{first_property, property_at}
 use Rattle.store_rules.specs.Properties.{property_records}
-use Rattle.store_rules.specs.Views.{Records, rec_at}
+use Rattle.store_rules.specs.Views.{Records, key_in, kind_at, rec_at}
 use Rattle.prop_store.specs.Link.{IsLink, IsLinkOf, link_after, link_of}
 use Rattle.prop_store.specs.PropertyRow.{IsReadRow, IsRow}
 use Rattle.prop_store.specs.Reading.{properties_met}
@@ -67,6 +71,34 @@ pub record MetAt (records : Records) (owner : Owner) (key : ℕ) (row : Property
 -- they lead to none with the key
 abbrev pub LacksMet : Records → Owner → ℕ → Type 0
 LacksMet records owner key = property_of (properties_met records owner) key ≡ None
+
+-- the one that they led to, if any, is in use no more
+abbrev pub FreesMet : Records → Records → Owner → ℕ → Type 0
+FreesMet old new owner key =
+    (e : Property) → property_of (properties_met old owner) key ≡ Some e
+    → kind_at new format.properties_file e.id ≡ format.free_kind
+
+-- The record is of this key and value. Of a text in blocks it says the length.
+pub record IsRecordOf (r : Rec) (key : ℕ) (value : Value) : Type 0 where
+  pub key_is : field 4 r format.property_key ≡ key
+  pub first : ℕ
+  pub content : content_of r ≡ Some (content_for value first)
+
+-- the first one with the key that the records lead to has a record of the value
+abbrev pub GivesMet : Records → Owner → ℕ → Value → Type 0
+GivesMet records owner key value =
+    (e : Property) × (property_of (properties_met records owner) key ≡ Some e)
+    × IsRecordOf (rec_at records format.properties_file e.id) key value
+
+-- The record of a property has another value. Else blocks alone are other.
+pub record PutsAgain (s t : Records) (row : PropertyRow) (value : Value) : Type 0 where
+  pub here : IsRecordOf (rec_at t format.properties_file row.id)
+      (field 4 row.rec format.property_key) value
+  pub next_is : field 4 (rec_at t format.properties_file row.id) format.property_next
+      ≡ field 4 row.rec format.property_next
+  pub others : (key : Key) → key.file ≢ format.strings_file
+      → key ≢ meta_key_of format.strings_file
+      → key ≢ key_in format.properties_file row.id → t key ≡ s key
 
 -- so it was found, or they lead to none, and to so many others
 abbrev pub IsMet : Records → Owner → ℕ → PropertyRow → Search → Type 0

@@ -1,5 +1,5 @@
 -- Places of links to properties.
-use Rattle.std.specs.Prelude.{◌≡◌, ◌⊎◌, ℕ, ◌+◌, ◌≤◌, true, List, [], ◌∷◌}
+use Rattle.std.specs.Prelude.{◌≡◌, ◌⊎◌, ℕ, ◌+◌, ◌<◌, ◌≤◌, true, List, [], ◌∷◌}
 use Rattle.rec_bytes.specs.Format as format
 use Rattle.rec_bytes.specs.Key.{IsKey}
 use Rattle.rec_bytes.specs.RecordFiles.{is_meta_file}
@@ -20,10 +20,11 @@ abbrev pub link_after : Link → List Property → Link
 link_after link [] = link
 link_after link (e ∷ es) = link_after (next_link e.id) es
 
--- the place of a number in a record that a store can have, and no meta record
+-- the place of a number behind the kind of a record that a store can have, and no meta record
 pub record IsLink (link : Link) : Type 0 where
   pub key : IsKey link.key
   pub own : is_meta_file link.key.file ≡ true
+  pub behind : 0 < link.field
   pub place : link.field + 4 ≤ format.record_bytes
 
 -- it stands in the element's record, or in one of a property

@@ -1,6 +1,6 @@
 //! Properties of one element that are taken away, with the blocks of their values.
 
-ghost use Rattle.std.specs.Prelude.{◌+◌, ◌<◌, ◌≤◌, List, None, IfOk, [], ◌∷◌, IfErr};
+ghost use Rattle.std.specs.Prelude.{◌+◌, ◌<◌, ◌≤◌, List, None, IfOk, [], ◌∷◌, IfErr, OnOk};
 ghost use Rattle.store_rules.specs.Properties.{Property};
 ghost use Rattle.store_rules.specs.Writes.{WritesAtMost, WritesBeside};
 ghost use Rattle.prop_store.specs.Alone.{DropsAllAlone, OwnsProperties, UnsetsAlone};
@@ -9,6 +9,7 @@ ghost use Rattle.prop_store.specs.Changing.{released_blocks};
 ghost use Rattle.rec_bytes.specs.Fault.{HasFaultCause, NotDamaged, OnDamage};
 ghost use Rattle.rec_bytes.specs.Space.{SameButReads};
 ghost use Rattle.prop_store.specs.Fault.{BlamesBroken};
+ghost use Rattle.prop_store.specs.Finding.{FreesMet};
 ghost use Rattle.prop_store.specs.Owner.{IsInUse, IsOwner};
 ghost use Rattle.prop_store.specs.Touching.{LeavesElement, TouchesProperties};
 
@@ -39,6 +40,9 @@ pub fn unset<S: Space>(space: &mut S, owner: Owner, key: u32) -> Result<Option<u
         → OwnsProperties (S.state space.old) owner es → NotDamaged result }
     ensures damaged { S.tells → IsInUse (S.state space.old).records owner
         → IfErr result (BlamesBroken (S.state space.old).records (S.state space.old).shape) }
+    // the property of the key that the records led to is in use no more
+    ensures gone { S.tells → OnOk result
+        (FreesMet (S.state space.old).records (S.state space.new).records owner key) }
     ensures few { IfOk result (λ released. released_blocks released ≤ 22) }
     ensures writes { IfOk result (λ released. WritesAtMost (2 + released_blocks released)
         (S.state space.old) (S.state space.new)) }

@@ -1,8 +1,10 @@
 //! Properties given back with their blocks.
 
-ghost use Rattle.std.specs.Prelude.{◌≡◌, ◌≤◌, List, [], IfOk, IfErr};
+ghost use Rattle.std.specs.Prelude.{◌≡◌, ◌≤◌, List, [], IfErr, IfOk, OnOk};
+ghost use Rattle.rec_bytes.specs.Format.{free_kind, properties_file};
 ghost use Rattle.rec_bytes.specs.Space.{SameButReads};
 ghost use Rattle.store_rules.specs.Properties.{Property};
+ghost use Rattle.store_rules.specs.Views.{kind_at};
 ghost use Rattle.prop_store.specs.Dropping.{AreHeld, DropsProperties, DropsProperty, IsHeld};
 ghost use Rattle.rec_bytes.specs.Fault.{HasFaultCause, NotDamaged, OnDamage};
 ghost use Rattle.prop_store.specs.Blocks.{IsTextFault};
@@ -28,6 +30,8 @@ pub(crate) fn drop_property<S: Space>(space: &mut S, row: &PropertyRow) -> Resul
         → IfOk result (DropsProperty (S.state space.old) (S.state space.new) e) }
     ensures sound { S.tells → (e : Property) → IsHeld (S.state space.old) row.now e
         → NotDamaged result }
+    ensures gone { S.tells → OnOk result
+        (kind_at (S.state space.new).records properties_file row.now.id ≡ free_kind) }
     ensures few { IfOk result (λ released. released ≤ 22) }
     ensures touches { IfOk result (λ released. TouchesProperties S.tells [] 1 released
         (S.state space.old) (S.state space.new)) }

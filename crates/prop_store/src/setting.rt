@@ -17,7 +17,7 @@ ghost use Rattle.prop_store.specs.Changing.{HasKey, IsSetRefusal, SetsValue, pro
 ghost use Rattle.prop_store.specs.Changing.{text_at};
 ghost use Rattle.prop_store.specs.Dropping.{IsHeld};
 ghost use Rattle.prop_store.specs.FileChange.{KeepsFile};
-ghost use Rattle.prop_store.specs.Finding.{IsCrowded, LacksMet};
+ghost use Rattle.prop_store.specs.Finding.{GivesMet, IsCrowded, IsRecordOf, LacksMet, PutsAgain};
 ghost use Rattle.prop_store.specs.Owner.{IsInUse, IsOwner};
 ghost use Rattle.prop_store.specs.PropertyRow.{IsReadRow, IsRow};
 ghost use Rattle.prop_store.specs.SetFault.{HasSetCause, IsSetCause};
@@ -30,6 +30,7 @@ ghost use Rattle.rec_bytes.specs.Record.{field};
 ghost use Rattle.rec_bytes.specs.RecordFiles.{room_of};
 ghost use Rattle.rec_bytes.specs.Space.{SameButReads, meta_of};
 ghost use Rattle.store_rules.specs.Properties.{Property, long_text};
+ghost use Rattle.store_rules.specs.Views.{rec_at};
 
 use crate::block_writing::write_text;
 use crate::finding::{Search, find};
@@ -41,7 +42,7 @@ use crate::{Owner, SetFault};
 use id_freelist::take;
 use plain_graph::Value;
 use rec_bytes::{
-    Key, MOST_PROPERTIES, PROPERTIES, PROPERTY_KEY, PROPERTY_NEXT, PROPERTY_TEXT_BYTES, Reads,
+    Key, MOST_PROPERTIES, NIL, PROPERTIES, PROPERTY_KEY, PROPERTY_NEXT, PROPERTY_TEXT_BYTES, Reads,
     Space, room_of, set_number,
 };
 
@@ -68,6 +69,9 @@ pub fn add<S: Space>(space: &mut S, owner: Owner, key: u32, value: &Value) -> Re
         → OwnsProperties (S.state space.old) owner es → IsKnownKey (S.state space.old) key
         → LacksKey es key → length es < 32
         → IfErr result (IsSetRefusalAlone (S.state space.old) es key value.now) }
+    // the records lead to the value
+    ensures gives { S.tells
+        → OnOk result (GivesMet (S.state space.new).records owner key value.now) }
     ensures writes { IfOk result (λ _. WritesBeside owner.key (1 + blocks_of value.now)
         (S.state space.old) (S.state space.new)) }
     ensures touches { TouchesProperties S.tells (owner.key ∷ []) 1 (blocks_of value.now)
@@ -113,6 +117,9 @@ pub fn set<S: Space>(space: &mut S, owner: Owner, key: u32, value: &Value) -> Re
     ensures alone_refused { S.tells → (es : List Property)
         → OwnsProperties (S.state space.old) owner es → IsKnownKey (S.state space.old) key
         → IfErr result (IsSetRefusalAlone (S.state space.old) es key value.now) }
+    // the records lead to the value
+    ensures gives { S.tells
+        → OnOk result (GivesMet (S.state space.new).records owner key value.now) }
     ensures few { IfOk result (λ released. released ≤ 22) }
     ensures writes { IfOk result (λ released. WritesAtMost (2 + blocks_of value.now + released)
         (S.state space.old) (S.state space.new)) }
@@ -177,6 +184,9 @@ fn put_new<S: Space>(space: &mut S, key: u32, value: &Value, next: u32) -> Resul
         → (meta_of (S.state space.old) properties_file).live
         ≢ room_of (S.state space.old).shape properties_file
         → IfErr result (IsPutFault (S.state space.old) 0 (blocks_of value.now)) }
+    ensures some { IfOk result (λ id. id ≢ NIL) }
+    ensures here { S.tells → IfOk result (λ id.
+        IsRecordOf (rec_at (S.state space.new).records properties_file id) key value.now) }
     ensures touches { TouchesProperties S.tells [] 1 (blocks_of value.now)
         (S.state space.old) (S.state space.new) }
     ensures caused { S.tells → IfErr result (IsSetCause ⊥
@@ -211,6 +221,8 @@ fn put_again<S: Space>(space: &mut S, row: &PropertyRow, value: &Value) -> Resul
         × PutsProperty (S.state space.old) (S.state space.new) (e.id ∷ []) e.blocks e.id
         (field 4 row.now.rec property_key) value.now
         (field 4 row.now.rec property_next)) }
+    ensures again { S.tells → OnOk result
+        (PutsAgain (S.state space.old).records (S.state space.new).records row.now value.now) }
     ensures few { IfOk result (λ released. released ≤ 22) }
     ensures refused { S.tells → (e : Property) → IsHeld (S.state space.old) row.now e
         → IfErr result (IsPutFault (S.state space.old) (length e.blocks) (blocks_of value.now)) }

@@ -1,4 +1,4 @@
-use Rattle.std.specs.Prelude.{Contains}
+use Rattle.std.specs.Prelude.{Contains, slice_get}
 use Rattle.rec_bytes.specs.Space.{SameButReads, State}
 use Rattle.std.proofs.Common.{ℕ, List, inl, inr, ◌≡◌, ◌≢◌, ◌+◌, ◌≤◌, Some, [], ◌∷◌, ◌++◌, length, ap, sym, ◌∙◌, subst, append_assoc, arith, refl, rules}
 use Rattle.plain_graph.specs.Graph.{UsesName}
@@ -677,3 +677,28 @@ returns-in_err-count-clause-light g c = never_ok c.from_residual-in_err-count.re
 
 pub returns-in_err-count-clause-writes : goal.returns-in_err-count-clause-writes
 returns-in_err-count-clause-writes g c = never_ok c.from_residual-in_err-count.result _ _ c.from_residual-in_err-count.ensures.1
+
+-- ---- a definition stands
+
+pub returns-clause-stands : goal.returns-clause-stands
+returns-clause-stands g c tells =
+    let named = named_for g (goal.at.returns-clause-stands g c).After-make tells in
+    let pair = c.in_ok-count.ensures.stands tells in
+    let now = c.intern-2.new.self.names in (
+      pair.0,
+      pair.1,
+      subst (λ n. slice_get now n ≡ Some c.args.label.now) (sym pair.2) named.label_at,
+      subst (λ n. slice_get now n ≡ Some c.args.key.now) (sym pair.3) named.key_at,
+    )
+
+pub returns-in_err-test_pair-clause-stands : goal.returns-in_err-test_pair-clause-stands
+returns-in_err-test_pair-clause-stands g c _ = never_ok c.from_residual.result _ _ c.from_residual.ensures.1
+
+pub returns-in_err-label-clause-stands : goal.returns-in_err-label-clause-stands
+returns-in_err-label-clause-stands g c _ = never_ok c.from_residual-in_err-label.result _ _ c.from_residual-in_err-label.ensures.1
+
+pub returns-in_err-key-clause-stands : goal.returns-in_err-key-clause-stands
+returns-in_err-key-clause-stands g c _ = never_ok c.from_residual-in_err-key.result _ _ c.from_residual-in_err-key.ensures.1
+
+pub returns-in_err-count-clause-stands : goal.returns-in_err-count-clause-stands
+returns-in_err-count-clause-stands g c _ = never_ok c.from_residual-in_err-count.result _ _ c.from_residual-in_err-count.ensures.1

@@ -72,6 +72,9 @@ use Rattle.rec_bytes.specs.Key.{IsKey}
 use Rattle.store_rules.specs.Indexes.{AreIndexed, wanted_in}
 use Rattle.store_rules.specs.Properties.{Property}
 use Rattle.rec_bytes.proofs.Causes.{never_ok, ok_cause}
+use Rattle.plain_graph.specs.declared.value.Value.{Value}
+use Rattle.prop_store.specs.Finding.{GivesMet}
+use Rattle.node_changes.proofs.GivenKeys.{given_beside}
 use Rattle.node_changes.proofs.property_setting.set.Goals as goal
 use Rattle.node_changes.proofs.property_setting.set.Goals.{After-change_entry, After-indexed_value, After-intern, In_err-entries}
 use Rattle.node_changes.proofs.property_setting.set.Given.{Over}
@@ -897,3 +900,31 @@ returns-clause-leaves g c tells = tt
 
 pub returns-clause-refused_writes : goal.returns-clause-refused_writes
 returns-clause-refused_writes g c = tt
+
+-- ---- the records lead to the value
+
+pub returns-clause-gives : goal.returns-clause-gives
+returns-clause-gives g c tells =
+    let after = (goal.at.returns-clause-gives g c).After-change_entry in
+    let back = (goal.at.After-change_entry g after).After-indexed_value in
+    let u = g.S.Reads.state c.set.new.space in
+    let v = g.S.Reads.state c.change_entry.new.space in
+    let number = c.in_ok-number.number in
+    let beside = touched_beside c.in_ok-entries.entries u v tells c.in_ok-entries.ensures.touches in
+    let gives = subst (λ (o : Owner). GivesMet u.records o number c.args.value.now) c.in_ok-owner.ensures.owner (c.in_ok-released.ensures.gives tells) in
+    (number, at g back, given_beside u.records v.records beside c.args.target number c.args.value.now gives)
+
+pub returns-in_err-owner-clause-gives : goal.returns-in_err-owner-clause-gives
+returns-in_err-owner-clause-gives g c _ = never_ok c.from_residual.result _ _ c.from_residual.ensures.1
+
+pub returns-in_err-number-clause-gives : goal.returns-in_err-number-clause-gives
+returns-in_err-number-clause-gives g c _ = never_ok c.from_residual-in_err-number.result _ _ c.from_residual-in_err-number.ensures.1
+
+pub returns-in_err-held-clause-gives : goal.returns-in_err-held-clause-gives
+returns-in_err-held-clause-gives g c _ = never_ok c.from_residual-in_err-held.result _ _ c.from_residual-in_err-held.ensures.1
+
+pub returns-in_err-released-clause-gives : goal.returns-in_err-released-clause-gives
+returns-in_err-released-clause-gives g c _ = never_ok c.from_residual-in_err-released.result _ _ c.from_residual-in_err-released.ensures.1
+
+pub returns-in_err-entries-clause-gives : goal.returns-in_err-entries-clause-gives
+returns-in_err-entries-clause-gives g c _ = never_ok c.from_residual-in_err-entries.result _ _ c.from_residual-in_err-entries.ensures.1

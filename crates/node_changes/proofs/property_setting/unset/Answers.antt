@@ -1,5 +1,5 @@
 use Rattle.std.specs.Prelude.{Contains, slice_get}
-use Rattle.std.proofs.Common.{◌≡◌, ◌∙◌, ◌+◌, ◌≤◌, ℕ, true, Option, Some, List, map, inl, inr, sym, ap, subst, arith, rules}
+use Rattle.std.proofs.Common.{◌≡◌, ◌∙◌, ◌+◌, ◌≤◌, ℕ, true, Option, Some, List, map, inl, inr, sym, ap, subst, arith, refl, rules}
 use Rattle.plain_graph.specs.Reply.{Done}
 use Rattle.plain_graph.specs.declared.command.Command.TheVariants as commands
 use Rattle.prop_store.specs.Changing.{UnsetsValue, released_blocks}
@@ -48,6 +48,11 @@ use Rattle.rec_bytes.specs.Key.{IsKey}
 use Rattle.store_rules.specs.Indexes.{AreIndexed}
 use Rattle.store_rules.specs.Properties.{Property}
 use Rattle.rec_bytes.proofs.Causes.{never_ok, ok_cause}
+use Rattle.prop_store.specs.Finding.{FreesMet}
+use Rattle.rec_bytes.specs.Format as format
+use Rattle.store_rules.specs.Views.{Records, kind_at}
+use Rattle.node_changes.specs.PropertySetting.{LosesKey}
+use Rattle.node_changes.proofs.IndexBeside.{kinds_beside}
 use Rattle.node_changes.proofs.property_setting.unset.Goals as goal
 use Rattle.node_changes.proofs.property_setting.unset.Goals.{After-indexed_value, After-leave_entry}
 use Rattle.node_changes.proofs.property_setting.unset.Given.{Over}
@@ -518,3 +523,56 @@ returns-in_default-2-clause-onward g c =
 pub returns-in_default-2-clause-cause : goal.returns-in_default-2-clause-cause
 returns-in_default-2-clause-cause g c =
     ok_cause _ _ _ _ (later_on (later_on c.in_ok-owner.ensures.cause.later c.in_ok-held.ensures.cause.later) c.in_ok-released.ensures.cause.later)
+
+-- ---- the property of the key is in use no more
+
+pub returns-in_err-owner-clause-gone : goal.returns-in_err-owner-clause-gone
+returns-in_err-owner-clause-gone g c _ = never_ok c.from_residual.result _ _ c.from_residual.ensures.1
+
+pub returns-in_default-clause-gone : goal.returns-in_default-clause-gone
+returns-in_default-clause-gone g c tells = inl (subst (λ k. ¬ Contains c.args.names.now.names k) c.as_bytes.ensures c.in_default.ensures.none)
+
+pub returns-in_err-held-clause-gone : goal.returns-in_err-held-clause-gone
+returns-in_err-held-clause-gone g c _ = never_ok c.from_residual-in_err-held.result _ _ c.from_residual-in_err-held.ensures.1
+
+pub returns-in_err-released-clause-gone : goal.returns-in_err-released-clause-gone
+returns-in_err-released-clause-gone g c _ = never_ok c.from_residual-in_err-released.result _ _ c.from_residual-in_err-released.ensures.1
+
+frees_read : (s n : State) (u : Records) (o owner : Owner) (number : ℕ) → SameButReads s n → o ≡ owner → FreesMet n.records u o number
+    → FreesMet s.records u owner number
+frees_read s n u o owner number read is frees =
+    subst (λ (q : Owner). FreesMet s.records u q number) is
+    (subst (λ (r : Records). FreesMet r u o number) (ap (λ (z : State). z.records) read) frees)
+
+pub returns-in_default-2-clause-gone : goal.returns-in_default-2-clause-gone
+returns-in_default-2-clause-gone g c tells =
+    let after = (goal.at.returns-in_default-2-clause-gone g c).After-indexed_value in
+    let s = g.S.Reads.state c.args.space.now in
+    let n = g.S.Reads.state c.indexed_value.new.space in
+    let u = g.S.Reads.state c.unset.new.space in
+    inr (
+      c.in-Some.number,
+      at g after,
+      frees_read s n u.records c.in_ok-owner.owner (owner_of c.args.target) c.in-Some.number (read g after) c.in_ok-owner.ensures.owner
+          (c.in_ok-released.ensures.gone tells),
+    )
+
+pub returns-in_err-entries-clause-gone : goal.returns-in_err-entries-clause-gone
+returns-in_err-entries-clause-gone g c _ = never_ok c.from_residual-in_err-entries.result _ _ c.from_residual-in_err-entries.ensures.1
+
+pub returns-clause-gone : goal.returns-clause-gone
+returns-clause-gone g c tells =
+    let after = (goal.at.returns-clause-gone g c).After-leave_entry in
+    let back = (goal.at.After-leave_entry g after).After-indexed_value in
+    let s = g.S.Reads.state c.args.space.now in
+    let n = g.S.Reads.state c.indexed_value.new.space in
+    let u = g.S.Reads.state c.unset.new.space in
+    let v = g.S.Reads.state c.leave_entry.new.space in
+    let beside = touched_beside c.in_ok-entries.entries u v tells c.in_ok-entries.ensures.touches in
+    let frees = frees_read s n u.records c.in_ok-owner.owner (owner_of c.args.target) c.in-Some.number (read g back) c.in_ok-owner.ensures.owner
+    (c.in_ok-released.ensures.gone tells) in
+    inr (
+      c.in-Some.number,
+      at g back,
+      λ e met. ap (λ (f : ℕ → ℕ). f e.id) (kinds_beside u.records v.records beside format.properties_file refl (λ q. omega arith)) ∙ frees e met,
+    )

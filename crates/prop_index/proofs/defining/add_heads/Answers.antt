@@ -67,6 +67,8 @@ loop-number-preserved g c =
           });
       kind = ap (λ (r : Rec). field 1 r format.kind) now_is ∙ field-with_field_other 4 rec (format.definition_heads + 4 * n) id 1 format.kind (omega arith)
           (inr (omega arith)) ∙ old.kind;
+      front = λ k at fits. ap (λ (r : Rec). field k r at) now_is
+          ∙ field-with_field_other 4 rec (format.definition_heads + 4 * n) id k at (omega arith) (inr (omega arith)) ∙ old.front k at fits;
       counted = λ tells. counts_then s m t n 1 (n + 1) refl (old.counted tells) (c.in_ok-id.ensures.counted tells);
       heads = λ k lt. subst (λ (r : Rec). IsKey (key_in format.index_file (head_of r k))) (sym now_is) (⊎_elim
           (λ (u : k < n). subst (λ x. IsKey (key_in format.index_file x)) (sym (head-other rec n id k low u)) (old.heads k u))
@@ -110,6 +112,7 @@ loop-number-init g c =
       added = λ tells store. heads-none s c.args.start store;
       kept = λ tells. record { keeps = keeps_none s format.index_file; used = λ k lt. absurd (omega arith) };
       kind = refl;
+      front = λ n at fits. refl;
       counted = λ tells. record { live = omega arith; shape = refl };
       heads = λ k lt. absurd (omega arith);
       touched = record { writes = record { each = λ q w. inl w }; stays = λ told. record { each = λ q. inl refl } };
@@ -206,3 +209,9 @@ returns-clause-onward g c = c.loop-number.invariant.onward
 
 pub returns-clause-cause : goal.returns-clause-cause
 returns-clause-cause g c = take_ok_cause _ _ _ c.loop-number.invariant.later
+
+pub returns-clause-front : goal.returns-clause-front
+returns-clause-front g c = c.loop-number.invariant.front
+
+pub returns-in_err-id-clause-front : goal.returns-in_err-id-clause-front
+returns-in_err-id-clause-front g c = never_ok c.from_residual.result _ _ c.from_residual.ensures.1

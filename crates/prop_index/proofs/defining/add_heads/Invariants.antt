@@ -1,5 +1,5 @@
 use Rattle.rec_bytes.specs.Record.{field}
-use Rattle.std.proofs.Common.{◌≡◌, ◌<◌, ◌≤◌, ℕ}
+use Rattle.std.proofs.Common.{◌≡◌, ◌+◌, ◌<◌, ◌≤◌, ℕ}
 use Rattle.rec_bytes.specs.Format as format
 use Rattle.rec_bytes.specs.Key.{IsKey}
 use Rattle.store_rules.specs.Views.{key_in}
@@ -18,6 +18,7 @@ invariant-loop-number g l =
       added : g.S.Reads.tells → KeepsStore old → AreHeadsAdded old now l.fn.start l.number l.rec;
       kept : g.S.Reads.tells → PutsHeads old now l.number l.rec;
       kind : field 1 l.rec format.kind ≡ field 1 l.fn.start format.kind;
+      front : (n at : ℕ) → at + n ≤ format.definition_heads → field n l.rec at ≡ field n l.fn.start at;
       counted : g.S.Reads.tells → CountsMore old now l.number;
       heads : (c : ℕ) → c < l.number → IsKey (key_in format.index_file (head_of l.rec c));
       touched : TouchesOnly g.S.Reads.tells old now (index_keys (head_ids l.number l.rec));

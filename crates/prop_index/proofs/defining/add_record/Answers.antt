@@ -2,6 +2,7 @@ use Rattle.std.proofs.Common.{◌<◌, ap, ◌∙◌, sym, subst, arith, [], ◌
 use Rattle.std.proofs.lemmas.Result.{err_from_is_err_and}
 use Rattle.rec_bytes.specs.Format as format
 use Rattle.rec_bytes.specs.Space.{State, meta_of}
+use Rattle.rec_bytes.proofs.Spaces.{put_same}
 use Rattle.store_rules.specs.Views.{key_in}
 use Rattle.prop_index.proofs.IndexTouches.{index_one_taken, meta_only, meta_then, only_one}
 use Rattle.id_freelist.specs.ListDamage.{BlamesList}
@@ -152,3 +153,24 @@ returns-in_err-put-clause-key g c = never_ok c.from_residual-in_err-put.result _
 
 pub returns-in_err-put-clause-touched : goal.returns-in_err-put-clause-touched
 returns-in_err-put-clause-touched g c = never_ok c.from_residual-in_err-put.result _ _ c.from_residual-in_err-put.ensures.1
+
+pub returns-clause-fresh : goal.returns-clause-fresh
+returns-clause-fresh g c tells = c.in_ok-id.ensures.fresh tells
+
+pub returns-in_err-id-clause-fresh : goal.returns-in_err-id-clause-fresh
+returns-in_err-id-clause-fresh g c _ = never_ok c.from_residual.result _ _ c.from_residual.ensures.1
+
+pub returns-in_err-put-clause-fresh : goal.returns-in_err-put-clause-fresh
+returns-in_err-put-clause-fresh g c _ = never_ok c.from_residual-in_err-put.result _ _ c.from_residual-in_err-put.ensures.1
+
+pub returns-clause-here : goal.returns-clause-here
+returns-clause-here g c tells =
+    let u = g.S.Reads.state c.take.new.space in
+    let key = key_in format.index_file c.in_ok-id.id in
+    ap (λ (z : State). z.records key) c.in_ok-put.ensures.ok ∙ put_same u.records key c.args.rec
+
+pub returns-in_err-id-clause-here : goal.returns-in_err-id-clause-here
+returns-in_err-id-clause-here g c _ = never_ok c.from_residual.result _ _ c.from_residual.ensures.1
+
+pub returns-in_err-put-clause-here : goal.returns-in_err-put-clause-here
+returns-in_err-put-clause-here g c _ = never_ok c.from_residual-in_err-put.result _ _ c.from_residual-in_err-put.ensures.1

@@ -30,6 +30,14 @@ use Rattle.rec_bytes.proofs.Causes.{never_ok}
 use Rattle.prop_index.proofs.Causes.{space_take_cause, take_cause_passed, take_ok_cause}
 use Rattle.prop_index.specs.Blaming.{TakeBlamesBroken}
 use Rattle.prop_store.proofs.Causes.{later_on}
+use Rattle.rec_bytes.specs.Record.{with_field, zeros}
+use Rattle.rec_bytes.specs.Tables.{AllFit}
+use Rattle.rec_bytes.proofs.Spaces.{put_other}
+use Rattle.rec_bytes.proofs.Tables.{field-with_fields}
+use Rattle.store_rules.specs.Indexes.{index_rec}
+use Rattle.store_rules.specs.Views.{key_in, kind_at}
+use Rattle.store_rules.proofs.MetaLaws.{not_meta_key}
+use Rattle.prop_index.specs.DefinitionRecord.{definition_fields}
 use Rattle.prop_index.proofs.defining.define.Goals as goal
 
 pub returns-in_err-rec-clause-touches : goal.returns-in_err-rec-clause-touches
@@ -389,3 +397,52 @@ returns-clause-cause g c =
     take_ok_cause _ _ _
     (later_on (later_on (later_on c.in_ok-meta.ensures.cause.later c.in_ok-rec.ensures.cause.later) c.in_ok-id.ensures.cause.later)
     c.in_ok-set_number.ensures.cause.later)
+
+-- ---- the record of the definition, whatever the others are
+
+pub returns-clause-defined : goal.returns-clause-defined
+returns-clause-defined g c tells =
+    let m = g.S.Reads.state c.add_heads.new.space in
+    let t = g.S.Reads.state c.add_record.new.space in
+    let w = g.S.Reads.state c.set_number.new.space in
+    let id = c.in_ok-id.id in
+    let label = c.args.label in
+    let key = c.args.key in
+    let first = c.number.result in
+    let rec = c.in_ok-rec.rec in
+    let label_fits : label < 2 ^ 32 = search rules in
+    let key_fits : key < 2 ^ 32 = search rules in
+    let first_fits : first < 2 ^ 32 = search rules in
+    let fields = definition_fields label key first in
+    let fit : AllFit fields = (omega arith, (label_fits, (key_fits, (first_fits, tt)))) in
+    let start = c.definition_start-start.ensures in
+    let kind : field 1 rec format.kind ≡ format.definition = c.in_ok-rec.ensures.kind ∙ ap (λ (r : Rec). field 1 r format.kind) start
+    ∙ start-kind label key first label_fits key_fits first_fits in
+    let used : field 1 rec format.kind ≢ format.free_kind = λ e. omega (arith, kind, e) in
+    let is : w ≡ after_set t (meta_key_of format.index_file) 4 format.meta_definition id = c.in_ok-set_number.ensures.ok tells
+    ∙ ap (λ (k : Key). after_set t k 4 format.meta_definition id) c.meta_key-2.ensures in
+    let meta = meta_key_of format.index_file in
+    record {
+      used = (definition_kept t w id is).used id (c.in_ok-id.ensures.kept tells used).used;
+      here = ap (λ (z : State). index_rec z.records id) is
+          ∙ put_other t.records meta (with_field 4 (t.records meta) format.meta_definition id) (key_in format.index_file id)
+          (not_meta_key format.index_file id format.index_file refl) ∙ c.in_ok-id.ensures.here tells;
+      apart = λ k lt e. (c.in_ok-rec.ensures.kept tells).used k lt (ap (kind_at m.records format.index_file) (sym e) ∙ c.in_ok-id.ensures.fresh tells);
+      kind = kind;
+      label_is = c.in_ok-rec.ensures.front 4 format.definition_label (omega arith) ∙ ap (λ (r : Rec). field 4 r format.definition_label) start
+          ∙ field-with_fields 4 zeros fields format.definition_label label refl fit refl;
+      key_is = c.in_ok-rec.ensures.front 4 format.definition_key (omega arith) ∙ ap (λ (r : Rec). field 4 r format.definition_key) start
+          ∙ field-with_fields 4 zeros fields format.definition_key key refl fit refl;
+    }
+
+pub returns-in_err-meta-clause-defined : goal.returns-in_err-meta-clause-defined
+returns-in_err-meta-clause-defined g c _ = never_ok c.from_residual.result _ _ c.from_residual.ensures.1
+
+pub returns-in_err-rec-clause-defined : goal.returns-in_err-rec-clause-defined
+returns-in_err-rec-clause-defined g c _ = never_ok c.from_residual-in_err-rec.result _ _ c.from_residual-in_err-rec.ensures.1
+
+pub returns-in_err-id-clause-defined : goal.returns-in_err-id-clause-defined
+returns-in_err-id-clause-defined g c _ = never_ok c.from_residual-in_err-id.result _ _ c.from_residual-in_err-id.ensures.1
+
+pub returns-in_err-set_number-clause-defined : goal.returns-in_err-set_number-clause-defined
+returns-in_err-set_number-clause-defined g c _ = never_ok c.from_residual-in_err-set_number.result _ _ c.from_residual-in_err-set_number.ensures.1

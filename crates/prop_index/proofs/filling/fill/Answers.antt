@@ -31,6 +31,7 @@ use Rattle.prop_index.proofs.HeadsAdded.{head-in}
 use Rattle.prop_index.proofs.LinkRules.{free_list, store_takes}
 use Rattle.rec_bytes.proofs.Causes.{never_ok}
 use Rattle.prop_index.proofs.Causes.{take_cause_passed, take_ok_cause}
+use Rattle.prop_index.proofs.PairStands.{apart_rec}
 use Rattle.prop_index.proofs.filling.fill.Goals as goal
 
 pub loop-content-init : goal.loop-content-init
@@ -40,6 +41,7 @@ loop-content-init g c =
     record {
       filled = λ tells wanted ix label key empty fillable store. (fs.filled-none s wanted ix label key store, λ b lt. nil_at b lt ∙ sym (empty.empty b lt));
       kept = λ tells heads. (keeps_none s format.index_file, λ b lt some. absurd (some (nil_at b lt)));
+      beside = λ tells heads. ((λ x used apart. (used, refl)), λ b lt some. absurd (some (nil_at b lt)));
       long = length-replicate 180 format.nil;
       keys = λ b lt some. absurd (some (nil_at b lt));
       touched = (
@@ -124,6 +126,30 @@ loop-content-preserved g c =
                 ∙ get_or-set_same firsts k id 0 long)) put.used)
                 (λ (ne : b ≢ k). let same = get_or-set_other firsts k b id 0 ne in subst (λ x. kind_at t.records format.index_file x ≢ format.free_kind)
                 (sym same) (put.keeps.used _ (was.1 b lt (λ q. some (same ∙ q)))))
+                (nat_cases b k),
+          );
+      beside = λ tells heads.
+          let was = old.beside tells heads in
+          let kept = old.kept tells heads in
+          let slot_is = c.slot_of.ensures.is.id_is in
+          let put = c.in_ok-firsts.ensures.kept tells (kept.0.used slot.id (subst (λ x. kind_at s.records format.index_file x ≢ format.free_kind)
+          (sym slot_is) (heads (k / 15) (omega arith)))) (kept.1 k k_low) (let at = c.slot_of.ensures.is.place_is in omega arith) in
+          let before : kind_at s.records format.index_file id ≡ format.free_kind = ⊎_elim
+          (λ (e : kind_at s.records format.index_file id ≡ format.free_kind). e)
+          (λ (ne : kind_at s.records format.index_file id ≢ format.free_kind). absurd (kept.0.used id ne (c.in_ok-firsts.ensures.fresh tells)))
+          (nat_cases (kind_at s.records format.index_file id) format.free_kind) in (
+            (λ x used apart.
+                let here = was.0 x used apart in (
+                  put.keeps.used x here.0,
+                  apart_rec g.S.Reads.tells m t id slot.id first x tells c.in_ok-firsts.ensures.touched
+                      (λ e. used (ap (kind_at s.records format.index_file) e ∙ before)) (λ e. apart (k / 15) (omega arith) (e ∙ slot_is))
+                      (λ some e. used (ap (kind_at s.records format.index_file) e ∙ was.1 k k_low some)) ∙ here.1,
+                )),
+            λ b lt some. ⊎_elim
+                (λ (e : b ≡ k). subst (λ x. kind_at s.records format.index_file x ≡ format.free_kind) (sym (ap (λ z. get_or (set firsts k id) z 0) e
+                ∙ get_or-set_same firsts k id 0 long)) before)
+                (λ (ne : b ≢ k). let same = get_or-set_other firsts k b id 0 ne in subst (λ x. kind_at s.records format.index_file x ≡ format.free_kind)
+                (sym same) (was.1 b lt (λ q. some (same ∙ q))))
                 (nat_cases b k),
           );
       long = length-set firsts k id ∙ old.long;
@@ -226,3 +252,9 @@ returns-clause-cause g c = take_ok_cause _ _ _ c.loop-content.invariant.later
 
 pub returns-clause-onward : goal.returns-clause-onward
 returns-clause-onward g c = c.loop-content.invariant.onward
+
+pub returns-clause-beside : goal.returns-clause-beside
+returns-clause-beside g c tells heads = (c.loop-content.invariant.beside tells heads).0
+
+pub returns-in_err-firsts-clause-beside : goal.returns-in_err-firsts-clause-beside
+returns-in_err-firsts-clause-beside g c _ _ = never_ok c.from_residual.result _ _ c.from_residual.ensures.1

@@ -6,7 +6,7 @@ use Rattle.store_rules.specs.Indexes.{AreIndexed, Entries, first_entry}
 use Rattle.store_rules.specs.Views.{key_in, kind_at}
 use Rattle.id_freelist.specs.ListDamage.{KeepsInUse}
 use Rattle.prop_store.specs.Touching.{TouchesOnly}
-use Rattle.prop_index.specs.Defining.{AreHeadsUsed, CountsMore}
+use Rattle.prop_index.specs.Defining.{AreHeadsUsed, CountsMore, KeepsBeside}
 use Rattle.prop_index.specs.DefinitionRecord.{head_ids}
 use Rattle.prop_index.specs.Filling.{AreFillable, IsEmptyIndex, IsFilled}
 use Rattle.prop_index.specs.Reading.{KeepsStore}
@@ -25,6 +25,8 @@ invariant-loop-content g l =
           × ((b : ℕ) → b < 180 → get_or l.firsts b 0 ≡ first_entry now.records definition.id b);
       kept : g.S.Reads.tells → AreHeadsUsed old 12 definition.rec → KeepsInUse old now format.index_file
           × ((b : ℕ) → b < 180 → get_or l.firsts b 0 ≢ format.nil → kind_at now.records format.index_file (get_or l.firsts b 0) ≢ format.free_kind);
+      beside : g.S.Reads.tells → AreHeadsUsed old 12 definition.rec → KeepsBeside old now definition.rec
+          × ((b : ℕ) → b < 180 → get_or l.firsts b 0 ≢ format.nil → kind_at old.records format.index_file (get_or l.firsts b 0) ≡ format.free_kind);
       long : length l.firsts ≡ 180;
       keys : (b : ℕ) → b < 180 → get_or l.firsts b 0 ≢ format.nil → IsKey (key_in format.index_file (get_or l.firsts b 0));
       touched : (ids : List ℕ) × (length ids ≤ l.content-index) × ((b : ℕ) → b < 180 → get_or l.firsts b 0 ≢ format.nil → In (get_or l.firsts b 0) ids)

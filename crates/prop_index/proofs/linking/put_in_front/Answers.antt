@@ -245,3 +245,12 @@ returns-in_err-id-clause-unwritten g c = on_blame c.from_residual.result _ c.in_
 pub returns-in_err-link-clause-unwritten : goal.returns-in_err-link-clause-unwritten
 returns-in_err-link-clause-unwritten g c = take_has _ c.from_residual-in_err-link.result _ c.from_residual-in_err-link.ensures.1
     (space_blames _ c.in_err-link.field-0.0)
+
+pub returns-clause-fresh : goal.returns-clause-fresh
+returns-clause-fresh g c tells = c.in_ok-id.ensures.fresh tells
+
+pub returns-in_err-id-clause-fresh : goal.returns-in_err-id-clause-fresh
+returns-in_err-id-clause-fresh g c _ = never_ok c.from_residual.result _ _ c.from_residual.ensures.1
+
+pub returns-in_err-link-clause-fresh : goal.returns-in_err-link-clause-fresh
+returns-in_err-link-clause-fresh g c _ = never_ok c.from_residual-in_err-link.result _ _ c.from_residual-in_err-link.ensures.1

@@ -405,3 +405,14 @@ returns-then-not-has_room-clause-onward g c = g.met.S.Reads.further_onward _ _ _
 pub returns-then-not-has_room-clause-cause : goal.returns-then-not-has_room-clause-cause
 returns-then-not-has_room-clause-cause g c =
     make_other_cause _ _ _ (later_on c.in_ok-test_pair.ensures.cause.later c.in_ok-contents.ensures.cause.later) (λ e. absurd cc)
+
+-- ---- the definition stands
+
+pub returns-in-Ok-clause-stands : goal.returns-in-Ok-clause-stands
+returns-in-Ok-clause-stands g c tells = c.in-Ok.ensures.stands tells
+
+pub returns-in_err-test_pair-clause-stands : goal.returns-in_err-test_pair-clause-stands
+returns-in_err-test_pair-clause-stands g c _ = never_ok c.from_residual.result _ _ c.from_residual.ensures.1
+
+pub returns-in_err-contents-clause-stands : goal.returns-in_err-contents-clause-stands
+returns-in_err-contents-clause-stands g c _ = never_ok c.from_residual-in_err-contents.result _ _ c.from_residual-in_err-contents.ensures.1

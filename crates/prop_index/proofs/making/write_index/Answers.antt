@@ -14,6 +14,7 @@ use Rattle.prop_index.proofs.Counting.{counts_left}
 use Rattle.prop_index.proofs.IndexBlames.{if_err, take_has}
 use Rattle.rec_bytes.proofs.Causes.{never_ok}
 use Rattle.prop_index.proofs.Causes.{take_cause_after, take_cause_passed}
+use Rattle.prop_index.proofs.PairStands.{pair_stands}
 use Rattle.prop_index.proofs.making.write_index.Goals as goal
 
 on_ok : {T E : Type 0} {P Q : Type 0} (r : Result T E) → (P → Q) → OnOk r P → OnOk r Q
@@ -102,3 +103,14 @@ returns-clause-cause g c = take_cause_after _ _ _ c.fill.result c.in_ok-definiti
 
 pub returns-clause-onward : goal.returns-clause-onward
 returns-clause-onward g c = g.met.S.Reads.further_onward _ _ _ c.in_ok-definition.ensures.onward c.fill.ensures.onward
+
+pub returns-clause-stands : goal.returns-clause-stands
+returns-clause-stands g c tells =
+    let m = g.S.Reads.state c.define.new.space in
+    let t = g.S.Reads.state c.fill.new.space in
+    let definition = c.in_ok-definition.definition in
+    on_ok c.fill.result (pair_stands m t c.args.label c.args.key definition (c.in_ok-definition.ensures.defined tells))
+    (c.fill.ensures.beside tells (c.in_ok-definition.ensures.kept tells).used)
+
+pub returns-in_err-definition-clause-stands : goal.returns-in_err-definition-clause-stands
+returns-in_err-definition-clause-stands g c _ = never_ok c.from_residual.result _ _ c.from_residual.ensures.1

@@ -1,6 +1,6 @@
 use Rattle.std.proofs.Common.{◌<◌, ◌^◌, ◌+◌, List, sym, ap, ◌∙◌, subst, arith, [], ◌∷◌, rules}
 use Rattle.std.proofs.lemmas.Result.{err_from_is_err_and}
-use Rattle.rec_bytes.specs.Format.{property_next}
+use Rattle.rec_bytes.specs.Format.{properties_file, property_next}
 use Rattle.rec_bytes.specs.Record.{field}
 use Rattle.rec_bytes.specs.Space.{State}
 use Rattle.rec_bytes.proofs.Numbers.{field-lt}
@@ -22,6 +22,8 @@ use Rattle.prop_store.proofs.ValueRemovals.{value_removed}
 use Rattle.prop_store.proofs.WriteCounts.{at_most_then, one_writes, reads_write, touched_count}
 use Rattle.prop_store.proofs.Causes.{cause_passed, space_cause_passed}
 use Rattle.rec_bytes.proofs.Causes.{never_ok, ok_cause}
+use Rattle.prop_store.specs.Finding.{IsMet}
+use Rattle.prop_store.proofs.Unused.{frees_met, frees_none, kind_set}
 use Rattle.prop_store.proofs.changing.unset.Goals as goal
 use Rattle.prop_store.proofs.changing.unset.Goals.{In-Found}
 use Rattle.prop_store.proofs.changing.unset.Given.{Over}
@@ -320,3 +322,35 @@ returns-in-Absent-clause-onward g c = c.in_ok-find.ensures.onward
 
 pub returns-in_ok-set_number-in-Found-clause-few : goal.returns-in_ok-set_number-in-Found-clause-few
 returns-in_ok-set_number-in-Found-clause-few g c = c.in_ok-released-in-Found.ensures.few
+
+-- ---- the property of the key is in use no more
+
+pub returns-in_err-find-clause-gone : goal.returns-in_err-find-clause-gone
+returns-in_err-find-clause-gone g c _ = never_ok c.from_residual.result _ _ c.from_residual.ensures.1
+
+pub returns-in-Absent-clause-gone : goal.returns-in-Absent-clause-gone
+returns-in-Absent-clause-gone g c tells =
+    let s = g.S.Reads.state c.args.space.now in
+    let met = subst (IsMet s.records c.args.owner c.args.key c.find.new.row) c.in-Absent.is (c.in_ok-find.ensures.met tells) in
+    frees_none s.records (g.S.Reads.state c.find.new.space).records c.args.owner c.args.key met.0
+
+pub returns-in_err-released-in-Found-clause-gone : goal.returns-in_err-released-in-Found-clause-gone
+returns-in_err-released-in-Found-clause-gone g c _ =
+    never_ok c.from_residual-in_err-released-in-Found.result _ _ c.from_residual-in_err-released-in-Found.ensures.1
+
+pub returns-in_err-set_number-in-Found-clause-gone : goal.returns-in_err-set_number-in-Found-clause-gone
+returns-in_err-set_number-in-Found-clause-gone g c _ =
+    never_ok c.from_residual-in_err-set_number-in-Found.result _ _ c.from_residual-in_err-set_number-in-Found.ensures.1
+
+pub returns-in_ok-set_number-in-Found-clause-gone : goal.returns-in_ok-set_number-in-Found-clause-gone
+returns-in_ok-set_number-in-Found-clause-gone g c tells =
+    let s = g.S.Reads.state c.args.space.now in
+    let m = g.S.Reads.state c.drop_property.new.space in
+    let t = g.S.Reads.state c.set_number.new.space in
+    let row = c.find.new.row in
+    let link = c.in-Found.link in
+    let met = subst (IsMet s.records c.args.owner c.args.key row) c.in-Found.is (c.in_ok-find.ensures.met tells) in
+    let links = (subst (IsPlaced c.args.owner c.args.key row) c.in-Found.is c.in_ok-find.ensures.placed).links in
+    frees_met s.records t.records c.args.owner c.args.key row met
+    (kind_set m t link.key link.field c.number-next.result links.own links.behind (c.in_ok-set_number-in-Found.ensures.ok tells) properties_file row.id
+    ∙ c.in_ok-released-in-Found.ensures.gone tells)

@@ -10,6 +10,7 @@ use Rattle.std.specs.Prelude.{IfSome}
 use Rattle.rec_bytes.specs.Fault.{damage_of}
 use Rattle.rec_bytes.specs.Space.{SameButReads}
 use Rattle.prop_store.proofs.Causes.{cause_passed, later_on, space_cause_passed}
+use Rattle.prop_store.proofs.Unused.{unused_given}
 use Rattle.prop_store.proofs.dropping.drop_property.Goals as goal
 
 pub returns-in_err-blocks-clause-sound : goal.returns-in_err-blocks-clause-sound
@@ -161,3 +162,18 @@ returns-clause-onward g c =
 
 pub returns-clause-few : goal.returns-clause-few
 returns-clause-few g c = c.as_slice-ids.ensures.few
+
+-- ---- it is in use no more
+
+pub returns-clause-gone : goal.returns-clause-gone
+returns-clause-gone g c tells =
+    unused_given (g.S.Reads.state c.release.new.space) (g.S.Reads.state c.give.new.space) c.args.row.now.id (c.in_ok-give.ensures.ok tells)
+
+pub returns-in_err-blocks-clause-gone : goal.returns-in_err-blocks-clause-gone
+returns-in_err-blocks-clause-gone g c _ = never_ok c.from_residual.result _ _ c.from_residual.ensures.1
+
+pub returns-in_err-release-clause-gone : goal.returns-in_err-release-clause-gone
+returns-in_err-release-clause-gone g c _ = never_ok c.from_residual-in_err-release.result _ _ c.from_residual-in_err-release.ensures.1
+
+pub returns-in_err-give-clause-gone : goal.returns-in_err-give-clause-gone
+returns-in_err-give-clause-gone g c _ = never_ok c.from_residual-in_err-give.result _ _ c.from_residual-in_err-give.ensures.1

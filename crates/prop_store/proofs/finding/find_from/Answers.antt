@@ -15,7 +15,7 @@ use Rattle.prop_store.proofs.Breaches.{reached_first, reached_next, row_blames, 
 use Rattle.prop_store.proofs.Exits.{same_has}
 use Rattle.prop_store.proofs.ElementSteps.{meta_of_element}
 use Rattle.prop_store.proofs.Keys.{absent_key, found_here, keys_passed, link_after-one}
-use Rattle.prop_store.proofs.OwnerPlaces.{place_within}
+use Rattle.prop_store.proofs.OwnerPlaces.{place_behind, place_within}
 use Rattle.prop_store.proofs.ReadCounts.{reads_more, reads_none, reads_records, reads_same, reads_then}
 use Rattle.prop_store.proofs.WalkSteps.{fewer_passed, right_property, walk_after, walk_begins, walk_here, walk_over}
 use Rattle.prop_store.proofs.Causes.{cause_passed}
@@ -32,6 +32,7 @@ loop-count-init g c = record {
   link = subst IsLink (sym c.of-link.ensures) (record {
     key = c.requires.owner.key;
     own = meta_of_element c.args.owner.key.file c.requires.owner.file;
+    behind = place_behind c.args.owner c.requires.owner;
     place =
         place_within c.args.owner c.requires.owner;
   });
@@ -137,6 +138,7 @@ loop-count-preserved g c =
               c.in_ok-property_at.ensures.row.small;
         };
         own = refl;
+        behind = omega arith;
         place = omega arith;
       });
       from = subst (IsLinkOf c.args.owner) (sym c.after-link.ensures) (inr refl);

@@ -30,6 +30,13 @@ use Rattle.prop_store.proofs.WriteCounts.{touched_beside}
 use Rattle.prop_store.proofs.Causes.{later_on}
 use Rattle.prop_store.proofs.SetCauses.{set_cause_passed, space_set_cause}
 use Rattle.rec_bytes.proofs.Causes.{never_ok, ok_cause}
+use Rattle.rec_bytes.specs.declared.key.Key.{Key}
+use Rattle.rec_bytes.specs.declared.record.Rec.{Rec}
+use Rattle.rec_bytes.specs.Record.{with_field}
+use Rattle.rec_bytes.proofs.Spaces.{put_other}
+use Rattle.store_rules.specs.Views.{key_in}
+use Rattle.prop_store.specs.Finding.{IsRecordOf}
+use Rattle.prop_store.proofs.GivenValues.{front_met, other_file}
 use Rattle.prop_store.proofs.setting.add.Goals as goal
 
 -- as few are listed
@@ -371,3 +378,27 @@ returns-in_err-id-clause-leaves g c _ = never_ok c.from_residual-in_err-id.resul
 
 pub returns-in_err-set_number-clause-leaves : goal.returns-in_err-set_number-clause-leaves
 returns-in_err-set_number-clause-leaves g c _ = never_ok c.from_residual-in_err-set_number.result _ _ c.from_residual-in_err-set_number.ensures.1
+
+-- ---- the records lead to it
+
+pub returns-clause-gives : goal.returns-clause-gives
+returns-clause-gives g c tells =
+    let m = g.S.Reads.state c.put_new.new.space in
+    let t = g.S.Reads.state c.set_number.new.space in
+    let owner = c.args.owner in
+    let id = c.in_ok-id.id in
+    let key = key_in properties_file id in
+    let same = ap (λ (z : State). z.records key) (c.in_ok-set_number.ensures.ok tells)
+    ∙ put_other m.records owner.key (with_field 4 (m.records owner.key) owner.field id) key
+    (λ e. other_file owner c.requires.owner properties_file (λ q. omega (arith, q)) (λ q. omega (arith, q)) (ap (λ (k : Key). k.file) (sym e))) in
+    front_met t.records owner c.args.key id c.args.value.now c.in_ok-set_number.ensures.got c.in_ok-id.ensures.some
+    (subst (λ (r : Rec). IsRecordOf r c.args.key c.args.value.now) (sym same) (c.in_ok-id.ensures.here tells))
+
+pub returns-in_err-next-clause-gives : goal.returns-in_err-next-clause-gives
+returns-in_err-next-clause-gives g c _ = never_ok c.from_residual.result _ _ c.from_residual.ensures.1
+
+pub returns-in_err-id-clause-gives : goal.returns-in_err-id-clause-gives
+returns-in_err-id-clause-gives g c _ = never_ok c.from_residual-in_err-id.result _ _ c.from_residual-in_err-id.ensures.1
+
+pub returns-in_err-set_number-clause-gives : goal.returns-in_err-set_number-clause-gives
+returns-in_err-set_number-clause-gives g c _ = never_ok c.from_residual-in_err-set_number.result _ _ c.from_residual-in_err-set_number.ensures.1

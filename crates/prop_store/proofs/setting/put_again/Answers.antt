@@ -1,4 +1,4 @@
-use Rattle.std.proofs.Common.{◌∙◌, ◌+◌, ℕ, List, [], length, ap, arith, refl, subst, sym, rules}
+use Rattle.std.proofs.Common.{◌<◌, ◌≡◌, ◌^◌, ◌∙◌, ◌+◌, ℕ, List, [], length, ap, arith, refl, subst, sym, rules}
 use Rattle.std.proofs.lemmas.Result.{err_from_is_err_and}
 use Rattle.plain_graph.specs.Properties.{blocks_of}
 use Rattle.rec_bytes.specs.Format.{property_key, property_next}
@@ -24,6 +24,13 @@ use Rattle.prop_store.proofs.Touches.{touches_freed, touches_more, touches_reads
 use Rattle.prop_store.proofs.Causes.{later_on}
 use Rattle.prop_store.proofs.SetCauses.{fault_set_cause, space_set_cause, take_set_cause}
 use Rattle.rec_bytes.proofs.Causes.{never_ok, ok_cause}
+use Rattle.rec_bytes.specs.declared.record.Rec.{Rec}
+use Rattle.rec_bytes.specs.Format.{properties_file}
+use Rattle.rec_bytes.specs.Space.{State}
+use Rattle.rec_bytes.proofs.Spaces.{put_other, put_same}
+use Rattle.store_rules.specs.Views.{key_in}
+use Rattle.prop_store.specs.Finding.{IsRecordOf}
+use Rattle.prop_store.proofs.PropertyRecords.{content_of-property_record, key-property_record, next-property_record}
 use Rattle.prop_store.proofs.setting.put_again.Goals as goal
 
 pub returns-in_err-blocks-clause-refused : goal.returns-in_err-blocks-clause-refused
@@ -336,3 +343,46 @@ returns-in_err-put-clause-refused g c tells e held =
 
 pub returns-clause-few : goal.returns-clause-few
 returns-clause-few g c = c.as_slice-ids.ensures.few
+
+-- ---- the record that is put
+
+pub returns-clause-again : goal.returns-clause-again
+returns-clause-again g c tells =
+    let s = g.S.Reads.state c.args.space.now in
+    let a = g.S.Reads.state c.value_blocks.new.space in
+    let d = g.S.Reads.state c.write_text.new.space in
+    let key = key_in properties_file c.args.row.now.id in
+    let rec = c.property_record.result in
+    let first = c.in_ok-first.first in
+    let first_fits : first < 2 ^ 32 = search rules in
+    let key_fits : c.number-key.result < 2 ^ 32 = omega (arith, c.number-key.type_inv) in
+    let next_fits : c.number-next.result < 2 ^ 32 = omega (arith, c.number-next.type_inv) in
+    let value = c.args.value.now in
+    let is = ap (λ (z : State). z.records key) c.in_ok-put.ensures.ok ∙ put_same d.records key rec ∙ c.property_record.ensures in
+    record {
+      here = subst (λ (r : Rec). IsRecordOf r (field 4 c.args.row.now.rec property_key) value) (sym is) (record {
+        key_is = key-property_record c.number-key.result first c.number-next.result value key_fits ∙ c.number-key.ensures;
+        first = first;
+        content = content_of-property_record c.number-key.result first c.number-next.result value c.requires.kept first_fits;
+      });
+      next_is = ap (λ (r : Rec). field 4 r property_next) is ∙ next-property_record c.number-key.result first c.number-next.result value next_fits
+          ∙ c.number-next.ensures;
+      others = λ q strings meta ne. ap (λ (z : State). z.records q) c.in_ok-put.ensures.ok ∙ put_other d.records key rec q ne
+          ∙ c.in_ok-first.ensures.other_files tells q strings meta ∙ c.in_ok-release.ensures.other_files tells q strings meta
+          ∙ ap (λ (z : State). z.records q) (reads_same 22 s a c.value_blocks.ensures.at_most);
+    }
+
+pub returns-in_err-blocks-clause-again : goal.returns-in_err-blocks-clause-again
+returns-in_err-blocks-clause-again g c _ = never_ok c.from_residual.result _ _ c.from_residual.ensures.1
+
+pub returns-in_err-test_free-clause-again : goal.returns-in_err-test_free-clause-again
+returns-in_err-test_free-clause-again g c _ = never_ok c.from_residual-in_err-test_free.result _ _ c.from_residual-in_err-test_free.ensures.1
+
+pub returns-in_err-release-clause-again : goal.returns-in_err-release-clause-again
+returns-in_err-release-clause-again g c _ = never_ok c.from_residual-in_err-release.result _ _ c.from_residual-in_err-release.ensures.1
+
+pub returns-in_err-first-clause-again : goal.returns-in_err-first-clause-again
+returns-in_err-first-clause-again g c _ = never_ok c.from_residual-in_err-first.result _ _ c.from_residual-in_err-first.ensures.1
+
+pub returns-in_err-put-clause-again : goal.returns-in_err-put-clause-again
+returns-in_err-put-clause-again g c _ = never_ok c.from_residual-in_err-put.result _ _ c.from_residual-in_err-put.ensures.1

@@ -1,4 +1,4 @@
-use Rattle.std.proofs.Common.{◌≡◌, [], arith, subst, rules}
+use Rattle.std.proofs.Common.{◌≡◌, ◌<◌, ◌^◌, ◌∙◌, [], ap, arith, sym, subst, rules}
 use Rattle.std.proofs.lemmas.Result.{err_from_is_err_and}
 use Rattle.plain_graph.specs.Properties.{blocks_of}
 use Rattle.rec_bytes.specs.Format.{properties_file}
@@ -16,6 +16,12 @@ use Rattle.prop_store.proofs.Touches.{touches_more, touches_same}
 use Rattle.prop_store.proofs.Causes.{later_on}
 use Rattle.prop_store.proofs.SetCauses.{space_set_cause, take_set_cause}
 use Rattle.rec_bytes.proofs.Causes.{never_ok, ok_cause}
+use Rattle.rec_bytes.specs.declared.record.Rec.{Rec}
+use Rattle.rec_bytes.specs.Space.{State}
+use Rattle.rec_bytes.proofs.Spaces.{put_same}
+use Rattle.store_rules.specs.Views.{key_in}
+use Rattle.prop_store.specs.Finding.{IsRecordOf}
+use Rattle.prop_store.proofs.PropertyRecords.{content_of-property_record, key-property_record}
 use Rattle.prop_store.proofs.setting.put_new.Goals as goal
 
 pub returns-in_err-id-clause-refused : goal.returns-in_err-id-clause-refused
@@ -193,3 +199,39 @@ returns-in_err-put-clause-onward g c =
 pub returns-clause-onward : goal.returns-clause-onward
 returns-clause-onward g c =
     g.met.S.Reads.further_onward _ _ _ (g.met.S.Reads.further_onward _ _ _ c.in_ok-first.ensures.onward c.in_ok-id.ensures.onward) c.in_ok-put.ensures.onward
+
+-- ---- the record that is put
+
+pub returns-clause-some : goal.returns-clause-some
+returns-clause-some g c e = let k = c.in_ok-id.ensures.key.id in omega (arith, k, e)
+
+pub returns-clause-here : goal.returns-clause-here
+returns-clause-here g c tells =
+    let u = g.S.Reads.state c.take.new.space in
+    let key = key_in properties_file c.in_ok-id.id in
+    let first = c.in_ok-first.first in
+    let first_fits : first < 2 ^ 32 = search rules in
+    let is = ap (λ (z : State). z.records key) c.in_ok-put.ensures.ok ∙ put_same u.records key c.property_record.result ∙ c.property_record.ensures in
+    subst (λ (r : Rec). IsRecordOf r c.args.key c.args.value.now) (sym is) (record {
+      key_is = key-property_record c.args.key first c.args.next c.args.value.now c.ranges.key.fits;
+      first = first;
+      content = content_of-property_record c.args.key first c.args.next c.args.value.now c.requires first_fits;
+    })
+
+pub returns-in_err-first-clause-some : goal.returns-in_err-first-clause-some
+returns-in_err-first-clause-some g c = never_ok c.from_residual.result _ _ c.from_residual.ensures.1
+
+pub returns-in_err-first-clause-here : goal.returns-in_err-first-clause-here
+returns-in_err-first-clause-here g c _ = never_ok c.from_residual.result _ _ c.from_residual.ensures.1
+
+pub returns-in_err-id-clause-some : goal.returns-in_err-id-clause-some
+returns-in_err-id-clause-some g c = never_ok c.from_residual-in_err-id.result _ _ c.from_residual-in_err-id.ensures.1
+
+pub returns-in_err-id-clause-here : goal.returns-in_err-id-clause-here
+returns-in_err-id-clause-here g c _ = never_ok c.from_residual-in_err-id.result _ _ c.from_residual-in_err-id.ensures.1
+
+pub returns-in_err-put-clause-some : goal.returns-in_err-put-clause-some
+returns-in_err-put-clause-some g c = never_ok c.from_residual-in_err-put.result _ _ c.from_residual-in_err-put.ensures.1
+
+pub returns-in_err-put-clause-here : goal.returns-in_err-put-clause-here
+returns-in_err-put-clause-here g c _ = never_ok c.from_residual-in_err-put.result _ _ c.from_residual-in_err-put.ensures.1

@@ -28,6 +28,9 @@ use Rattle.prop_store.proofs.Touches.{touches_after, touches_beside, touches_mor
 use Rattle.prop_store.proofs.WriteCounts.{beside_writes, touched_beside}
 use Rattle.prop_store.proofs.SetCauses.{fault_set_cause, set_cause_after, set_cause_passed}
 use Rattle.rec_bytes.proofs.Causes.{never_ok, ok_cause}
+use Rattle.std.specs.Prelude.{OnOk}
+use Rattle.prop_store.specs.Finding.{MetAt}
+use Rattle.prop_store.proofs.GivenValues.{again_met}
 use Rattle.prop_store.proofs.setting.set.Goals as goal
 use Rattle.prop_store.proofs.setting.set.Goals.{After-put_again}
 use Rattle.prop_store.proofs.setting.set.Given.{Over}
@@ -388,3 +391,30 @@ returns-then-count-ge-MOST_PROPERTIES-clause-onward g c = c.in_ok-count.ensures.
 
 pub put_again-requires-clause-row : goal.put_again-requires-clause-row
 put_again-requires-clause-row g c = (subst (IsPlaced c.args.owner c.args.key c.find.new.row) c.in-Found.is c.in_ok-count.ensures.placed).is_row
+
+-- ---- the records lead to the value
+
+on_ok : {P Q : Type 0} (r : Result ℕ SetFault) → (P → Q) → OnOk r P → OnOk r Q
+on_ok (Ok n) f p = f p
+on_ok (Err fault) f p = tt
+
+pub returns-in_err-count-clause-gives : goal.returns-in_err-count-clause-gives
+returns-in_err-count-clause-gives g c _ = never_ok c.from_residual.result _ _ c.from_residual.ensures.1
+
+pub returns-in_err-add-in-Absent-clause-gives : goal.returns-in_err-add-in-Absent-clause-gives
+returns-in_err-add-in-Absent-clause-gives g c _ = never_ok c.from_residual-in_err-add-in-Absent.result _ _ c.from_residual-in_err-add-in-Absent.ensures.1
+
+pub returns-in_ok-add-in-Absent-clause-gives : goal.returns-in_ok-add-in-Absent-clause-gives
+returns-in_ok-add-in-Absent-clause-gives g c tells = c.in_ok-add-in-Absent.ensures.gives tells
+
+pub returns-in-Found-clause-gives : goal.returns-in-Found-clause-gives
+returns-in-Found-clause-gives g c tells =
+    let s = g.S.Reads.state c.args.space.now in
+    let z = g.S.Reads.state c.find.new.space in
+    let t = g.S.Reads.state c.put_again.new.space in
+    let row = c.find.new.row in
+    let met = subst (λ (r : Records). MetAt r c.args.owner c.args.key row) (sym (reads_records 33 s z c.find.ensures.at_most))
+    (subst (IsMet s.records c.args.owner c.args.key row) c.in-Found.is (c.in_ok-count.ensures.met tells)) in
+    let placed = subst (IsPlaced c.args.owner c.args.key row) c.in-Found.is c.in_ok-count.ensures.placed in
+    on_ok c.put_again.result (again_met z.records t.records c.args.owner c.requires.owner c.args.key row c.args.value.now met placed.key_is)
+    (c.put_again.ensures.again tells)
