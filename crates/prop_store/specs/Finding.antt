@@ -1,5 +1,6 @@
 -- A search for a key among the properties of an element.
-use Rattle.std.specs.Prelude.{◌≡◌, ◌≢◌, ◌≤◌, ℕ, nat_eq, if◌then◌else◌, Option, None, Some, List, [], ◌∷◌}
+use Rattle.std.specs.Prelude.{◌≡◌, ◌≢◌, ◌≤◌, ℕ, nat_eq, if◌then◌else◌, Option, None}
+use Rattle.std.specs.Prelude.{Some, List, [], ◌∷◌}
 use Rattle.std.specs.Prelude.{◌++◌, length}
 use Rattle.std.specs.Option.{option_map}
 use Rattle.plain_graph.specs.declared.value.Value.{Value}
