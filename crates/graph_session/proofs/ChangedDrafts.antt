@@ -75,7 +75,10 @@ module _ {D : Type 0} {g : Ghosts D} {mid new : Session D g} (more : OnlyDrafts 
         makes-same command _ made.weight (store.state_of old.store) (store.state_of mid.store) (store.state_of new.store) mid.names.names new.names.names
         (drafted-changed kept told) more.base.shape kept.names (drafts.1 told has),
     λ few. fewer (drafts.2 few),
-    λ told. subst (λ (r : Records). LeavesRecords command (reply_of made.answer) (store.drafted old.store) r) (sym (drafted-changed kept told)) (drafts.3 told),
+    λ told.
+        subst (LeavesRecords command (reply_of made.answer) (store.drafted old.store) (store.drafted new.store)) (sym kept.names)
+        (subst (λ (r : Records). LeavesRecords command (reply_of made.answer) (store.drafted old.store) r mid.names.names) (sym (drafted-changed kept told))
+        (drafts.3 told)),
   )
     where
       fewer : WritesAtMost made.weight (store.state_of old.store) (store.state_of mid.store)

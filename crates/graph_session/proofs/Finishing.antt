@@ -229,8 +229,10 @@ module _ {D : Type 0} {g : Ghosts D} where
             (inl (
               drafts.0,
               inl (opened, made.weight, keeps-kept made.weight kept, subst (λ (n : ℕ). n ≤ most_weight) (sym kept.weight) kept.fits),
-              λ told. subst (LeavesRecords command (reply_of made.answer) (drafted old.store)) (sym (drafted-none new.store kept.draft ∙ kept.working))
-                  (drafts.3 told),
+              λ told.
+                  subst (LeavesRecords command (reply_of made.answer) (drafted old.store) (drafted new.store)) (sym kept.names)
+                  (subst (λ (now : Key → Rec). LeavesRecords command (reply_of made.answer) (drafted old.store) now mid.names.names)
+                  (sym (drafted-none new.store kept.draft ∙ kept.working)) (drafts.3 told)),
             )));
         onward = record { disk_later = later-on new.store.base.disk.now kept.beneath.disk };
       }

@@ -262,17 +262,18 @@ module _ {D : Type 0} {g : Ghosts D} {begun mid : Session D g} (old new : Sessio
     }
 
     may-tried : HasNoDraft (view old) → (command : Command) → IsChange command → TellsChange command made.answer
-        → (g.tells_reads → LeavesRecords command (reply_of made.answer) (drafted begun.store) (drafted mid.store))
+        → (g.tells_reads → LeavesRecords command (reply_of made.answer) (drafted begun.store) (drafted mid.store) mid.names.names)
         → MayAnswer g command (view old) (reply_of answer) (view new)
     may-tried none command change tells left = by tries.ends
       where
         -- what is committed is what was drafted
         left-committed : CommitsRecords (drafted mid.store) mid new → g.tells_reads
-            → LeavesRecords command (reply_of made.answer) (drafted old.store) (drafted new.store)
+            → LeavesRecords command (reply_of made.answer) (drafted old.store) (drafted new.store) new.names.names
         left-committed commits told =
-            subst (λ (was : Key → Rec). LeavesRecords command (reply_of made.answer) was (drafted new.store)) (seen-begun none)
-            (subst (LeavesRecords command (reply_of made.answer) (drafted begun.store)) (sym (drafted-none new.store commits.closes.draft ∙ working-none new.store.base
-            commits.closes.own ∙ commits.committed told)) (left told))
+            subst (λ (was : Key → Rec). LeavesRecords command (reply_of made.answer) was (drafted new.store) new.names.names) (seen-begun none)
+            (subst (LeavesRecords command (reply_of made.answer) (drafted begun.store) (drafted new.store)) (sym commits.names)
+            (subst (λ (now : Key → Rec). LeavesRecords command (reply_of made.answer) (drafted begun.store) now mid.names.names)
+            (sym (drafted-none new.store commits.closes.draft ∙ working-none new.store.base commits.closes.own ∙ commits.committed told)) (left told)))
 
         by : EndsCommit (drafted mid.store) mid new made.answer answer → MayAnswer g command (view old) (reply_of answer) (view new)
         by (inl (is, commits)) =

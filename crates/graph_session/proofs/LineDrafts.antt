@@ -74,9 +74,9 @@ change-made command reply weight old new names made light = record {
 -- so is its draft
 change-drafts : {tells : Type 0} (command : Command) (reply : Reply) {weight : ℕ} {old new : Space} {before after : List (List ℕ)} → TellsMade command reply
     → (tells → IsStore old before → MakesChange command reply weight old new after) → weight + start_weight ≤ most_weight → WritesAtMost weight old new
-    → (tells → LeavesRecords command reply old.records new.records)
+    → (tells → LeavesRecords command reply old.records new.records after)
     → TellsMade command reply × (tells → IsStore old before → MakesLine command reply weight old new after) × (weight < most_told → WritesAtMost weight old new)
-    × (tells → LeavesRecords command reply old.records new.records)
+    × (tells → LeavesRecords command reply old.records new.records after)
 change-drafts command reply {weight = weight} {old = old} {new = new} {after = after} tells made light writes left =
     (tells, λ told has. change-made command reply weight old new after (made told has) light, λ few. writes, left)
 
@@ -212,7 +212,7 @@ module _ {D : Type 0} {g : Ghosts D} {T : Type 0} (answer : T → Answer) (weigh
       → IfOk outcome (λ made. WritesAtMost (weight made) (store.state_of old.store) (store.state_of new.store))
       → (g.tells_reads → HasStore old → IfErr outcome (IsRefusal (store.state_of old.store).shape.limit (graph_in (store.state_of old.store)) command))
       → ((made : T) → outcome ≡ Ok made → g.tells_reads → LeavesRecords command (reply_of (answer made)) (store.drafted old.store)
-      (store.drafted new.store))
+      (store.drafted new.store) new.names.names)
       → HasChangeCause (g.faults old.store.base.disk.now) (g.faults new.store.base.disk.now) outcome → Drafts command old new (drafted_by answer weight outcome)
   drafts-call (Ok made) makes light writes refused left cause = change-drafts command (reply_of (answer made)) (tells made) (λ told has. makes told has)
       light writes
@@ -226,6 +226,11 @@ module _ {D : Type 0} {g : Ghosts D} {T : Type 0} (answer : T → Answer) (weigh
 -- what holds of all that is made
 pub ok-has : {T E : Type 0} (P : T → Type 0) (outcome : Result T E) → IfOk outcome P → (made : T) → outcome ≡ Ok made → P made
 ok-has {T = T} {E = E} P outcome has made is = subst (λ (r : Result T E). IfOk r P) is has
+
+-- what one that is made leaves
+pub change-left : (after : Type 0) (outcome : Result ℕ ChangeFault) → OnOk outcome after → (made : ℕ) → outcome ≡ Ok made → after
+change-left after (Ok weight) left made is = left
+change-left after (Err fault) left made is = let clash : Err fault ≡ Ok made = is in cc
 
 -- what one that deletes had before it, and leaves
 pub deletion-left : (before after : Type 0) (outcome : Result ℕ ChangeFault) → OnOk outcome before → OnOk outcome after → (made : ℕ) → outcome ≡ Ok made

@@ -1,5 +1,5 @@
 -- What a change that is answered leaves of the records, whatever they are, and tells of them.
-use Rattle.std.specs.Prelude.{◌≡◌, ◌≢◌, None}
+use Rattle.std.specs.Prelude.{◌≡◌, ◌≢◌, ℕ, List, None}
 use Rattle.plain_graph.specs.Reply.{EdgeMade, NodeMade, Reply}
 use Rattle.plain_graph.specs.declared.command.Command.{Command}
 use Rattle.plain_graph.specs.declared.command.Command.TheVariants as commands
@@ -9,23 +9,32 @@ use Rattle.rec_bytes.specs.Space.{meta_in}
 use Rattle.store_rules.specs.Views.{Records}
 use Rattle.id_freelist.specs.Taking.{taken_id}
 use Rattle.rel_store.specs.Loading as rels
+use Rattle.change_parts.specs.Causes.{HasDefinition}
 use Rattle.change_parts.specs.Degrees.{HasDegree}
 use Rattle.edge_changes.specs.EdgeDeleting.{IsUnusedEdge}
 use Rattle.edge_changes.specs.EdgePlacing.{IsEdgeBetween}
 use Rattle.node_changes.specs.NodeDeleting.{IsUnused}
+use Rattle.node_changes.specs.PropertySetting.{GivesKey, LosesKey}
 
 -- A new node has the first free identifier of the nodes, or else the mark, and a new edge that of
--- the relationships; it is in use and leads from the one node to the other. A node that is deleted
--- had no relationships, and is in use no more. An edge that is deleted was there, and is in use no
--- more. Of another change nothing is said but over a store.
-abbrev pub LeavesRecords : Command → Reply → Records → Records → Type 0
-LeavesRecords (commands.Node label pairs) reply old new =
+-- the relationships; it is in use and leads from the one node to the other. The records of an
+-- element lead to the value that was set; the property that they led to is in use no more where its
+-- key is taken away. A node that is deleted had no relationships, and is in use no more. An edge
+-- that is deleted was there, and is in use no more. A new index has a definition. The names are
+-- those in memory afterwards. Of a mutating query nothing is said but over a store.
+abbrev pub LeavesRecords : Command → Reply → Records → Records → List (List ℕ) → Type 0
+LeavesRecords (commands.Node label pairs) reply old new names =
     reply ≡ NodeMade (taken_id (meta_in old format.nodes_file))
-LeavesRecords (commands.Edge from label to pairs) reply old new =
+LeavesRecords (commands.Edge from label to pairs) reply old new names =
     (reply ≡ EdgeMade (taken_id (meta_in old format.relationships_file)))
     × IsEdgeBetween new (taken_id (meta_in old format.relationships_file)) from to
-LeavesRecords (commands.Delete (targets.Node id)) reply old new =
+LeavesRecords (commands.Set target key value) reply old new names =
+    GivesKey new names target key value
+LeavesRecords (commands.Unset target key) reply old new names =
+    LosesKey old new names target key
+LeavesRecords (commands.Delete (targets.Node id)) reply old new names =
     HasDegree old id 0 × IsUnused new id
-LeavesRecords (commands.Delete (targets.Edge id)) reply old new =
+LeavesRecords (commands.Delete (targets.Edge id)) reply old new names =
     (rels.row_at old id ≢ None) × IsUnusedEdge new id
-LeavesRecords _ reply old new = Unit {0}
+LeavesRecords (commands.Index label key) reply old new names = HasDefinition new names label key
+LeavesRecords _ reply old new names = Unit {0}

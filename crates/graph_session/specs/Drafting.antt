@@ -167,7 +167,7 @@ module _ {D : Type 0} {g : Ghosts D} where
       × (made.weight < most_told
       → WritesAtMost made.weight (state_of old.store) (state_of new.store))
       × (g.tells_reads → LeavesRecords command (reply_of made.answer) (drafted old.store)
-      (drafted new.store))
+      (drafted new.store) new.names.names)
   Drafts command old new (Err why) = IsStopped command old new.store.base.disk.now why
 
   -- The draft has the changed records of what it was, and no others. The names are the same.

@@ -162,7 +162,7 @@ module _ {D : Type 0} (g : Ghosts D) (old : SessionView D) (reply : Reply) (new 
         (TellsMade command reply × HasChanged g old new
         × (g.tells_reads
         → LeavesRecords command reply (seen_records old.console)
-        (seen_records new.console)))
+        (seen_records new.console) new.console.names))
         ⊎ (((why : Refusal) × (reply ≡ Refused why)) × Stays g old new)
         ⊎ ((reply ≡ Faulted [] NoMemory) × Stays g old new)
         ⊎ (TellsDamage × Stays g old new)

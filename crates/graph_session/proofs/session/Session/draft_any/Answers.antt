@@ -8,11 +8,13 @@ use Rattle.id_freelist.specs.Taking.{taken_id}
 use Rattle.name_store.specs.Interning.{interned}
 use Rattle.change_parts.specs.Damage.{BlamesEntries, BlamesGiven}
 use Rattle.change_parts.specs.declared.added.Added.{Added}
+use Rattle.change_parts.specs.Causes.{HasDefinition}
 use Rattle.txn_core.specs.Store.{drafted, state_of}
 use Rattle.edge_changes.specs.EdgePlacing.{IsEdgeBetween}
+use Rattle.node_changes.specs.PropertySetting.{GivesKey, LosesKey}
 use Rattle.graph_session.specs.declared.answer.Answer.TheVariants as answers
 use Rattle.graph_session.proofs.FoundDamage.{entries-aside, found-call, found-none, given-aside}
-use Rattle.graph_session.proofs.LineDrafts.{drafts-call, ok-has}
+use Rattle.graph_session.proofs.LineDrafts.{change-left, drafts-call, ok-has}
 use Rattle.graph_session.proofs.session.Session.draft_any.Goals as goal
 
 pub returns-in-Node-clause-only : goal.returns-in-Node-clause-only
@@ -61,7 +63,9 @@ returns-in-Set-clause-drafts g c =
     rw (c.in-Set.is, c.drafted_done.ensures)
     (drafts-call (λ (weight : ℕ). answers.Done) (λ (weight : ℕ). weight) (commands.Set c.in-Set.target c.in-Set.key.now c.in-Set.value.now) (λ weight. refl)
     (returns-in-Set-clause-only g c) c.set.result (λ told. met.made told) met.light met.writes
-    (λ told has. met.refused told has) (λ made is told. tt) met.cause)
+    (λ told has. met.refused told has)
+    (λ made is told. change-left (GivesKey (drafted c.set.new.space) c.set.new.names.names c.in-Set.target c.in-Set.key.now c.in-Set.value.now) c.set.result
+    (met.gives told) made is) met.cause)
 
 pub returns-in-Unset-clause-only : goal.returns-in-Unset-clause-only
 returns-in-Unset-clause-only g c =
@@ -82,7 +86,10 @@ returns-in-Unset-clause-drafts g c =
     rw (c.in-Unset.is, c.drafted_done-in-Unset.ensures)
     (drafts-call (λ (weight : ℕ). answers.Done) (λ (weight : ℕ). weight) (commands.Unset c.in-Unset.target c.in-Unset.key.now) (λ weight. refl)
     (returns-in-Unset-clause-only g c) c.unset.result (λ told. met.made told) met.light met.writes
-    (λ told has. met.refused told has) (λ made is told. tt) met.cause)
+    (λ told has. met.refused told has)
+    (λ made is told.
+    change-left (LosesKey (drafted c.args.self.now.store) (drafted c.unset.new.space) c.args.self.now.names.names c.in-Unset.target c.in-Unset.key.now)
+    c.unset.result (met.gone told) made is) met.cause)
 
 pub returns-in-Delete-clause-only : goal.returns-in-Delete-clause-only
 returns-in-Delete-clause-only g c = c.draft_deletion.ensures.only
@@ -102,7 +109,8 @@ returns-in-Index-clause-drafts g c =
     (drafts-call (λ (weight : ℕ). answers.Done) (λ (weight : ℕ). weight) (commands.Index c.in-Index.label.now c.in-Index.key.now) (λ weight. refl)
     (returns-in-Index-clause-only g c) c.index.result (λ told. met.made told) met.light met.writes
     (λ told has. met.refused told has)
-    (λ made is told. tt) met.cause)
+    (λ made is told. change-left (HasDefinition (drafted c.index.new.space) c.index.new.names.names c.in-Index.label.now c.in-Index.key.now) c.index.result
+    (met.stands told) made is) met.cause)
 
 pub returns-in-Mutate-clause-only : goal.returns-in-Mutate-clause-only
 returns-in-Mutate-clause-only g c = c.draft_mutation.ensures.only
