@@ -1,5 +1,5 @@
 -- Identifiers by ascending number, each once.
-use Rattle.std.proofs.Common.{◌≡◌, ◌<◌, ℕ, suc, Bool, true, false, nat_eq, List, [], ◌∷◌, length, get_or, refl, sym, arith}
+use Rattle.std.proofs.Common.{◌≡◌, ◌<◌, ◌≤◌, ℕ, suc, Bool, true, false, cond, nat_eq, List, [], ◌∷◌, length, get_or, refl, sym, arith}
 use borrow.Author.Tests.{eqb-true}
 use Rattle.std.specs.List.{AllByRecursion, AllPairs, Contains, dedup, list_any}
 use Rattle.std.specs.List.Sorted.{IsPermutation, IsSorted}
@@ -51,3 +51,17 @@ pub asked-dedup : (asked sorted : List ℕ) → IsPermutation asked sorted → (
 asked-dedup asked sorted moved = same_any (dedup nat_eq sorted) asked
     (λ x has. Contains-permutation sorted asked x (IsPermutation-sym asked sorted moved) (Contains-from_dedup nat_eq sorted x has))
     (λ x has. Contains-dedup_nat sorted x (Contains-permutation asked sorted x moved has))
+
+-- and no more of them
+from_few : (last : ℕ) (xs : List ℕ) → length (dedup nat_eq (last ∷ xs)) ≤ suc (length xs)
+from_few last [] = omega arith
+from_few last (x ∷ xs) = by (nat_eq x last) (from_few last xs) (from_few x xs)
+  where
+    by : (b : Bool) → length (dedup nat_eq (last ∷ xs)) ≤ suc (length xs) → length (dedup nat_eq (x ∷ xs)) ≤ suc (length xs)
+        → length (cond b (dedup nat_eq (last ∷ xs)) (last ∷ dedup nat_eq (x ∷ xs))) ≤ suc (suc (length xs))
+    by true without further = omega (arith, without)
+    by false without further = omega (arith, further)
+
+pub dedup-few : (xs : List ℕ) → length (dedup nat_eq xs) ≤ length xs
+dedup-few [] = omega arith
+dedup-few (x ∷ xs) = from_few x xs

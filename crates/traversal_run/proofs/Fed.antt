@@ -25,7 +25,6 @@ use Rattle.traversal_run.specs.declared.source.Left.{Left}
 use Rattle.traversal_run.specs.declared.source.Left.TheVariants.{Nothing}
 use Rattle.traversal_run.specs.declared.source.Source.{Source}
 use Rattle.traversal_run.specs.declared.stage.Stage.{Stage}
-use Rattle.traversal_run.specs.declared.stage.Stage.TheVariants as stages
 use Rattle.traversal_run.proofs.HeldSteps.{plain_uncounted}
 use Rattle.traversal_run.proofs.LeftRows.{left-takes}
 use Rattle.traversal_run.proofs.Rows.{left_of-over, past_through, through_cut}

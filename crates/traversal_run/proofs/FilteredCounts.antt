@@ -41,7 +41,7 @@ filters_more rows i row lt is one before =
     list_all_more (λ (r : Row). is_filter r.stage) rows i row lt
     ∙ (λ j. before j && (ap (λ (r : Row). is_filter r.stage) (sym is) ∙ one) j)
 
-both : (a b : Bool) → a && b ≡ true → (a ≡ true) × (b ≡ true)
+pub both : (a b : Bool) → a && b ≡ true → (a ≡ true) × (b ≡ true)
 both true b is = (refl, is)
 both false b is = absurd cc
 
@@ -50,7 +50,7 @@ filter_quiet (stages.Mapped mapping) is = refl
 filter_quiet stage is = cc
 
 -- what a filter makes of what comes to it
-filter_gives : (graph : Graph) (stage : Stage) (list : List Item) → is_filter stage ≡ true
+pub filter_gives : (graph : Graph) (stage : Stage) (list : List Item) → is_filter stage ≡ true
     → after_stage graph stage list ≡ filter (passes_stage graph stage) list
 filter_gives graph (stages.Mapped (mappings.Filter test)) list is = by list
   where
@@ -93,7 +93,7 @@ through_filters graph (row ∷ rows) list are idle =
     ∙ through_filters graph rows (filter (passes_stage graph row.stage) list) is.1 idle.1
     ∙ ap stream (filter_both (passes_stage graph row.stage) (passes_rows graph rows) list)
 
-filters_quiet : (rows : List Row) → are_filters rows ≡ true → AreQuiet rows
+pub filters_quiet : (rows : List Row) → are_filters rows ≡ true → AreQuiet rows
 filters_quiet [] are = tt
 filters_quiet (row ∷ rows) are = let is = both (is_filter row.stage) (are_filters rows) are in (filter_quiet row.stage is.0, filters_quiet rows is.1)
 
@@ -107,7 +107,7 @@ count_row : (graph : Graph) (row : Row) (n : ℕ) (given : Bool) (list : List It
     → after_row graph row (stream list) ≡ count_stream given (n + length list)
 count_row graph row n given list is idle = λ i. after_row graph (record { stage = is i; waiting = idle i }) (stream list)
 
-counted_same : (given fits : Bool) (n after : ℕ) (list : List Item) → IsCountOf list n fits after → fits || given ≡ true
+pub counted_same : (given fits : Bool) (n after : ℕ) (list : List Item) → IsCountOf list n fits after → fits || given ≡ true
     → count_stream given (after + 0) ≡ count_stream given (n + length list)
 counted_same true fits n after list counts gives = refl
 counted_same false true n after list counts gives = let is = counts in ap (count_stream false) (omega arith)

@@ -14,8 +14,9 @@ use Rattle.prop_store.proofs.ReadCounts.{reads_more, reads_none, reads_then}
 use Rattle.rec_bytes.specs.Space.{State}
 use Rattle.rec_bytes.specs.declared.space.Reads.{Ghosts as SpaceGhosts}
 use Rattle.traversal_run.specs.Held.{is_hop}
-use Rattle.traversal_run.specs.HopRun.{FeedsHop, HasNone, HasOnly, IsHop, IsHopAlone, IsHopQuery, IsReady, MakesHop, StageReads, reads_for_hop}
+use Rattle.traversal_run.specs.HopRun.{FeedsHop, HasNone, HasOnly, IsHop, IsHopAlone, IsHopQuery, IsReady, MakesHop, reads_for_hop}
 use Rattle.traversal_run.specs.Hopping.{hop_reads, reads_at_vertex}
+use Rattle.traversal_run.specs.Owing.{stage_reads}
 use Rattle.traversal_run.specs.Reading.{IsNamedStore, IsRead}
 use Rattle.traversal_run.specs.Source.{TakesId, is_left, is_over}
 use Rattle.traversal_run.specs.Stage.{is_open}
@@ -94,11 +95,11 @@ pub record JustTook {R : Type 0} (space : SpaceGhosts R) (names : List (List ℕ
   pub none : HasNone before → ⊥
 
 -- what a step that makes this hop reads
-as_hop : (stage : Stage) (hop : Hop) (item : Item) (s t : State) → MakesHop stage hop → StageReads stage item s t
-    → ReadsAtMost (hop_reads s.records hop item) s t
+as_hop : (stage : Stage) (hop : Hop) (item : Item) (s t : State) → MakesHop stage hop
+    → ReadsAtMost (stage_reads s.records stage item) s t → ReadsAtMost (hop_reads s.records hop item) s t
 as_hop stage hop item s t makes reads =
-    ⊎_elim (λ (is : stage ≡ stages.Mapped (mappings.Neighbours hop)). subst (λ (step : Stage). StageReads step item s t) is reads)
-    (λ (is : stage ≡ stages.Mapped (mappings.Incident hop)). subst (λ (step : Stage). StageReads step item s t) is reads) makes
+    ⊎_elim (λ (is : stage ≡ stages.Mapped (mappings.Neighbours hop)). subst (λ (step : Stage). ReadsAtMost (stage_reads s.records step item) s t) is reads)
+    (λ (is : stage ≡ stages.Mapped (mappings.Incident hop)). subst (λ (step : Stage). ReadsAtMost (stage_reads s.records step item) s t) is reads) makes
 
 module _ {R : Type 0} (space : SpaceGhosts R) (names : List (List ℕ)) (stage : Stage) (old : R) (before : Left) where
   -- it is no vertex in use, or that was not told
@@ -120,8 +121,8 @@ module _ {R : Type 0} (space : SpaceGhosts R) (names : List (List ℕ)) (stage :
   -- the step took it
   pub took_step : (step : Stage) (now mid last : R) (left rest : Left) (x : ℕ) → FedHop space names stage step old now before left → TakesId left x rest
       → ReadsAtMost 1 (space.state now) (space.state mid) → IsRead space old mid
-      → (space.tells → IsNamedStore (space.state mid).records (space.state mid).shape names → StageReads step (items.Vertex x) (space.state mid)
-      (space.state last))
+      → (space.tells → IsNamedStore (space.state mid).records (space.state mid).shape names
+      → ReadsAtMost (stage_reads (space.state mid).records step (items.Vertex x)) (space.state mid) (space.state last))
       → JustTook space names stage old last before rest
   took_step step now mid last left rest x fed takes get read steps = record {
     one = λ id hop makes only.
@@ -133,7 +134,8 @@ module _ {R : Type 0} (space : SpaceGhosts R) (names : List (List ℕ)) (stage :
           cost = λ tells store.
               let there : IsNamedStore (space.state mid).records (space.state mid).shape names = rw read.same store in
               let hops = as_hop stage hop (items.Vertex x) (space.state mid) (space.state last) makes
-              (subst (λ (st : Stage). StageReads st (items.Vertex x) (space.state mid) (space.state last)) l.same (steps tells there)) in
+              (subst (λ (st : Stage). ReadsAtMost (stage_reads (space.state mid).records st (items.Vertex x)) (space.state mid) (space.state last)) l.same
+              (steps tells there)) in
               let cost : reads_at_vertex (space.state mid).records hop x ≡ reads_at_vertex (space.state old).records hop id = λ i.
               reads_at_vertex (same i) hop (taken.0 i) in
               let first : ReadsAtMost 1 (space.state old) (space.state mid) = subst (λ (r : R). ReadsAtMost 1 (space.state r) (space.state mid)) l.here get in

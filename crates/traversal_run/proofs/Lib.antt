@@ -7,6 +7,8 @@ pub mod Causes
 pub mod Codes
 pub mod Counting
 pub mod Fed
+pub mod FedReads
+pub mod FilterReads
 pub mod FilteredCounts
 pub mod FoundNodes
 pub mod FoundSources
@@ -28,6 +30,8 @@ pub mod NextAnswers
 pub mod Nothing
 pub mod OnlyReads
 pub mod Orders
+pub mod OwedRows
+pub mod OwedRuns
 pub mod Owned
 pub mod Places
 pub mod Ranks
@@ -35,6 +39,8 @@ pub mod RowLists
 pub mod Rows
 pub mod Scans
 pub mod Sorting
+pub mod Spending
+pub mod StepReads
 pub mod Stops
 pub mod TakenRows
 pub mod Texts

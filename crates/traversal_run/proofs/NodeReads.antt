@@ -1,5 +1,5 @@
 -- A load of a row reads at most once.
-use Rattle.std.proofs.Common.{◌≡◌, ℕ, Bool, true, false, ◌&&◌, nat_lt, cond, List, Option, None, Some, refl, arith}
+use Rattle.std.proofs.Common.{◌≡◌, ◌≤◌, ℕ, Bool, true, false, ◌&&◌, nat_lt, cond, List, Option, None, Some, refl, arith}
 use Rattle.rec_bytes.specs.Space.{State, after_get}
 use Rattle.prop_store.specs.Reading.{ReadsAtMost}
 use Rattle.prop_store.proofs.ReadCounts.{reads_none, reads_one}
@@ -21,3 +21,8 @@ pub edge_reads : (tells : Type 0) (records : Records) (id : ℕ) (label : List �
     → IsRowOf tells records (items.Edge id label from to) row → owner_reads row ≡ 1
 edge_reads tells records id label from to None is = refl
 edge_reads tells records id label from to (Some row) is = absurd is
+
+-- the owner of an item is read at most once
+pub owner_few : (row : Option NodeRow) → owner_reads row ≤ 1
+owner_few None = omega arith
+owner_few (Some row) = omega arith

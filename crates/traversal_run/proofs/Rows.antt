@@ -160,7 +160,7 @@ passes_through graph (first ∷ rows) zero row any coming lt is passes =
 passes_through graph (first ∷ rows) (suc at) row any coming lt is passes =
     passes_through graph rows at row any (after_row graph first coming) (omega arith) is passes
 
-spent_gives : (graph : Graph) (stage : Stage) (coming : List Item) → is_spent stage ≡ true → after_stage graph stage coming ≡ []
+pub spent_gives : (graph : Graph) (stage : Stage) (coming : List Item) → is_spent stage ≡ true → after_stage graph stage coming ≡ []
 spent_gives graph (stages.Limit zero) [] spent = refl
 spent_gives graph (stages.Limit zero) (item ∷ coming) spent = refl
 spent_gives graph (stages.Limit (suc left)) coming spent = let none = eqb-true (suc left) 0 spent in absurd (omega (arith, none))

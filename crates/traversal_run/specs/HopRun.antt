@@ -1,19 +1,16 @@
 -- What a hop at one vertex reads.
 use Rattle.std.specs.Prelude.{◌≡◌, ◌⊎◌, ℕ, ◌+◌, nat_eq, true, false, None, List, [], ◌∷◌}
-use Rattle.plain_graph.specs.declared.item.Item.{Item}
 use Rattle.plain_graph.specs.declared.query.Hop.{Hop}
 use Rattle.plain_graph.specs.declared.query.Query.{Query}
 use Rattle.plain_graph.specs.declared.query.Source.TheVariants as sources
 use Rattle.plain_graph.specs.declared.query.Step.TheVariants as steps
 use Rattle.prop_store.specs.Reading.{ReadsAtMost}
-use Rattle.rec_bytes.specs.Space.{State}
 use Rattle.rec_bytes.specs.declared.space.Reads.{Ghosts as SpaceGhosts}
 use Rattle.store_rules.specs.Views.{Records}
 use Rattle.traversal_run.specs.Held.{is_hop}
-use Rattle.traversal_run.specs.Hopping.{hop_reads, reads_at_vertex}
+use Rattle.traversal_run.specs.Hopping.{reads_at_vertex}
 use Rattle.traversal_run.specs.Reading.{IsNamedStore}
 use Rattle.traversal_run.specs.Source.{is_left}
-use Rattle.traversal_run.specs.declared.mapping.Mapping.{Mapping}
 use Rattle.traversal_run.specs.declared.mapping.Mapping.TheVariants as mappings
 use Rattle.traversal_run.specs.declared.row.Row.{Row}
 use Rattle.traversal_run.specs.declared.run.Run.{Run}
@@ -69,18 +66,6 @@ pub record IsReady (run : Run) : Type 0 where
   pub going : run.stopped ≡ None
 
 -- ---- amid a call
-
--- For an item a hop reads no more than that. Of other steps this says nothing.
-abbrev pub ReadsAsHop : Mapping → Item → State → State → Type 0
-ReadsAsHop (mappings.Neighbours hop) item old new =
-    ReadsAtMost (hop_reads old.records hop item) old new
-ReadsAsHop (mappings.Incident hop) item old new =
-    ReadsAtMost (hop_reads old.records hop item) old new
-ReadsAsHop mapping item old new = Unit {0}
-
-abbrev pub StageReads : Stage → Item → State → State → Type 0
-StageReads (stages.Mapped mapping) item old new = ReadsAsHop mapping item old new
-StageReads stage item old new = Unit {0}
 
 -- The step was given vertices of the source. Where one was left, a hop there reads no more than
 -- that, and none is left. Where none was, nothing is read.

@@ -12,6 +12,7 @@ pub mod Kept
 pub mod Mapping
 pub mod Naming
 pub mod NumberedFilter
+pub mod Owing
 pub mod Reading
 pub mod Row
 pub mod Run

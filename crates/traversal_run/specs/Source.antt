@@ -51,3 +51,8 @@ abbrev pub left_count : ℕ → Left → ℕ
 left_count mark (From from) = mark - from
 left_count mark (Among ids) = length ids
 left_count mark Nothing = 0
+
+-- how many are asked for: all below the mark where none is written
+abbrev pub asked_count : ℕ → List ℕ → ℕ
+asked_count mark [] = mark
+asked_count mark (id ∷ ids) = length (id ∷ ids)

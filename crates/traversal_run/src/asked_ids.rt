@@ -1,4 +1,5 @@
-ghost use Rattle.std.specs.Prelude.{◌≡◌, ◌<◌, ℕ, [], ◌∷◌, nat_eq, IfNone, IfOk, IfSome};
+ghost use Rattle.std.specs.Prelude.{◌≡◌, ◌<◌, ◌≤◌, ℕ, [], ◌∷◌, IfNone, IfOk, IfSome};
+ghost use Rattle.std.specs.Prelude.{length, nat_eq};
 ghost use Rattle.std.specs.List.{AllByRecursion, list_any};
 
 use std::alloc::{AllocError, Global};
@@ -25,8 +26,9 @@ impl Model for AskedIds {
 impl AskedIds {
     /// These identifiers.
     pub(crate) fn new(alloc: Global, ids: &[u32]) -> Result<AskedIds, AllocError>
-        ensures { IfOk result (λ asked. (id : ℕ)
+        ensures asked { IfOk result (λ asked. (id : ℕ)
             → list_any (nat_eq id) asked ≡ list_any (nat_eq id) ids.now) }
+        ensures few { IfOk result (λ asked. length asked ≤ length ids.now) }
     {
         let mut ids = Vec::from_slice(alloc, ids)?;
         ids.sort()?;

@@ -21,6 +21,7 @@ ghost use Rattle.prop_store.specs.Fault.{BlamesBroken};
 ghost use Rattle.traversal_run.specs.Naming.{name_at, name_count};
 ghost use Rattle.traversal_run.specs.NumberedFilter.{HasNumber};
 ghost use Rattle.traversal_run.specs.Reading.{IsNamedStore, IsRead};
+ghost use Rattle.traversal_run.specs.Owing.{key_reads};
 
 use crate::naming::{name_mark, number_of, text_of, unnamed};
 use crate::sought::SoughtName;
@@ -140,6 +141,7 @@ pub(crate) fn label_of<'a, R: Reads>(
     ensures no_read { IsLoaded item.now row.now → R.state space.new ≡ R.state space.old }
     ensures short { IsShown item.now
         → IfOk result (λ label. IfSome label (λ text. length text.now ≤ 48)) }
+    ensures at_most { ReadsAtMost 1 (R.state space.old) (R.state space.new) }
     ensures read { IsRead R.Reads space.old space.new }
     ensures cause { HasFaultCause (R.faults space.old) (R.faults space.new) result }
 {
@@ -167,6 +169,7 @@ fn vertex_label<'a, R: Reads>(
     ensures no_read { IsLoaded (items.Vertex id) row.now
         → R.state space.new ≡ R.state space.old }
     ensures short { IfOk result (λ label. IfSome label (λ text. length text.now ≤ 48)) }
+    ensures at_most { ReadsAtMost 1 (R.state space.old) (R.state space.new) }
     ensures read { IsRead R.Reads space.old space.new }
     ensures cause { HasFaultCause (R.faults space.old) (R.faults space.new) result }
 {
@@ -193,6 +196,7 @@ pub(crate) fn label_number<R: Reads>(
         (BlamesBroken (R.state space.old).records (R.state space.old).shape) }
     ensures no_read { IsLoaded (items.Vertex id) row.now
         → R.state space.new ≡ R.state space.old }
+    ensures at_most { ReadsAtMost 1 (R.state space.old) (R.state space.new) }
     ensures read { IsRead R.Reads space.old space.new }
     ensures cause { HasFaultCause (R.faults space.old) (R.faults space.new) result }
 {
@@ -224,6 +228,7 @@ pub(crate) fn value_of<R: Reads>(
     ensures damaged { R.tells → IfErr result
         (BlamesBroken (R.state space.old).records (R.state space.old).shape) }
     ensures kept { IfOk result (λ value. IfSome value IsKept) }
+    ensures at_most { ReadsAtMost key_reads (R.state space.old) (R.state space.new) }
     ensures read { IsRead R.Reads space.old space.new }
     ensures cause { HasFaultCause (R.faults space.old) (R.faults space.new) result }
 {
@@ -247,6 +252,7 @@ pub(crate) fn numbered_value<R: Reads>(
     ensures damaged { R.tells → IfErr result
         (BlamesBroken (R.state space.old).records (R.state space.old).shape) }
     ensures kept { IfOk result (λ value. IfSome value IsKept) }
+    ensures at_most { ReadsAtMost key_reads (R.state space.old) (R.state space.new) }
     ensures read { IsRead R.Reads space.old space.new }
     ensures cause { HasFaultCause (R.faults space.old) (R.faults space.new) result }
 {

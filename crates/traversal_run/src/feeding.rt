@@ -26,6 +26,11 @@ ghost use Rattle.traversal_run.specs.Source.{left_of};
 ghost use Rattle.plain_graph.specs.Graph.{Graph};
 ghost use Rattle.traversal_run.specs.Stage.{counts_past, is_count, limit_left, with_more};
 ghost use Rattle.traversal_run.specs.Stop.{HasStopCause, MayStop, StopsAtBroken};
+ghost use Rattle.traversal_run.specs.Owing.{Spends, SpendsIf, count_owes, feed_owes, filter_reads, rows_owe, stage_reads, vertex_reads};
+ghost use Rattle.prop_store.specs.Reading.{ReadsAtMost};
+ghost use Rattle.store_rules.specs.Views.{Records};
+ghost use Rattle.plain_graph.specs.declared.item.Item.{Item};
+ghost use Rattle.traversal_run.specs.Row.{AreIdle};
 
 use crate::counter::Counter;
 use crate::finding::vertex_row;
@@ -75,6 +80,13 @@ pub(crate) fn feed<R: Reads>(
         → is_plain stage.old ≡ true → IfOk result (IsBatch d (is_hop stage.old)) }
     ensures hop { source.old.edges ≡ false → is_hop stage.old ≡ true → FeedsHop R.Reads
         names.now.names stage.old space.old space.new source.old source.new }
+    ensures asks { (records : Records) (item : Item)
+        → stage_reads records stage.new item ≡ stage_reads records stage.old item }
+    ensures owes { R.tells
+        → IsNamedStore (R.state space.old).records (R.state space.old).shape names.now.names
+        → SpendsIf result (R.state space.old) (R.state space.new)
+        (feed_owes (R.state space.old).records source.old stage.old)
+        (feed_owes (R.state space.old).records source.new stage.new) }
     ensures read { IsRead R.Reads space.old space.new }
     ensures cause { HasStopCause (R.faults space.old) (R.faults space.new) result }
 {
@@ -114,6 +126,11 @@ fn first_passing<R: Reads>(
     ensures damaged { R.tells → IfErr result
         (BlamesBroken (R.state space.old).records (R.state space.old).shape) }
     ensures few { IfOk result (λ outs. length outs ≤ 1) }
+    ensures owes { R.tells
+        → IsNamedStore (R.state space.old).records (R.state space.old).shape names.now.names
+        → SpendsIf result (R.state space.old) (R.state space.new)
+        (feed_owes (R.state space.old).records source.old (filter_stage filter.now))
+        (feed_owes (R.state space.old).records source.new (filter_stage filter.now)) }
     ensures read { IsRead R.Reads space.old space.new }
     ensures cause { HasFaultCause (R.faults space.old) (R.faults space.new) result }
 {
@@ -159,6 +176,13 @@ fn feed_vertices<R: Reads>(
         → is_plain stage.old ≡ true → IfOk result (IsBatch d (is_hop stage.old)) }
     ensures hop { FeedsHop R.Reads
         names.now.names stage.old space.old space.new source.old source.new }
+    ensures asks { (records : Records) (item : Item)
+        → stage_reads records stage.new item ≡ stage_reads records stage.old item }
+    ensures owes { R.tells
+        → IsNamedStore (R.state space.old).records (R.state space.old).shape names.now.names
+        → SpendsIf result (R.state space.old) (R.state space.new)
+        (feed_owes (R.state space.old).records source.old stage.old)
+        (feed_owes (R.state space.old).records source.new stage.new) }
     ensures read { IsRead R.Reads space.old space.new }
     ensures cause { HasFaultCause (R.faults space.old) (R.faults space.new) result }
 {
@@ -200,6 +224,13 @@ fn feed_edges<R: Reads>(
         → IsNamedStore (R.state space.old).records (R.state space.old).shape names.now.names
         → (d : ℕ) → HasDegreesUpTo (graph_of (R.state space.old).records) d
         → is_plain stage.old ≡ true → IfOk result (IsBatch d (is_hop stage.old)) }
+    ensures asks { (records : Records) (item : Item)
+        → stage_reads records stage.new item ≡ stage_reads records stage.old item }
+    ensures owes { R.tells
+        → IsNamedStore (R.state space.old).records (R.state space.old).shape names.now.names
+        → SpendsIf result (R.state space.old) (R.state space.new)
+        (feed_owes (R.state space.old).records source.old stage.old)
+        (feed_owes (R.state space.old).records source.new stage.new) }
     ensures read { IsRead R.Reads space.old space.new }
     ensures cause { HasFaultCause (R.faults space.old) (R.faults space.new) result }
 {
@@ -236,6 +267,11 @@ pub(crate) fn count_passing<R: Reads>(
     ensures over { OnOk result ((graph : Graph) → left_of graph source.new ≡ []) }
     ensures damaged { R.tells → IfErr result
         (BlamesBroken (R.state space.old).records (R.state space.old).shape) }
+    ensures owes { R.tells
+        → IsNamedStore (R.state space.old).records (R.state space.old).shape names.now.names
+        → are_filters rows.now ≡ true → AreIdle rows.now
+        → Spends (R.state space.old) (R.state space.new)
+        (rows_owe (R.state space.old).records source.old rows.now) 0 }
     ensures read { IsRead R.Reads space.old space.new }
     ensures cause { HasFaultCause (R.faults space.old) (R.faults space.new) result }
 {
@@ -260,6 +296,10 @@ fn count_numbered<R: Reads>(
     ensures over { OnOk result ((graph : Graph) → left_of graph source.new ≡ []) }
     ensures damaged { R.tells → IfErr result
         (BlamesBroken (R.state space.old).records (R.state space.old).shape) }
+    ensures owes { R.tells → IsWellFormed (R.state space.old).records (R.state space.old).shape
+        → All (IsNumbered (R.state space.old).records) filters.now
+        → Spends (R.state space.old) (R.state space.new)
+        (count_owes (R.state space.old).records filters.now source.old) 0 }
     ensures read { IsRead R.Reads space.old space.new }
     ensures cause { HasFaultCause (R.faults space.old) (R.faults space.new) result }
 {
@@ -288,6 +328,10 @@ fn vertex_passes<R: Reads>(
         (passes_numbered (graph_of (R.state space.old).records) filters.now)) }
     ensures damaged { R.tells → IfErr result
         (BlamesBroken (R.state space.old).records (R.state space.old).shape) }
+    ensures reads { R.tells → IsWellFormed (R.state space.old).records (R.state space.old).shape
+        → All (IsNumbered (R.state space.old).records) filters.now
+        → ReadsAtMost (vertex_reads (R.state space.old).records filters.now id)
+        (R.state space.old) (R.state space.new) }
     ensures read { IsRead R.Reads space.old space.new }
     ensures cause { HasFaultCause (R.faults space.old) (R.faults space.new) result }
 {
@@ -315,6 +359,7 @@ fn passes_at<R: Reads>(
         ≡ passes (graph_of (R.state space.old).records) filter.now (items.Vertex id)) }
     ensures damaged { R.tells → IfErr result
         (BlamesBroken (R.state space.old).records (R.state space.old).shape) }
+    ensures at_most { ReadsAtMost (filter_reads filter.now) (R.state space.old) (R.state space.new) }
     ensures read { IsRead R.Reads space.old space.new }
     ensures cause { HasFaultCause (R.faults space.old) (R.faults space.new) result }
 {

@@ -67,6 +67,7 @@ pub(crate) fn element_at<R: Reads>(
 pub(crate) fn is_in_use<R: Reads>(space: &mut R, edges: bool, id: u32) -> Result<bool, Fault>
     ensures is { R.tells → IfOk result (λ used. used
         ≡ is_some (element_at (R.state space.old).records edges id)) }
+    ensures reads { (R.state space.new).reads ≤ (R.state space.old).reads + 1 }
     ensures damaged { R.tells → IfErr result
         (BlamesBroken (R.state space.old).records (R.state space.old).shape) }
     ensures read { IsRead R.Reads space.old space.new }

@@ -25,6 +25,7 @@ ghost use Rattle.traversal_run.specs.KeyValues.{entry_item, entry_of, named_entr
 ghost use Rattle.traversal_run.specs.Mapping.{distinct_values};
 ghost use Rattle.traversal_run.specs.Naming.{name_count};
 ghost use Rattle.traversal_run.specs.Reading.{IsNamedStore, IsRead};
+ghost use Rattle.traversal_run.specs.Owing.{values_reads};
 
 use crate::elements::{Owned, owner_of};
 use crate::kept_value::KeptValue;
@@ -62,6 +63,7 @@ pub(crate) fn several_values<R: Reads>(
         ≡ distinct_values (graph_of (R.state space.old).records) keys.now item.now) }
     ensures damaged { R.tells → IfErr result
         (BlamesBroken (R.state space.old).records (R.state space.old).shape) }
+    ensures at_most { ReadsAtMost values_reads (R.state space.old) (R.state space.new) }
     ensures read { IsRead R.Reads space.old space.new }
     ensures cause { HasFaultCause (R.faults space.old) (R.faults space.new) result }
 {

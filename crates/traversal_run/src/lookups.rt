@@ -9,6 +9,8 @@ ghost use Rattle.traversal_run.specs.Elements.{IsRowOf};
 ghost use Rattle.traversal_run.specs.Mapping.{distinct_values};
 ghost use Rattle.traversal_run.specs.Reading.{IsNamedStore, IsRead};
 ghost use Rattle.traversal_run.specs.Stage.{rank_in};
+ghost use Rattle.traversal_run.specs.Owing.{filter_reads, key_reads, keys_reads, rank_reads};
+ghost use Rattle.prop_store.specs.Reading.{ReadsAtMost};
 
 use crate::comparing::{is_related, is_text};
 use crate::elements::{label_of, value_of};
@@ -38,6 +40,7 @@ pub(crate) fn passes<R: Reads>(
         ≡ passes (graph_of (R.state space.old).records) filter.now item.now) }
     ensures damaged { R.tells → IfErr result
         (BlamesBroken (R.state space.old).records (R.state space.old).shape) }
+    ensures at_most { ReadsAtMost (filter_reads filter.now) (R.state space.old) (R.state space.new) }
     ensures read { IsRead R.Reads space.old space.new }
     ensures cause { HasFaultCause (R.faults space.old) (R.faults space.new) result }
 {
@@ -94,6 +97,7 @@ pub(crate) fn distinct_values<R: Reads>(
         ≡ distinct_values (graph_of (R.state space.old).records) keys.now item.now) }
     ensures damaged { R.tells → IfErr result
         (BlamesBroken (R.state space.old).records (R.state space.old).shape) }
+    ensures at_most { ReadsAtMost (keys_reads keys.now) (R.state space.old) (R.state space.new) }
     ensures read { IsRead R.Reads space.old space.new }
     ensures cause { HasFaultCause (R.faults space.old) (R.faults space.new) result }
 {
@@ -125,6 +129,7 @@ fn one_value<R: Reads>(
         ≡ distinct_values (graph_of (R.state space.old).records) (key.now.text.now ∷ []) item.now) }
     ensures damaged { R.tells → IfErr result
         (BlamesBroken (R.state space.old).records (R.state space.old).shape) }
+    ensures at_most { ReadsAtMost key_reads (R.state space.old) (R.state space.new) }
     ensures read { IsRead R.Reads space.old space.new }
     ensures cause { HasFaultCause (R.faults space.old) (R.faults space.new) result }
 {
@@ -149,6 +154,7 @@ pub(crate) fn label_value<R: Reads>(
         ≡ label_value (graph_of (R.state space.old).records) item.now) }
     ensures damaged { R.tells → IfErr result
         (BlamesBroken (R.state space.old).records (R.state space.old).shape) }
+    ensures at_most { ReadsAtMost 1 (R.state space.old) (R.state space.new) }
     ensures read { IsRead R.Reads space.old space.new }
     ensures cause { HasFaultCause (R.faults space.old) (R.faults space.new) result }
 {
@@ -176,6 +182,7 @@ pub(crate) fn rank<R: Reads>(
         ≡ rank_in (graph_of (R.state space.old).records) key.now item.now) }
     ensures damaged { R.tells → IfErr result
         (BlamesBroken (R.state space.old).records (R.state space.old).shape) }
+    ensures at_most { ReadsAtMost (rank_reads key.now) (R.state space.old) (R.state space.new) }
     ensures read { IsRead R.Reads space.old space.new }
     ensures cause { HasFaultCause (R.faults space.old) (R.faults space.new) result }
 {

@@ -4,9 +4,10 @@ ghost use Rattle.store_rules.specs.Graph.{graph_of};
 ghost use Rattle.rec_bytes.specs.Fault.{HasFaultCause};
 ghost use Rattle.prop_store.specs.Fault.{BlamesBroken};
 ghost use Rattle.traversal_run.specs.Elements.{IsRowOf};
-ghost use Rattle.traversal_run.specs.HopRun.{ReadsAsHop};
 ghost use Rattle.traversal_run.specs.Mapping.{filtered, mapped};
 ghost use Rattle.traversal_run.specs.Reading.{IsNamedStore, IsRead};
+ghost use Rattle.traversal_run.specs.Owing.{filter_reads, mapping_reads};
+ghost use Rattle.prop_store.specs.Reading.{ReadsAtMost};
 
 use crate::hopping::{incident, neighbours};
 use crate::lookups::{distinct_values, label_value, passes};
@@ -50,10 +51,10 @@ pub(crate) fn mapped<R: Reads>(
         ≡ mapped (graph_of (R.state space.old).records) mapping.now item) }
     ensures damaged { R.tells → IfErr result
         (BlamesBroken (R.state space.old).records (R.state space.old).shape) }
-    // what a hop reads
     ensures reads { R.tells
         → IsNamedStore (R.state space.old).records (R.state space.old).shape names.now.names
-        → ReadsAsHop mapping.now item (R.state space.old) (R.state space.new) }
+        → ReadsAtMost (mapping_reads (R.state space.old).records mapping.now item)
+        (R.state space.old) (R.state space.new) }
     ensures read { IsRead R.Reads space.old space.new }
     ensures cause { HasFaultCause (R.faults space.old) (R.faults space.new) result }
 {
@@ -85,6 +86,7 @@ fn filtered<R: Reads>(
         ≡ filtered (graph_of (R.state space.old).records) filter.now item) }
     ensures damaged { R.tells → IfErr result
         (BlamesBroken (R.state space.old).records (R.state space.old).shape) }
+    ensures at_most { ReadsAtMost (filter_reads filter.now) (R.state space.old) (R.state space.new) }
     ensures read { IsRead R.Reads space.old space.new }
     ensures cause { HasFaultCause (R.faults space.old) (R.faults space.new) result }
 {

@@ -1,7 +1,7 @@
 //! Filters with the numbers of their names, so that no text is compared for each vertex.
 
 ghost use Rattle.std.specs.Prelude.{◌≡◌, All, IfErr, IfOk, nat_eq};
-ghost use Rattle.std.specs.List.{list_any};
+ghost use Rattle.std.specs.List.{filter, list_any};
 ghost use Rattle.plain_graph.specs.Graph.{Graph};
 ghost use Rattle.plain_graph.specs.Meaning.{passes};
 ghost use Rattle.plain_graph.specs.declared.item.Item.{Item};
@@ -11,9 +11,12 @@ ghost use Rattle.store_rules.specs.Rules.{IsWellFormed};
 ghost use Rattle.rec_bytes.specs.Fault.{HasFaultCause};
 ghost use Rattle.prop_store.specs.Fault.{BlamesBroken};
 ghost use Rattle.traversal_run.specs.Elements.{IsRowOf};
-ghost use Rattle.traversal_run.specs.Feeding.{passes_rows};
-ghost use Rattle.traversal_run.specs.NumberedFilter.{IsNumbered, passes_numbered};
+ghost use Rattle.traversal_run.specs.Feeding.{is_filter, passes_rows};
+ghost use Rattle.traversal_run.specs.NumberedFilter.{IsNumbered, passes_numbered, stages_numbered};
+ghost use Rattle.traversal_run.specs.Row.{stages_of};
 ghost use Rattle.traversal_run.specs.Reading.{IsNamedStore, IsRead};
+ghost use Rattle.traversal_run.specs.Owing.{filter_reads, numbered_reads};
+ghost use Rattle.prop_store.specs.Reading.{ReadsAtMost};
 
 use crate::comparing::is_related;
 use crate::elements::{label_number, numbered_value};
@@ -80,6 +83,8 @@ impl<'a> NumberedFilter<'a> {
             ≡ passes (graph_of (R.state space.old).records) self.now.filter.now (items.Vertex id)) }
         ensures damaged { R.tells → IfErr result
             (BlamesBroken (R.state space.old).records (R.state space.old).shape) }
+        ensures at_most { ReadsAtMost (filter_reads self.now.filter.now)
+            (R.state space.old) (R.state space.new) }
         ensures read { IsRead R.Reads space.old space.new }
         ensures cause { HasFaultCause (R.faults space.old) (R.faults space.new) result }
     {
@@ -121,6 +126,9 @@ pub(crate) fn numbered_filters<'a, R: Reads>(
 ) -> Result<Vec<NumberedFilter<'a>>, AllocError>
     ensures same { IfOk result (λ filters. (graph : Graph) (item : Item)
         → passes_numbered graph filters.items item ≡ passes_rows graph rows.now item) }
+    // Those rows that are filters, in their order.
+    ensures stages { IfOk result (λ filters.
+        stages_numbered filters.items ≡ filter is_filter (stages_of rows.now)) }
     ensures numbered { IsNamedStore (R.state space.now).records (R.state space.now).shape
         names.now.names
         → IfOk result (λ filters. All (IsNumbered (R.state space.now).records) filters.items) }
@@ -149,6 +157,10 @@ pub(crate) fn passes_each<R: Reads>(
         ≡ passes_numbered (graph_of (R.state space.old).records) filters.now (items.Vertex id)) }
     ensures damaged { R.tells → IfErr result
         (BlamesBroken (R.state space.old).records (R.state space.old).shape) }
+    ensures reads { R.tells → IsWellFormed (R.state space.old).records (R.state space.old).shape
+        → All (IsNumbered (R.state space.old).records) filters.now → ReadsAtMost (numbered_reads
+        (graph_of (R.state space.old).records) filters.now (items.Vertex id))
+        (R.state space.old) (R.state space.new) }
     ensures read { IsRead R.Reads space.old space.new }
     ensures cause { HasFaultCause (R.faults space.old) (R.faults space.new) result }
 {

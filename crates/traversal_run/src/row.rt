@@ -1,4 +1,4 @@
-ghost use Rattle.std.specs.Prelude.{◌≡◌, [], ◌+◌, ◌<◌, ◌≤◌, List, length, take, drop, IfErr};
+ghost use Rattle.std.specs.Prelude.{◌≡◌, [], ◌++◌, ◌+◌, ◌<◌, ◌≤◌, List, length, take, drop, IfErr};
 ghost use Rattle.std.specs.Prelude.{IfNone, IfOk, IfSome, not};
 ghost use Rattle.std.specs.Prelude.{◌-◌, ◌∷◌, ℕ, cond, false, get_or, set, true};
 ghost use Rattle.std.specs.List.{list_all};
@@ -21,6 +21,8 @@ ghost use Rattle.traversal_run.specs.Row.{
 ghost use Rattle.traversal_run.specs.Scan.{limit_row};
 ghost use Rattle.traversal_run.specs.Stage.{is_count, is_open, limit_left, with_more};
 ghost use Rattle.traversal_run.specs.Stop.{HasStopCause, MayStop, StopsAtBroken};
+ghost use Rattle.traversal_run.specs.Owing.{SpendsIf, row_owes, steps_owe};
+ghost use Rattle.store_rules.specs.Views.{Records};
 
 use crate::counter::Counter;
 use crate::stage::Stage;
@@ -71,6 +73,11 @@ impl Row {
         ensures limit { (most : ℕ) (item : Item) → self.old ≡ limit_row most (item ∷ [])
             → IfOk result (λ outs. (outs ≡ take most (item ∷ []))
             × (self.new ≡ limit_row (most - 1) []) × (space.new ≡ space.old)) }
+        ensures owes { R.tells
+            → IsNamedStore (R.state space.old).records (R.state space.old).shape names.now.names
+            → (coming : List Item) → SpendsIf result (R.state space.old) (R.state space.new)
+            (row_owes (R.state space.old).records self.old coming)
+            (row_owes (R.state space.old).records self.new coming) }
         ensures read { IsRead R.Reads space.old space.new }
         ensures cause { HasStopCause (R.faults space.old) (R.faults space.new) result }
     {
@@ -171,6 +178,9 @@ pub(crate) fn put(rows: &mut [Row], ready: &mut Waiting, at: usize, outs: Waitin
     ensures later { (graph : Graph) (coming : Stream)
         → with_first ready.new (through graph (drop at rows.new) coming)
         ≡ through graph (drop at rows.old) (with_first outs coming) }
+    ensures owes { (records : Records) (coming : List Item)
+        → steps_owe records (drop at rows.new) coming
+        ≡ steps_owe records (drop at rows.old) (outs ++ coming) }
 {
     if at < rows.len() {
         rows[at].waiting = outs;

@@ -1,6 +1,6 @@
 ghost use Rattle.std.specs.Prelude.{◌≡◌, ◌↔◌, ℕ, Bool, IsTrue, [], ◌∷◌, ◌+◌, ◌<◌, ◌≤◌};
 ghost use Rattle.std.specs.Prelude.{length, take, drop, true, vec_len, None, Some, Ok, Err, IfErr};
-ghost use Rattle.std.specs.Prelude.{IfOk, OnOk, get_or};
+ghost use Rattle.std.specs.Prelude.{IfOk, List, OnOk, get_or};
 ghost use Rattle.plain_graph.specs.Forms.{IsShown};
 ghost use Rattle.plain_graph.specs.Graph.{Graph};
 ghost use Rattle.plain_graph.specs.Lines.{index_of_source};
@@ -59,7 +59,16 @@ ghost use Rattle.traversal_run.specs.Source.{is_over, left_of};
 ghost use Rattle.traversal_run.specs.Stage.{with_more};
 ghost use Rattle.traversal_run.specs.Starting.{limit_of};
 ghost use Rattle.traversal_run.specs.Stop.{HasStopCause, MayStop, StopsAtBroken};
+ghost use Rattle.traversal_run.specs.Owing.{
+  Spends,
+  SpendsIf,
+  owed,
+  query_reads,
+  rows_owe,
+  steps_owe,
+};
 ghost use Rattle.store_rules.specs.Breaking.{Breaks};
+ghost use Rattle.store_rules.specs.Views.{Records};
 
 use crate::feeding::{FilteredCount, count_passing, feed, filtered_count};
 use crate::row::{Row, first_open, have_no_count, is_fed, last_waiting, put};
@@ -134,6 +143,11 @@ fn advance_row<R: Reads>(
     ensures allowed { OnOk result ((over : Bool)
         → allowed_by over (stages_of rows.new) (length ready.new)
         ≡ allowed_by over (stages_of rows.old) 0) }
+    ensures owes { R.tells
+        → IsNamedStore (R.state space.old).records (R.state space.old).shape names.now.names
+        → (coming : List Item) → SpendsIf result (R.state space.old) (R.state space.new)
+        (steps_owe (R.state space.old).records rows.old coming)
+        (steps_owe (R.state space.old).records rows.new coming) }
     ensures read { IsRead R.Reads space.old space.new }
     ensures cause { HasStopCause (R.faults space.old) (R.faults space.new) result }
 {
@@ -178,6 +192,11 @@ fn feed_step<R: Reads>(
     ensures hop { (alone : IsHopAlone rows.old) → source.old.edges ≡ false
         → FeedsHop R.Reads names.now.names alone.row.stage space.old space.new
         source.old source.new × OnOk result (IsHopAlone rows.new) }
+    ensures owes { R.tells
+        → IsNamedStore (R.state space.old).records (R.state space.old).shape names.now.names
+        → SpendsIf result (R.state space.old) (R.state space.new)
+        (rows_owe (R.state space.old).records source.old rows.old)
+        (rows_owe (R.state space.old).records source.new rows.new) }
     ensures read { IsRead R.Reads space.old space.new }
     ensures cause { HasStopCause (R.faults space.old) (R.faults space.new) result }
 {
@@ -216,6 +235,11 @@ fn feed_count<R: Reads>(
         ≡ true)) }
     ensures damaged { R.tells → IfErr result
         (StopsAtBroken (R.state space.old).records (R.state space.old).shape) }
+    ensures owes { R.tells
+        → IsNamedStore (R.state space.old).records (R.state space.old).shape names.now.names
+        → SpendsIf result (R.state space.old) (R.state space.new)
+        (rows_owe (R.state space.old).records source.old rows.old)
+        (rows_owe (R.state space.old).records source.new rows.new) }
     ensures read { IsRead R.Reads space.old space.new }
     ensures cause { HasStopCause (R.faults space.old) (R.faults space.new) result }
 {
@@ -267,6 +291,11 @@ fn feed_rows<R: Reads>(
     ensures hop { (alone : IsHopAlone rows.old) → source.old.edges ≡ false
         → FeedsHop R.Reads names.now.names alone.row.stage space.old space.new
         source.old source.new × OnOk result (IsHopAlone rows.new) }
+    ensures owes { R.tells
+        → IsNamedStore (R.state space.old).records (R.state space.old).shape names.now.names
+        → SpendsIf result (R.state space.old) (R.state space.new)
+        (rows_owe (R.state space.old).records source.old rows.old)
+        (rows_owe (R.state space.old).records source.new rows.new) }
     ensures read { IsRead R.Reads space.old space.new }
     ensures cause { HasStopCause (R.faults space.old) (R.faults space.new) result }
 {
@@ -296,6 +325,8 @@ fn finish_row(
     ensures allowed { OnOk result ((over : Bool)
         → allowed_by over (stages_of rows.new) (length ready.new)
         ≡ allowed_by over (stages_of rows.old) 0) }
+    ensures owes { OnOk result ((records : Records)
+        → steps_owe records rows.new [] ≡ steps_owe records rows.old []) }
 {
     let outs = rows[at].stage.finish(alloc)?;
     put(rows, ready, at + 1, outs);
@@ -346,6 +377,12 @@ impl Run {
         ensures cost { R.tells
             → IsNamedStore (R.state space.old).records (R.state space.old).shape names.now.names
             → ReadsToBegin query.now.source (R.state space.old) (R.state space.new) }
+        // It may read no more than its query says: one record for each identifier that it comes
+        // to, and for each item what each step reads that the item comes to.
+        ensures owes { R.tells
+            → IsNamedStore (R.state space.old).records (R.state space.old).shape names.now.names
+            → IfOk result (λ run. owed (R.state space.old).records run
+            ≤ query_reads (R.state space.old).records query.now) }
         ensures read { IsRead R.Reads space.old space.new }
         ensures cause { HasLookupCause (R.faults space.old) (R.faults space.new) result }
         ensures allowed { IfOk result (λ run. (most : ℕ)
@@ -412,6 +449,7 @@ impl Run {
         ensures either { (self.new ≡ self.old)
             ⊎ ((self.new.rows.items ≡ drop (at + 1) self.old.rows.items)
             × (is_over self.new.source.left ≡ true) × (self.new.ready ≡ self.old.ready)) }
+        ensures owes { (records : Records) → owed records self.new ≤ owed records self.old }
         ensures stopped { self.new.stopped ≡ self.old.stopped }
     {
         if self.rows[at].stage.is_spent() && have_no_count(&self.rows[..at]) {
@@ -450,6 +488,11 @@ impl Run {
             → FeedsHop R.Reads names.now.names alone.row.stage space.old space.new
             self.old.source self.new.source × OnOk result (IsHopAlone self.new.rows.items) }
         ensures stopped { self.new.stopped ≡ self.old.stopped }
+        ensures owes { R.tells
+            → IsNamedStore (R.state space.old).records (R.state space.old).shape names.now.names
+            → SpendsIf result (R.state space.old) (R.state space.new)
+            (owed (R.state space.old).records self.old)
+            (owed (R.state space.old).records self.new) }
         ensures read { IsRead R.Reads space.old space.new }
         ensures cause { HasStopCause (R.faults space.old) (R.faults space.new) result }
     {
@@ -538,6 +581,11 @@ impl Run {
         ensures no_read { still_allowed self.old ≡ Some 0
             → (result ≡ Err Stop.End) × (space.new ≡ space.old) }
         ensures stopped { self.new.stopped ≡ self.old.stopped }
+        ensures owes { R.tells
+            → IsNamedStore (R.state space.old).records (R.state space.old).shape names.now.names
+            → SpendsIf result (R.state space.old) (R.state space.new)
+            (owed (R.state space.old).records self.old)
+            (owed (R.state space.old).records self.new) }
         ensures read { IsRead R.Reads space.old space.new }
         ensures cause { HasStopCause (R.faults space.old) (R.faults space.new) result }
     {
@@ -558,6 +606,7 @@ impl Run {
         ensures answer { result ≡ answer_of stop }
         ensures stopped { self.new.stopped ≡ Some stop }
         ensures nothing { (graph : Graph) → to_come graph self.new ≡ stream [] }
+        ensures owes { (records : Records) → owed records self.new ≡ 0 }
         ensures within { (d most : ℕ) → IsWithin d most self.new }
     {
         self.source.end();
@@ -622,6 +671,13 @@ impl Run {
             (R.state space.old) (R.state space.new)) × IfItem result (λ _. IsReady self.new) }
         ensures ready { IsReady self.old
             → (space.new ≡ space.old) × IfItem result (λ _. IsReady self.new) }
+
+        // What it reads comes off what may still be read, whatever is answered.
+        ensures owes { R.tells
+            → IsNamedStore (R.state space.old).records (R.state space.old).shape names.now.names
+            → Spends (R.state space.old) (R.state space.new)
+            (owed (R.state space.old).records self.old)
+            (owed (R.state space.old).records self.new) }
 
         ensures read { IsRead R.Reads space.old space.new }
     {

@@ -1,5 +1,5 @@
-ghost use Rattle.std.specs.Prelude.{◌≡◌, ◌<◌, ◌+◌, ◌∷◌, ℕ, [], IfErr, IfNone, IfOk, IfSome, None};
-ghost use Rattle.std.specs.Prelude.{false, nat_eq, true};
+ghost use Rattle.std.specs.Prelude.{◌≡◌, ◌<◌, ◌≤◌, ◌+◌, ◌∷◌, ℕ, [], IfErr, IfNone, IfOk, IfSome, None};
+ghost use Rattle.std.specs.Prelude.{false, length, nat_eq, true};
 ghost use Rattle.std.specs.List.{list_any};
 ghost use Rattle.plain_graph.specs.Graph.{Graph};
 ghost use Rattle.plain_graph.specs.Lines.{index_of_source};
@@ -16,10 +16,12 @@ ghost use Rattle.traversal_run.specs.Reading.{IsNamedStore, IsRead};
 ghost use Rattle.traversal_run.specs.Scan.{TakesVertex, vertices_from};
 ghost use Rattle.traversal_run.specs.Feeding.{Counts};
 ghost use Rattle.traversal_run.specs.Finding.{element_mark};
+ghost use Rattle.traversal_run.specs.Owing.{SpendsIf, asked_reads, source_owes};
 ghost use Rattle.traversal_run.specs.Source.{
   GivesFirst,
   HasNoneBelow,
   TakesId,
+  asked_count,
   is_left,
   is_over,
   left_count,
@@ -54,6 +56,8 @@ impl Left {
         ensures asked { IfOk result (λ left. (id : ℕ) → is_left left id ≡ is_asked ids.now id) }
         ensures from { ids.now ≡ [] → IfOk result (λ left. left ≡ Left.From 0) }
         ensures over { IfOk result (λ left. is_over left ≡ false) }
+        ensures few { IfOk result (λ left. (mark : ℕ)
+            → left_count mark left ≤ asked_count mark ids.now) }
         ensures memory { IfErr result (λ fault. fault ≡ Fault.Memory) }
     {
         if ids.is_empty() {
@@ -67,6 +71,7 @@ impl Left {
         ensures among { IfOk result (λ left. (id : ℕ)
             → is_left left id ≡ list_any (nat_eq id) ids.now) }
         ensures over { IfOk result (λ left. is_over left ≡ false) }
+        ensures few { IfOk result (λ left. (mark : ℕ) → left_count mark left ≤ length ids.now) }
         ensures memory { IfErr result (λ fault. fault ≡ Fault.Memory) }
     {
         let ids = AskedIds::new(alloc, ids)?;
@@ -140,6 +145,10 @@ impl Source {
         ensures cost { R.tells
             → IsNamedStore (R.state space.old).records (R.state space.old).shape names.now.names
             → ReadsToBegin asked.now (R.state space.old) (R.state space.new) }
+        ensures owes { R.tells
+            → IsNamedStore (R.state space.old).records (R.state space.old).shape names.now.names
+            → IfOk result (λ source. source_owes (R.state space.old).records source
+            ≤ asked_reads (R.state space.old).records asked.now) }
         ensures read { IsRead R.Reads space.old space.new }
         ensures cause { looking.HasLookupCause
             (R.faults space.old) (R.faults space.new) result }
@@ -193,6 +202,9 @@ impl Source {
         ensures over { is_over self.new.left ≡ is_over self.old.left }
         ensures none { is_over self.old.left ≡ true → IfOk result (λ item. item ≡ None) }
         ensures unread { is_over self.old.left ≡ true → space.new ≡ space.old }
+        ensures owes { SpendsIf result (R.state space.old) (R.state space.new)
+            (source_owes (R.state space.old).records self.old)
+            (source_owes (R.state space.old).records self.new) }
         ensures read { IsRead R.Reads space.old space.new }
         ensures cause { HasFaultCause (R.faults space.old) (R.faults space.new) result }
     {
@@ -216,6 +228,9 @@ impl Source {
             (graph_of (R.state space.old).records) self.old so_far.old fits self.new so_far.new) }
         ensures damaged { R.tells → IfErr result
             (BlamesBroken (R.state space.old).records (R.state space.old).shape) }
+        ensures owes { SpendsIf result (R.state space.old) (R.state space.new)
+            (source_owes (R.state space.old).records self.old)
+            (source_owes (R.state space.old).records self.new) }
         ensures read { IsRead R.Reads space.old space.new }
         ensures cause { HasFaultCause (R.faults space.old) (R.faults space.new) result }
     {

@@ -9,8 +9,10 @@ ghost use Rattle.prop_store.specs.Fault.{BlamesBroken};
 ghost use Rattle.traversal_run.specs.Elements.{IsRowOf};
 ghost use Rattle.traversal_run.specs.Feeding.{filter_stage, is_filter};
 ghost use Rattle.traversal_run.specs.Held.{is_hop, is_plain};
-ghost use Rattle.traversal_run.specs.HopRun.{StageReads};
 ghost use Rattle.traversal_run.specs.Reading.{IsNamedStore, IsRead};
+ghost use Rattle.traversal_run.specs.Owing.{stage_reads};
+ghost use Rattle.prop_store.specs.Reading.{ReadsAtMost};
+ghost use Rattle.store_rules.specs.Views.{Records};
 ghost use Rattle.traversal_run.specs.Stage.{
   Finishes,
   Takes,
@@ -84,13 +86,16 @@ impl Stage {
         ensures counts { is_count self.new ≡ is_count self.old }
         ensures hops { is_hop self.new ≡ is_hop self.old }
         ensures plain { is_plain self.new ≡ is_plain self.old }
+        ensures asks { (records : Records) (other : Item)
+            → stage_reads records self.new other ≡ stage_reads records self.old other }
         // A limit reads nothing.
         ensures limit { (most : ℕ) → self.old ≡ Stage.Limit most → IfOk result (λ outs.
             (outs ≡ take most (item ∷ [])) × (self.new ≡ Stage.Limit (most - 1))
             × (space.new ≡ space.old)) }
         ensures reads { R.tells
             → IsNamedStore (R.state space.old).records (R.state space.old).shape names.now.names
-            → StageReads self.old item (R.state space.old) (R.state space.new) }
+            → ReadsAtMost (stage_reads (R.state space.old).records self.old item)
+            (R.state space.old) (R.state space.new) }
         ensures read { IsRead R.Reads space.old space.new }
         ensures cause { HasFaultCause (R.faults space.old) (R.faults space.new) result }
     {

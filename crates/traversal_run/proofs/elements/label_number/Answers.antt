@@ -5,6 +5,9 @@ use Rattle.traversal_run.proofs.Broken.{node_blamed, node_unnamed}
 use Rattle.traversal_run.proofs.Loaded.{no_node_label, node_label-is}
 use Rattle.traversal_run.proofs.Causes.{row_cause_passed}
 use Rattle.rec_bytes.proofs.Causes.{never_ok, ok_cause}
+use Rattle.prop_store.proofs.ReadCounts.{reads_more}
+use Rattle.traversal_run.specs.Elements.{owner_reads}
+use Rattle.traversal_run.proofs.NodeReads.{owner_few}
 use Rattle.traversal_run.proofs.elements.label_number.Goals as goal
 
 pub returns-in_err-row-clause-damaged : goal.returns-in_err-row-clause-damaged
@@ -45,3 +48,19 @@ returns-in_default-clause-cause g c = ok_cause _ _ _ _ c.in_ok-row.ensures.cause
 
 pub returns-clause-cause : goal.returns-clause-cause
 returns-clause-cause g c = ok_cause _ _ _ _ c.in_ok-row.ensures.cause.later
+
+pub returns-in_err-row-clause-at_most : goal.returns-in_err-row-clause-at_most
+returns-in_err-row-clause-at_most g c = reads_more (owner_reads c.args.row.now) 1 (g.R.Reads.state c.args.space.now) (g.R.Reads.state c.row_of.new.space)
+    (owner_few c.args.row.now) c.in_err-row.ensures.reads
+
+pub returns-in_default-clause-at_most : goal.returns-in_default-clause-at_most
+returns-in_default-clause-at_most g c = reads_more (owner_reads c.args.row.now) 1 (g.R.Reads.state c.args.space.now) (g.R.Reads.state c.row_of.new.space)
+    (owner_few c.args.row.now) c.in_ok-row.ensures.reads
+
+pub returns-then-row-mark-clause-at_most : goal.returns-then-row-mark-clause-at_most
+returns-then-row-mark-clause-at_most g c = reads_more (owner_reads c.args.row.now) 1 (g.R.Reads.state c.args.space.now) (g.R.Reads.state c.row_of.new.space)
+    (owner_few c.args.row.now) c.in_ok-row.ensures.reads
+
+pub returns-clause-at_most : goal.returns-clause-at_most
+returns-clause-at_most g c = reads_more (owner_reads c.args.row.now) 1 (g.R.Reads.state c.args.space.now) (g.R.Reads.state c.row_of.new.space)
+    (owner_few c.args.row.now) c.in_ok-row.ensures.reads

@@ -11,13 +11,16 @@ use Rattle.prop_store.proofs.Causes.{cause_after}
 use Rattle.rec_bytes.specs.Space.{State}
 use Rattle.rec_bytes.proofs.Causes.{never_ok, ok_cause}
 use Rattle.store_rules.specs.Graph.{graph_of}
-use Rattle.traversal_run.specs.Elements.{IsOwnerOf}
+use Rattle.traversal_run.specs.Elements.{IsOwnerOf, owner_reads}
 use Rattle.traversal_run.specs.Naming.{FindsName, name_count}
 use Rattle.traversal_run.specs.declared.elements.Owned.{Owned}
 use Rattle.traversal_run.proofs.Broken.{blamed_before}
 use Rattle.traversal_run.proofs.Causes.{cause_passed}
 use Rattle.traversal_run.proofs.Loaded.{no_name_no_value}
 use Rattle.traversal_run.proofs.Owned.{first_in, listed_in, then_read, value_is}
+use Rattle.prop_store.proofs.ReadCounts.{reads_more, reads_none, reads_then}
+use Rattle.traversal_run.specs.Owing.{key_reads}
+use Rattle.traversal_run.proofs.NodeReads.{owner_few}
 use Rattle.traversal_run.proofs.elements.numbered_value.Goals as goal
 
 pub returns-in_default-clause-found : goal.returns-in_default-clause-found
@@ -88,3 +91,22 @@ returns-in_default-2-clause-cause g c = ok_cause _ _ _ _ c.in_ok-owned.ensures.c
 
 pub returns-clause-cause : goal.returns-clause-cause
 returns-clause-cause g c = cause_after _ _ _ c.read_key_from.result c.in_ok-owned.ensures.cause.later c.read_key_from.ensures.cause
+
+pub returns-in_default-clause-at_most : goal.returns-in_default-clause-at_most
+returns-in_default-clause-at_most g c = reads_none key_reads (g.R.Reads.state c.args.space.now)
+
+pub returns-in_default-2-clause-at_most : goal.returns-in_default-2-clause-at_most
+returns-in_default-2-clause-at_most g c =
+    reads_more (owner_reads c.args.row.now) key_reads (g.R.Reads.state c.args.space.now) (g.R.Reads.state c.owner_of.new.space)
+    (let few = owner_few c.args.row.now in omega (arith, few)) c.in_ok-owned.ensures.reads
+
+pub returns-in_err-owned-clause-at_most : goal.returns-in_err-owned-clause-at_most
+returns-in_err-owned-clause-at_most g c =
+    reads_more (owner_reads c.args.row.now) key_reads (g.R.Reads.state c.args.space.now) (g.R.Reads.state c.owner_of.new.space)
+    (let few = owner_few c.args.row.now in omega (arith, few)) c.in_err-owned.ensures.reads
+
+pub returns-clause-at_most : goal.returns-clause-at_most
+returns-clause-at_most g c =
+    let few = owner_few c.args.row.now in
+    reads_then (owner_reads c.args.row.now) 54 key_reads (g.R.Reads.state c.args.space.now) (g.R.Reads.state c.owner_of.new.space)
+    (g.R.Reads.state c.read_key_from.new.space) (omega (arith, few)) c.in_ok-owned.ensures.reads c.read_key_from.ensures.at_most

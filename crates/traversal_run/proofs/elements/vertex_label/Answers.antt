@@ -25,3 +25,12 @@ returns-in_err-number-clause-found g c _ _ = never_ok c.from_residual.result _ _
 
 pub returns-in_err-number-clause-short : goal.returns-in_err-number-clause-short
 returns-in_err-number-clause-short g c = never_ok c.from_residual.result _ _ c.from_residual.ensures.1
+
+pub returns-in-Some-clause-at_most : goal.returns-in-Some-clause-at_most
+returns-in-Some-clause-at_most g c = c.in_ok-number.ensures.at_most
+
+pub returns-in-None-clause-at_most : goal.returns-in-None-clause-at_most
+returns-in-None-clause-at_most g c = c.in_ok-number.ensures.at_most
+
+pub returns-in_err-number-clause-at_most : goal.returns-in_err-number-clause-at_most
+returns-in_err-number-clause-at_most g c = c.in_err-number.ensures.at_most

@@ -2,20 +2,25 @@ use Rattle.std.proofs.Common.{All, ap, false, refl, subst, sym, ◌∙◌}
 use Rattle.std.proofs.lemmas.Result.{err_from_is_err_and}
 use Rattle.plain_graph.specs.Meaning.{is_some_and}
 use Rattle.prop_store.specs.Fault.{BlamesBroken}
+use Rattle.prop_store.specs.Reading.{ReadsAtMost}
 use Rattle.rec_bytes.specs.Space.{State}
 use Rattle.rec_bytes.proofs.Causes.{never_ok}
 use Rattle.store_rules.specs.Graph.{graph_of}
 use Rattle.store_rules.specs.Rules.{IsWellFormed}
 use Rattle.traversal_run.specs.Finding.{element_at, element_mark}
 use Rattle.traversal_run.specs.NumberedFilter.{IsNumbered, passes_numbered}
+use Rattle.traversal_run.specs.Owing.{vertex_reads}
 use Rattle.traversal_run.specs.Source.{HasNoneBelow, left_of}
 use Rattle.traversal_run.specs.declared.source.Source.{Source}
 use Rattle.traversal_run.proofs.Causes.{cause_passed}
 use Rattle.traversal_run.proofs.Fed.{ended}
+use Rattle.traversal_run.proofs.FedReads.{taken_pays}
+use Rattle.traversal_run.proofs.FilterReads.{spends_vertex}
 use Rattle.traversal_run.proofs.FilteredCounts.{count_end, count_on, count_over}
 use Rattle.traversal_run.proofs.LeftRows.{left-none, left-takes}
 use Rattle.traversal_run.proofs.OnlyReads.{is_read-on}
 use Rattle.traversal_run.proofs.feeding.count_numbered.Goals as goal
+use Rattle.traversal_run.proofs.Spending.{spends_less, spends_on}
 
 pub returns-then-not-add-clause-counts : goal.returns-then-not-add-clause-counts
 returns-then-not-add-clause-counts g c = λ tells store numbered.
@@ -37,7 +42,8 @@ returns-then-not-add-clause-counts g c = λ tells store numbered.
 
 pub loop-id-preserved : goal.loop-id-preserved
 loop-id-preserved g c =
-    let s = g.R.Reads.state c.args.space.now in
+    let space = g.R.Reads in
+    let s = space.state c.args.space.now in
     let graph = graph_of s.records in
     let inv = c.loop-id.invariant in
     let now = c.loop-id.source in
@@ -54,6 +60,17 @@ loop-id-preserved g c =
           c.in_ok-passed.passed c.args.so_far.now c.loop-id.so_far c.from.result
           (inv.counted tells store numbered) (left-takes s.records now.edges now.left c.take_first.new.self c.in-Some.id c.in-Some.ensures.some) is
           c.from.ensures c.add.new.self (c.add.ensures.counted c.if-not-add.false);
+      owes = λ tells store numbered.
+          let same = inv.read.same in
+          let reads = subst (λ (t : State). ReadsAtMost (vertex_reads t.records c.args.filters.now c.in-Some.id) (space.state c.loop-id.space)
+          (space.state c.vertex_passes.new.space)) same
+          (c.vertex_passes.ensures.reads tells (subst (λ (t : State). IsWellFormed t.records t.shape) (sym same) store)
+          (subst (λ (t : State). All (IsNumbered t.records) c.args.filters.now) (sym same) numbered)) in
+          let spends = spends_on s (space.state c.loop-id.space) (space.state c.vertex_passes.new.space) _ _ _ (inv.owes tells store numbered)
+          (spends_vertex s.records c.args.filters.now now c.take_first.new.self c.in-Some.id (inv.edges ∙ c.requires) c.in-Some.ensures.some
+          (taken_pays s.records now c.take_first.new.self c.mark-mark.result (inv.mark ∙ ap (element_mark s.records) (sym inv.edges)) c.in-Some.ensures.fewer)
+          (space.state c.loop-id.space) (space.state c.vertex_passes.new.space) reads) in
+          spends;
       edges = inv.edges;
       mark = inv.mark;
       read = is_read-on g.R.Reads g.met.R.Reads.further_onward c.args.space.now c.loop-id.space c.vertex_passes.new.space inv.read c.in_ok-passed.ensures.read;
@@ -69,6 +86,44 @@ returns-clause-counts g c = λ tells store numbered.
     count_end (passes_numbered graph c.args.filters.now) (left_of graph c.args.source.now) (left_of graph now) c.args.so_far.now c.loop-id.so_far
     (inv.counted tells store numbered)
     (left-none s.records now.edges now.left (subst (λ n. HasNoneBelow n now.left) mark c.in_default.ensures.none.0))
+
+pub returns-then-not-add-clause-owes : goal.returns-then-not-add-clause-owes
+returns-then-not-add-clause-owes g c = λ tells store numbered.
+    let space = g.R.Reads in
+    let s = space.state c.args.space.now in
+    let inv = c.loop-id.invariant in
+    let now = c.loop-id.source in
+    let same = inv.read.same in
+    let reads = subst (λ (t : State). ReadsAtMost (vertex_reads t.records c.args.filters.now c.in-Some.id) (space.state c.loop-id.space)
+    (space.state c.vertex_passes.new.space)) same
+    (c.vertex_passes.ensures.reads tells (subst (λ (t : State). IsWellFormed t.records t.shape) (sym same) store)
+    (subst (λ (t : State). All (IsNumbered t.records) c.args.filters.now) (sym same) numbered)) in
+    let spends = spends_on s (space.state c.loop-id.space) (space.state c.vertex_passes.new.space) _ _ _ (inv.owes tells store numbered)
+    (spends_vertex s.records c.args.filters.now now c.take_first.new.self c.in-Some.id (inv.edges ∙ c.requires) c.in-Some.ensures.some
+    (taken_pays s.records now c.take_first.new.self c.mark-mark.result (inv.mark ∙ ap (element_mark s.records) (sym inv.edges)) c.in-Some.ensures.fewer)
+    (space.state c.loop-id.space) (space.state c.vertex_passes.new.space) reads) in
+    spends_less s (space.state c.vertex_passes.new.space) _ _ spends
+
+pub returns-in_err-passed-clause-owes : goal.returns-in_err-passed-clause-owes
+returns-in_err-passed-clause-owes g c = λ tells store numbered.
+    let space = g.R.Reads in
+    let s = space.state c.args.space.now in
+    let inv = c.loop-id.invariant in
+    let now = c.loop-id.source in
+    let same = inv.read.same in
+    let reads = subst (λ (t : State). ReadsAtMost (vertex_reads t.records c.args.filters.now c.in-Some.id) (space.state c.loop-id.space)
+    (space.state c.vertex_passes.new.space)) same
+    (c.vertex_passes.ensures.reads tells (subst (λ (t : State). IsWellFormed t.records t.shape) (sym same) store)
+    (subst (λ (t : State). All (IsNumbered t.records) c.args.filters.now) (sym same) numbered)) in
+    let spends = spends_on s (space.state c.loop-id.space) (space.state c.vertex_passes.new.space) _ _ _ (inv.owes tells store numbered)
+    (spends_vertex s.records c.args.filters.now now c.take_first.new.self c.in-Some.id (inv.edges ∙ c.requires) c.in-Some.ensures.some
+    (taken_pays s.records now c.take_first.new.self c.mark-mark.result (inv.mark ∙ ap (element_mark s.records) (sym inv.edges)) c.in-Some.ensures.fewer)
+    (space.state c.loop-id.space) (space.state c.vertex_passes.new.space) reads) in
+    spends_less s (space.state c.vertex_passes.new.space) _ _ spends
+
+pub returns-clause-owes : goal.returns-clause-owes
+returns-clause-owes g c = λ tells store numbered.
+    spends_less (g.R.Reads.state c.args.space.now) (g.R.Reads.state c.loop-id.space) _ _ (c.loop-id.invariant.owes tells store numbered)
 
 pub returns-clause-over : goal.returns-clause-over
 returns-clause-over g c = λ graph. ended graph c.loop-id.source c.end-2.new.self c.end-2.ensures

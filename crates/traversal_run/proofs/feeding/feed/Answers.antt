@@ -1,14 +1,17 @@
-use Rattle.std.proofs.Common.{◌≡◌, rules, ap, subst, ◌∙◌, arith}
+use Rattle.std.proofs.Common.{◌≡◌, rules, true, ap, subst, ◌∙◌, arith}
 use Rattle.store_rules.specs.Graph.{graph_of}
 use Rattle.traversal_run.specs.Feeding.{Feeds}
 use Rattle.traversal_run.specs.Held.{IsBatch, is_hop, is_plain}
 use Rattle.traversal_run.specs.HopRun.{FeedsHop}
+use Rattle.traversal_run.specs.Owing.{Spends, feed_owes, stage_reads}
 use Rattle.traversal_run.specs.Stage.{is_count, limit_left}
 use Rattle.traversal_run.specs.declared.stage.Stage.{Stage}
 use Rattle.traversal_run.proofs.Causes.{fault_stop_cause, fault_stop_has, fault_stops}
-use Rattle.traversal_run.proofs.feeding.feed.Goals.{in-Mapped+in-Neighbours-1, in-Dedup-1}
+use Rattle.traversal_run.proofs.FedReads.{spends_count, spends_source}
+use Rattle.traversal_run.proofs.feeding.feed.Goals.{in-Mapped+in-Neighbours-1, in-Dedup-1, then-fits, else-fits}
 use Rattle.rec_bytes.proofs.Causes.{never_ok}
 use Rattle.traversal_run.proofs.feeding.feed.Goals as goal
+use Rattle.traversal_run.proofs.Spending.{spends_err}
 
 pub returns : goal.returns
 returns g c =
@@ -29,6 +32,10 @@ returns g c =
       few = λ tells store d degrees plain. subst (λ hop. IsBatch d hop outs) (ap is_hop stays) (fed.few tells store d degrees (ap is_plain stays ∙ plain));
       hop = λ vertices hop. subst (λ (stage : Stage). FeedsHop g.R.Reads c.args.names.now.names stage c.args.space.now c.feed_vertices.new.space
           c.args.source.now c.feed_vertices.new.source) stays fed.hop;
+      asks = λ records item. fed.asks records item ∙ ap (λ (stage : Stage). stage_reads records stage item) stays;
+      owes = λ tells store. subst (λ (stage : Stage). Spends (g.R.Reads.state c.args.space.now) (g.R.Reads.state c.feed_vertices.new.space)
+          (feed_owes (g.R.Reads.state c.args.space.now).records c.args.source.now stage)
+          (feed_owes (g.R.Reads.state c.args.space.now).records c.feed_vertices.new.source c.feed_vertices.new.stage)) stays (fed.owes tells store);
       read = fed.read;
       cause = search rules;
     }
@@ -140,3 +147,36 @@ returns-in_err-outs-3-clause-hop g c = λ vertices hop.
     [ in-Mapped+in-Neighbours-1 w ↦ search rules | in-Dedup-1 w ↦ w.stage-is ] in
     subst (λ (stage : Stage). FeedsHop g.R.Reads c.args.names.now.names stage c.args.space.now c.feed_vertices.new.space c.args.source.now
     c.feed_vertices.new.source) stays c.in_err-outs-3.ensures.hop
+
+pub returns-in_err-fits-clause-owes : goal.returns-in_err-fits-clause-owes
+returns-in_err-fits-clause-owes g c = λ tells store.
+    let s = g.R.Reads.state c.args.space.now in
+    spends_err c.from_residual.result _ s (g.R.Reads.state c.count.new.space) _ 0 _ c.from_residual.ensures.1
+    (spends_source s.records (stage_reads s.records c.args.stage.now) c.args.source.now s (g.R.Reads.state c.count.new.space) 0 c.in_err-fits.ensures.owes)
+
+pub returns-in_err-outs-clause-owes : goal.returns-in_err-outs-clause-owes
+returns-in_err-outs-clause-owes g c = λ tells store.
+    spends_err c.from_residual-in_err-outs.result _ (g.R.Reads.state c.args.space.now) (g.R.Reads.state c.feed_edges.new.space) _ 0 _
+    c.from_residual-in_err-outs.ensures.1 (c.in_err-outs.ensures.owes tells store)
+
+pub returns-in_err-outs-3-clause-asks : goal.returns-in_err-outs-3-clause-asks
+returns-in_err-outs-3-clause-asks g c = λ records item.
+    let stays : c.match-stage-2.stage ≡ c.args.stage.now = elim c.match-stage-2.branch
+    [ in-Mapped+in-Neighbours-1 w ↦ search rules | in-Dedup-1 w ↦ w.stage-is ] in
+    c.in_err-outs-3.ensures.asks records item ∙ ap (λ (stage : Stage). stage_reads records stage item) stays
+
+pub returns-in_err-outs-3-clause-owes : goal.returns-in_err-outs-3-clause-owes
+returns-in_err-outs-3-clause-owes g c = λ tells store.
+    let s = g.R.Reads.state c.args.space.now in
+    let t = g.R.Reads.state c.feed_vertices.new.space in
+    let stays : c.match-stage-2.stage ≡ c.args.stage.now = elim c.match-stage-2.branch
+    [ in-Mapped+in-Neighbours-1 w ↦ search rules | in-Dedup-1 w ↦ w.stage-is ] in
+    spends_err c.from_residual-in_err-outs-3.result _ s t _ 0 _ c.from_residual-in_err-outs-3.ensures.1
+    (subst (λ (stage : Stage). Spends s t (feed_owes s.records c.args.source.now stage) 0) stays (c.in_err-outs-3.ensures.owes tells store))
+
+pub returns-then-given-clause-owes : goal.returns-then-given-clause-owes
+returns-then-given-clause-owes g c = λ tells store.
+    let s = g.R.Reads.state c.args.space.now in
+    let counts : is_count c.if-fits.stage ≡ true = elim c.if-fits.branch [ then-fits w ↦ ap is_count w.stage-is | else-fits w ↦ ap is_count w.stage-is ] in
+    spends_count s.records c.args.source.now c.count.new.self c.args.stage.now c.if-fits.stage s (g.R.Reads.state c.count.new.space)
+    (ap is_count c.in-Count.is) counts c.in_ok-fits.ensures.owes

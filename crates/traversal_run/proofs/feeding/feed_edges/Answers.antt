@@ -3,10 +3,12 @@ use Rattle.plain_graph.specs.declared.item.Item.{Item}
 use Rattle.rec_bytes.specs.Space.{State}
 use Rattle.store_rules.specs.Graph.{graph_of}
 use Rattle.traversal_run.specs.Finding.{element_mark}
+use Rattle.traversal_run.specs.Owing.{Spends, source_owes, stage_reads}
 use Rattle.traversal_run.specs.Source.{GivesFirst, left_of}
 use Rattle.traversal_run.specs.Held.{IsBatch}
 use Rattle.traversal_run.specs.Stage.{Takes}
 use Rattle.traversal_run.proofs.Fed.{feeds_end, feeds_more, feeds_on, limit_stays, none_left}
+use Rattle.traversal_run.proofs.FedReads.{spends_end, spends_next, spends_source, spends_stage}
 use Rattle.traversal_run.proofs.HeldSteps.{few_at, takes_batch}
 use Rattle.traversal_run.proofs.OnlyReads.{is_read-on, named-read}
 use Rattle.traversal_run.proofs.Causes.{cause_passed, later_on}
@@ -14,6 +16,7 @@ use Rattle.std.proofs.lemmas.Result.{err_from_is_err_and}
 use Rattle.prop_store.specs.Fault.{BlamesBroken}
 use Rattle.rec_bytes.proofs.Causes.{never_ok}
 use Rattle.traversal_run.proofs.feeding.feed_edges.Goals as goal
+use Rattle.traversal_run.proofs.Spending.{spends_err, spends_less, spends_on}
 
 pub next-requires : goal.next-requires
 next-requires g c =
@@ -49,7 +52,8 @@ returns-then-not-is_empty-clause-feeds g c = λ tells store.
 pub loop-preserved : goal.loop-preserved
 loop-preserved g c =
     let space = g.R.Reads in
-    let graph = graph_of (space.state c.args.space.now).records in
+    let s = space.state c.args.space.now in
+    let graph = graph_of s.records in
     let inv = c.loop.invariant in
     let read = is_read-on space g.met.R.Reads.further_onward c.args.space.now c.loop.space c.next.new.space inv.read c.in_ok-item.ensures.read in
     let nothing = c.is_empty.ensures.yes c.if-not-is_empty.false in
@@ -68,6 +72,21 @@ loop-preserved g c =
       counts = c.take.ensures.counts ∙ inv.counts;
       hops = c.take.ensures.hops ∙ inv.hops;
       plain = c.take.ensures.plain ∙ inv.plain;
+      asks = λ records other. c.take.ensures.asks records other ∙ inv.asks records other;
+      owes = λ tells store.
+          let item = c.in-Some.item in
+          let first = subst (λ (t : State). GivesFirst (graph_of t.records) c.loop.source c.in_ok-item.field-0 c.next.new.self) inv.read.same
+          (c.in_ok-item.ensures.first tells (named-read space c.args.space.now c.loop.space c.args.names.now.names inv.read store)) in
+          let gives : left_of (graph_of s.records) c.loop.source ≡ item ∷ left_of (graph_of s.records) c.next.new.self
+          = subst (λ (o : Option Item). GivesFirst (graph_of s.records) c.loop.source o c.next.new.self) c.in-Some.is first in
+          let paid = subst (λ (t : State). Spends (space.state c.loop.space) (space.state c.next.new.space) (source_owes t.records c.loop.source)
+          (source_owes t.records c.next.new.self)) inv.read.same c.in_ok-item.ensures.owes in
+          let asks = ap (λ (t : State). stage_reads t.records c.loop.stage item) read.same ∙ inv.asks s.records item in
+          let costs = c.take.ensures.reads tells (named-read space c.args.space.now c.next.new.space c.args.names.now.names read store) in
+          let spends = spends_on s (space.state c.loop.space) (space.state c.take.new.space) _ _ _ (inv.owes tells store)
+          (spends_next s.records (stage_reads s.records c.args.stage.now) c.loop.source (space.state c.loop.space) (space.state c.next.new.space)
+          c.next.new.self (space.state c.take.new.space) item (stage_reads (space.state c.next.new.space).records c.loop.stage item) asks paid costs gives) in
+          spends;
       edges = c.next.ensures.edges ∙ inv.edges;
       read = is_read-on space g.met.R.Reads.further_onward c.args.space.now c.next.new.space c.take.new.space read c.in_ok-outs.ensures.read;
     }
@@ -83,6 +102,88 @@ returns-then-not-is_empty-clause-few g c = λ tells store d degrees plain.
     subst (λ b. IsBatch d b c.in_ok-outs.outs) inv.hops
     (takes_batch (graph_of s.records) d (few_at s.records s.shape store.store d degrees) c.loop.stage c.take.new.self c.in-Some.item c.in_ok-outs.outs
     (inv.plain ∙ plain) c.take.ensures.plain takes)
+
+pub returns-then-not-is_empty-clause-owes : goal.returns-then-not-is_empty-clause-owes
+returns-then-not-is_empty-clause-owes g c = λ tells store.
+    let space = g.R.Reads in
+    let s = space.state c.args.space.now in
+    let inv = c.loop.invariant in
+    let read = is_read-on space g.met.R.Reads.further_onward c.args.space.now c.loop.space c.next.new.space inv.read c.in_ok-item.ensures.read in
+    let item = c.in-Some.item in
+    let first = subst (λ (t : State). GivesFirst (graph_of t.records) c.loop.source c.in_ok-item.field-0 c.next.new.self) inv.read.same
+    (c.in_ok-item.ensures.first tells (named-read space c.args.space.now c.loop.space c.args.names.now.names inv.read store)) in
+    let gives : left_of (graph_of s.records) c.loop.source ≡ item ∷ left_of (graph_of s.records) c.next.new.self
+    = subst (λ (o : Option Item). GivesFirst (graph_of s.records) c.loop.source o c.next.new.self) c.in-Some.is first in
+    let paid = subst (λ (t : State). Spends (space.state c.loop.space) (space.state c.next.new.space) (source_owes t.records c.loop.source)
+    (source_owes t.records c.next.new.self)) inv.read.same c.in_ok-item.ensures.owes in
+    let asks = ap (λ (t : State). stage_reads t.records c.loop.stage item) read.same ∙ inv.asks s.records item in
+    let costs = c.take.ensures.reads tells (named-read space c.args.space.now c.next.new.space c.args.names.now.names read store) in
+    let spends = spends_on s (space.state c.loop.space) (space.state c.take.new.space) _ _ _ (inv.owes tells store)
+    (spends_next s.records (stage_reads s.records c.args.stage.now) c.loop.source (space.state c.loop.space) (space.state c.next.new.space)
+    c.next.new.self (space.state c.take.new.space) item (stage_reads (space.state c.next.new.space).records c.loop.stage item) asks paid costs gives) in
+    spends_stage s.records c.next.new.self c.args.stage.now c.take.new.self s (space.state c.take.new.space) _
+    (λ other. c.take.ensures.asks s.records other ∙ inv.asks s.records other) spends
+
+pub returns-then-not-is_empty-clause-asks : goal.returns-then-not-is_empty-clause-asks
+returns-then-not-is_empty-clause-asks g c = λ records other. c.take.ensures.asks records other ∙ c.loop.invariant.asks records other
+
+pub returns-in_err-outs-clause-asks : goal.returns-in_err-outs-clause-asks
+returns-in_err-outs-clause-asks g c = λ records other. c.take.ensures.asks records other ∙ c.loop.invariant.asks records other
+
+pub returns-in_err-outs-clause-owes : goal.returns-in_err-outs-clause-owes
+returns-in_err-outs-clause-owes g c = λ tells store.
+    let space = g.R.Reads in
+    let s = space.state c.args.space.now in
+    let inv = c.loop.invariant in
+    let read = is_read-on space g.met.R.Reads.further_onward c.args.space.now c.loop.space c.next.new.space inv.read c.in_ok-item.ensures.read in
+    let item = c.in-Some.item in
+    let first = subst (λ (t : State). GivesFirst (graph_of t.records) c.loop.source c.in_ok-item.field-0 c.next.new.self) inv.read.same
+    (c.in_ok-item.ensures.first tells (named-read space c.args.space.now c.loop.space c.args.names.now.names inv.read store)) in
+    let gives : left_of (graph_of s.records) c.loop.source ≡ item ∷ left_of (graph_of s.records) c.next.new.self
+    = subst (λ (o : Option Item). GivesFirst (graph_of s.records) c.loop.source o c.next.new.self) c.in-Some.is first in
+    let paid = subst (λ (t : State). Spends (space.state c.loop.space) (space.state c.next.new.space) (source_owes t.records c.loop.source)
+    (source_owes t.records c.next.new.self)) inv.read.same c.in_ok-item.ensures.owes in
+    let asks = ap (λ (t : State). stage_reads t.records c.loop.stage item) read.same ∙ inv.asks s.records item in
+    let costs = c.take.ensures.reads tells (named-read space c.args.space.now c.next.new.space c.args.names.now.names read store) in
+    let spends = spends_on s (space.state c.loop.space) (space.state c.take.new.space) _ _ _ (inv.owes tells store)
+    (spends_next s.records (stage_reads s.records c.args.stage.now) c.loop.source (space.state c.loop.space) (space.state c.next.new.space)
+    c.next.new.self (space.state c.take.new.space) item (stage_reads (space.state c.next.new.space).records c.loop.stage item) asks paid costs gives) in
+    spends_err c.from_residual-in_err-outs.result _ s (space.state c.take.new.space) _ _ _ c.from_residual-in_err-outs.ensures.1 spends
+
+pub returns-in_err-item-clause-asks : goal.returns-in_err-item-clause-asks
+returns-in_err-item-clause-asks g c = c.loop.invariant.asks
+
+pub returns-in_err-item-clause-owes : goal.returns-in_err-item-clause-owes
+returns-in_err-item-clause-owes g c = λ tells store.
+    let space = g.R.Reads in
+    let s = space.state c.args.space.now in
+    let inv = c.loop.invariant in
+    let paid = subst (λ (t : State). Spends (space.state c.loop.space) (space.state c.next.new.space) (source_owes t.records c.loop.source) 0)
+    inv.read.same c.in_err-item.ensures.owes in
+    spends_err c.from_residual.result _ s (space.state c.next.new.space) _ 0 _ c.from_residual.ensures.1
+    (spends_on s (space.state c.loop.space) (space.state c.next.new.space) _ _ 0 (inv.owes tells store)
+    (spends_source s.records (stage_reads s.records c.args.stage.now) c.loop.source (space.state c.loop.space) (space.state c.next.new.space) 0 paid))
+
+pub returns-in_default-clause-asks : goal.returns-in_default-clause-asks
+returns-in_default-clause-asks g c = c.loop.invariant.asks
+
+pub returns-in_default-clause-owes : goal.returns-in_default-clause-owes
+returns-in_default-clause-owes g c = λ tells store.
+    let space = g.R.Reads in
+    let s = space.state c.args.space.now in
+    let inv = c.loop.invariant in
+    let paid = subst (λ (t : State). Spends (space.state c.loop.space) (space.state c.next.new.space) (source_owes t.records c.loop.source)
+    (source_owes t.records c.next.new.self)) inv.read.same c.in_ok-item.ensures.owes in
+    let over = spends_on s (space.state c.loop.space) (space.state c.next.new.space) _ _ 0 (inv.owes tells store)
+    (spends_source s.records (stage_reads s.records c.args.stage.now) c.loop.source (space.state c.loop.space) (space.state c.next.new.space) _ paid) in
+    spends_end s.records (stage_reads s.records c.loop.stage) c.next.new.self c.end.new.self s (space.state c.next.new.space) _ 0 c.end.ensures over
+
+pub returns-clause-asks : goal.returns-clause-asks
+returns-clause-asks g c = c.loop.invariant.asks
+
+pub returns-clause-owes : goal.returns-clause-owes
+returns-clause-owes g c = λ tells store.
+    spends_less (g.R.Reads.state c.args.space.now) (g.R.Reads.state c.loop.space) _ _ (c.loop.invariant.owes tells store)
 
 pub returns-in_err-item-clause-read : goal.returns-in_err-item-clause-read
 returns-in_err-item-clause-read g c =

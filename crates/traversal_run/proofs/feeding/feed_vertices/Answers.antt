@@ -1,5 +1,6 @@
 use Rattle.std.proofs.Common.{ap, false, subst, sym, ◌∙◌, ◌∷◌}
 use Rattle.plain_graph.specs.declared.item.Item.{Item}
+use Rattle.plain_graph.specs.declared.item.Item.TheVariants as items
 use Rattle.rec_bytes.specs.Space.{State}
 use Rattle.store_rules.specs.Graph.{graph_of}
 use Rattle.traversal_run.specs.Finding.{element_at, element_mark}
@@ -9,6 +10,7 @@ use Rattle.traversal_run.specs.Stage.{Takes}
 use Rattle.traversal_run.specs.declared.source.Source.{Source}
 use Rattle.traversal_run.proofs.Fed.{ended, feeds_end, feeds_more, feeds_on, feeds_past, gives_none, gives_vertex, limit_stays}
 use Rattle.traversal_run.proofs.HeldSteps.{few_at, takes_batch}
+use Rattle.traversal_run.proofs.FedReads.{spends_end, spends_past, spends_row, spends_stage, spends_taken, taken_pays}
 use Rattle.traversal_run.proofs.LeftRows.{left-none}
 use Rattle.traversal_run.proofs.OnlyReads.{is_read-on, named-read}
 use Rattle.traversal_run.proofs.Causes.{cause_passed, later_on}
@@ -16,8 +18,10 @@ use Rattle.std.proofs.lemmas.Result.{err_from_is_err_and}
 use Rattle.prop_store.specs.Fault.{BlamesBroken}
 use Rattle.rec_bytes.proofs.Causes.{never_ok}
 use Rattle.traversal_run.proofs.HopRuns.{fed_took, feeds_over, feeds_took, ended_none, took_row, took_step}
-use Rattle.traversal_run.specs.HopRun.{StageReads}
+use Rattle.traversal_run.specs.Owing.{stage_reads}
+use Rattle.prop_store.specs.Reading.{ReadsAtMost}
 use Rattle.traversal_run.proofs.feeding.feed_vertices.Goals as goal
+use Rattle.traversal_run.proofs.Spending.{spends_err, spends_on}
 
 pub returns-then-not-is_empty-clause-feeds : goal.returns-then-not-is_empty-clause-feeds
 returns-then-not-is_empty-clause-feeds g c = λ tells store.
@@ -75,14 +79,30 @@ loop-id-preserved-then-is_some g c =
       counts = c.take.ensures.counts ∙ inv.counts;
       hops = c.take.ensures.hops ∙ inv.hops;
       plain = c.take.ensures.plain ∙ inv.plain;
+      asks = λ records other. c.take.ensures.asks records other ∙ inv.asks records other;
+      owes = λ tells store.
+          let item = items.Vertex c.in-Some.id in
+          let gives = gives_vertex s.records now c.take_first.new.self c.in-Some.id c.in_ok-row.row (inv.edges ∙ c.requires.vertices) c.in-Some.ensures.some
+          (sym (ap (λ (t : State). element_at t.records false c.in-Some.id) inv.read.same) ∙ c.in_ok-row.ensures.is tells)
+          (sym c.is_some.ensures ∙ c.if-is_some.true) in
+          let asks = ap (λ (t : State). stage_reads t.records c.loop-id.stage item) read.same ∙ inv.asks s.records item in
+          let costs = subst (λ (i : Item). ReadsAtMost (stage_reads (space.state c.vertex_row.new.space).records c.loop-id.stage i)
+          (space.state c.vertex_row.new.space) (space.state c.take.new.space)) c.vertex.ensures
+          (c.take.ensures.reads tells (named-read space c.args.space.now c.vertex_row.new.space c.args.names.now.names read store)) in
+          let spends = spends_on s (space.state c.loop-id.space) (space.state c.take.new.space) _ _ _ (inv.owes tells store)
+          (spends_taken s.records (stage_reads s.records c.args.stage.now) now rest (space.state c.loop-id.space) (space.state c.vertex_row.new.space)
+          c.in_ok-row.ensures.gets (taken_pays s.records now c.take_first.new.self c.mark-mark.result (inv.mark ∙ ap (element_mark s.records) (sym inv.edges))
+          c.in-Some.ensures.fewer) (space.state c.take.new.space) item (stage_reads (space.state c.vertex_row.new.space).records c.loop-id.stage item)
+          asks costs gives) in
+          spends;
       edges = inv.edges;
       mark = inv.mark;
       hop = fed_took space c.args.names.now.names c.args.stage.now c.args.space.now c.args.source.now.left c.take.new.self c.take.new.space
           c.take_first.new.self
           (took_step space c.args.names.now.names c.args.stage.now c.args.space.now c.args.source.now.left c.loop-id.stage c.loop-id.space
           c.vertex_row.new.space c.take.new.space now.left c.take_first.new.self c.in-Some.id inv.hop c.in-Some.ensures.some c.in_ok-row.ensures.gets read
-          (λ tells store. subst (λ (item : Item). StageReads c.loop-id.stage item (space.state c.vertex_row.new.space) (space.state c.take.new.space))
-          c.vertex.ensures (c.take.ensures.reads tells store)));
+          (λ tells store. subst (λ (item : Item). ReadsAtMost (stage_reads (space.state c.vertex_row.new.space).records c.loop-id.stage item)
+          (space.state c.vertex_row.new.space) (space.state c.take.new.space)) c.vertex.ensures (c.take.ensures.reads tells store)));
       read = is_read-on space g.met.R.Reads.further_onward c.args.space.now c.vertex_row.new.space c.take.new.space read c.in_ok-outs.ensures.read;
     }
 
@@ -104,6 +124,15 @@ loop-id-preserved g c =
       counts = inv.counts;
       hops = inv.hops;
       plain = inv.plain;
+      asks = inv.asks;
+      owes = λ tells store.
+          spends_on s (space.state c.loop-id.space) (space.state c.vertex_row.new.space) _ _ _ (inv.owes tells store)
+          (spends_past s.records (stage_reads s.records c.args.stage.now) now rest (space.state c.loop-id.space) (space.state c.vertex_row.new.space)
+          c.in_ok-row.ensures.gets
+          (taken_pays s.records now c.take_first.new.self c.mark-mark.result (inv.mark ∙ ap (element_mark s.records) (sym inv.edges)) c.in-Some.ensures.fewer)
+          (gives_none s.records now c.take_first.new.self c.in-Some.id c.in_ok-row.row (inv.edges ∙ c.requires.vertices) c.in-Some.ensures.some
+          (sym (ap (λ (t : State). element_at t.records false c.in-Some.id) inv.read.same) ∙ c.in_ok-row.ensures.is tells)
+          (sym c.is_some.ensures ∙ c.if-is_some.false)));
       edges = inv.edges;
       mark = inv.mark;
       hop = fed_took space c.args.names.now.names c.args.stage.now c.args.space.now c.args.source.now.left c.loop-id.stage c.vertex_row.new.space
@@ -123,6 +152,81 @@ returns-clause-feeds g c = λ tells store.
     let none = left-none s.records now.edges now.left (subst (λ n. HasNoneBelow n now.left) mark c.in_default.ensures.none.0) in
     feeds_end graph c.args.source.now now c.end.new.self c.args.stage.now c.loop-id.stage c.new.result c.new.ensures (inv.feeds tells store) none
     (ended graph now c.end.new.self c.end.ensures)
+
+pub returns-then-not-is_empty-clause-owes : goal.returns-then-not-is_empty-clause-owes
+returns-then-not-is_empty-clause-owes g c = λ tells store.
+    let space = g.R.Reads in
+    let s = space.state c.args.space.now in
+    let inv = c.loop-id.invariant in
+    let now = c.loop-id.source in
+    let rest : Source = record { edges = now.edges; left = c.take_first.new.self } in
+    let read = is_read-on space g.met.R.Reads.further_onward c.args.space.now c.loop-id.space c.vertex_row.new.space inv.read c.in_ok-row.ensures.read in
+    let item = items.Vertex c.in-Some.id in
+    let gives = gives_vertex s.records now c.take_first.new.self c.in-Some.id c.in_ok-row.row (inv.edges ∙ c.requires.vertices) c.in-Some.ensures.some
+    (sym (ap (λ (t : State). element_at t.records false c.in-Some.id) inv.read.same) ∙ c.in_ok-row.ensures.is tells)
+    (sym c.is_some.ensures ∙ c.if-is_some.true) in
+    let asks = ap (λ (t : State). stage_reads t.records c.loop-id.stage item) read.same ∙ inv.asks s.records item in
+    let costs = subst (λ (i : Item). ReadsAtMost (stage_reads (space.state c.vertex_row.new.space).records c.loop-id.stage i)
+    (space.state c.vertex_row.new.space) (space.state c.take.new.space)) c.vertex.ensures
+    (c.take.ensures.reads tells (named-read space c.args.space.now c.vertex_row.new.space c.args.names.now.names read store)) in
+    let spends = spends_on s (space.state c.loop-id.space) (space.state c.take.new.space) _ _ _ (inv.owes tells store)
+    (spends_taken s.records (stage_reads s.records c.args.stage.now) now rest (space.state c.loop-id.space) (space.state c.vertex_row.new.space)
+    c.in_ok-row.ensures.gets (taken_pays s.records now c.take_first.new.self c.mark-mark.result (inv.mark ∙ ap (element_mark s.records) (sym inv.edges))
+    c.in-Some.ensures.fewer) (space.state c.take.new.space) item (stage_reads (space.state c.vertex_row.new.space).records c.loop-id.stage item)
+    asks costs gives) in
+    spends_stage s.records rest c.args.stage.now c.take.new.self s (space.state c.take.new.space) _
+    (λ other. c.take.ensures.asks s.records other ∙ inv.asks s.records other) spends
+
+pub returns-then-not-is_empty-clause-asks : goal.returns-then-not-is_empty-clause-asks
+returns-then-not-is_empty-clause-asks g c = λ records other. c.take.ensures.asks records other ∙ c.loop-id.invariant.asks records other
+
+pub returns-in_err-outs-clause-asks : goal.returns-in_err-outs-clause-asks
+returns-in_err-outs-clause-asks g c = λ records other. c.take.ensures.asks records other ∙ c.loop-id.invariant.asks records other
+
+pub returns-in_err-outs-clause-owes : goal.returns-in_err-outs-clause-owes
+returns-in_err-outs-clause-owes g c = λ tells store.
+    let space = g.R.Reads in
+    let s = space.state c.args.space.now in
+    let inv = c.loop-id.invariant in
+    let now = c.loop-id.source in
+    let rest : Source = record { edges = now.edges; left = c.take_first.new.self } in
+    let read = is_read-on space g.met.R.Reads.further_onward c.args.space.now c.loop-id.space c.vertex_row.new.space inv.read c.in_ok-row.ensures.read in
+    let item = items.Vertex c.in-Some.id in
+    let gives = gives_vertex s.records now c.take_first.new.self c.in-Some.id c.in_ok-row.row (inv.edges ∙ c.requires.vertices) c.in-Some.ensures.some
+    (sym (ap (λ (t : State). element_at t.records false c.in-Some.id) inv.read.same) ∙ c.in_ok-row.ensures.is tells)
+    (sym c.is_some.ensures ∙ c.if-is_some.true) in
+    let asks = ap (λ (t : State). stage_reads t.records c.loop-id.stage item) read.same ∙ inv.asks s.records item in
+    let costs = subst (λ (i : Item). ReadsAtMost (stage_reads (space.state c.vertex_row.new.space).records c.loop-id.stage i)
+    (space.state c.vertex_row.new.space) (space.state c.take.new.space)) c.vertex.ensures
+    (c.take.ensures.reads tells (named-read space c.args.space.now c.vertex_row.new.space c.args.names.now.names read store)) in
+    let spends = spends_on s (space.state c.loop-id.space) (space.state c.take.new.space) _ _ _ (inv.owes tells store)
+    (spends_taken s.records (stage_reads s.records c.args.stage.now) now rest (space.state c.loop-id.space) (space.state c.vertex_row.new.space)
+    c.in_ok-row.ensures.gets (taken_pays s.records now c.take_first.new.self c.mark-mark.result (inv.mark ∙ ap (element_mark s.records) (sym inv.edges))
+    c.in-Some.ensures.fewer) (space.state c.take.new.space) item (stage_reads (space.state c.vertex_row.new.space).records c.loop-id.stage item)
+    asks costs gives) in
+    spends_err c.from_residual-in_err-outs.result _ s (space.state c.take.new.space) _ _ _ c.from_residual-in_err-outs.ensures.1 spends
+
+pub returns-in_err-row-clause-owes : goal.returns-in_err-row-clause-owes
+returns-in_err-row-clause-owes g c = λ tells store.
+    let space = g.R.Reads in
+    let s = space.state c.args.space.now in
+    let inv = c.loop-id.invariant in
+    let now = c.loop-id.source in
+    let rest : Source = record { edges = now.edges; left = c.take_first.new.self } in
+    spends_err c.from_residual.result _ s (space.state c.vertex_row.new.space) _ 0 _ c.from_residual.ensures.1
+    (spends_on s (space.state c.loop-id.space) (space.state c.vertex_row.new.space) _ _ 0 (inv.owes tells store)
+    (spends_row s.records (stage_reads s.records c.args.stage.now) now rest (space.state c.loop-id.space) (space.state c.vertex_row.new.space)
+    c.in_err-row.ensures.gets
+    (taken_pays s.records now c.take_first.new.self c.mark-mark.result (inv.mark ∙ ap (element_mark s.records) (sym inv.edges)) c.in-Some.ensures.fewer)))
+
+pub returns-clause-asks : goal.returns-clause-asks
+returns-clause-asks g c = c.loop-id.invariant.asks
+
+pub returns-clause-owes : goal.returns-clause-owes
+returns-clause-owes g c = λ tells store.
+    let s = g.R.Reads.state c.args.space.now in
+    spends_end s.records (stage_reads s.records c.loop-id.stage) c.loop-id.source c.end.new.self s
+    (g.R.Reads.state c.loop-id.space) _ _ c.end.ensures (c.loop-id.invariant.owes tells store)
 
 pub returns-in_err-row-clause-read : goal.returns-in_err-row-clause-read
 returns-in_err-row-clause-read g c =
@@ -202,8 +306,8 @@ returns-in_err-outs-clause-hop g c =
     feeds_took space c.args.names.now.names c.args.stage.now c.args.space.now c.args.source.now c.take.new.space rest inv.edges
     (took_step space c.args.names.now.names c.args.stage.now c.args.space.now c.args.source.now.left c.loop-id.stage c.loop-id.space c.vertex_row.new.space
     c.take.new.space now.left c.take_first.new.self c.in-Some.id inv.hop c.in-Some.ensures.some c.in_ok-row.ensures.gets read
-    (λ tells store. subst (λ (item : Item). StageReads c.loop-id.stage item (space.state c.vertex_row.new.space) (space.state c.take.new.space))
-    c.vertex.ensures (c.take.ensures.reads tells store)))
+    (λ tells store. subst (λ (item : Item). ReadsAtMost (stage_reads (space.state c.vertex_row.new.space).records c.loop-id.stage item)
+    (space.state c.vertex_row.new.space) (space.state c.take.new.space)) c.vertex.ensures (c.take.ensures.reads tells store)))
 
 pub returns-then-not-is_empty-clause-hop : goal.returns-then-not-is_empty-clause-hop
 returns-then-not-is_empty-clause-hop g c =
@@ -215,8 +319,8 @@ returns-then-not-is_empty-clause-hop g c =
     feeds_took space c.args.names.now.names c.args.stage.now c.args.space.now c.args.source.now c.take.new.space rest inv.edges
     (took_step space c.args.names.now.names c.args.stage.now c.args.space.now c.args.source.now.left c.loop-id.stage c.loop-id.space c.vertex_row.new.space
     c.take.new.space now.left c.take_first.new.self c.in-Some.id inv.hop c.in-Some.ensures.some c.in_ok-row.ensures.gets read
-    (λ tells store. subst (λ (item : Item). StageReads c.loop-id.stage item (space.state c.vertex_row.new.space) (space.state c.take.new.space))
-    c.vertex.ensures (c.take.ensures.reads tells store)))
+    (λ tells store. subst (λ (item : Item). ReadsAtMost (stage_reads (space.state c.vertex_row.new.space).records c.loop-id.stage item)
+    (space.state c.vertex_row.new.space) (space.state c.take.new.space)) c.vertex.ensures (c.take.ensures.reads tells store)))
 
 pub returns-clause-hop : goal.returns-clause-hop
 returns-clause-hop g c =

@@ -1,9 +1,11 @@
-use Rattle.std.proofs.Common.{◌≡◌, All, Bool, IfOk, ap, arith, subst, sym, ◌∙◌}
+use Rattle.std.proofs.Common.{◌≡◌, All, Bool, IfOk, is_some, cond, ap, arith, subst, sym, ◌∙◌}
 use Rattle.std.proofs.lemmas.Result.{IfErr-weaker}
 use Rattle.plain_graph.specs.Meaning.{is_some_and}
 use Rattle.plain_graph.specs.declared.item.Item.TheVariants as items
 use Rattle.prop_store.proofs.Causes.{cause_after}
 use Rattle.prop_store.proofs.Exits.{same_has}
+use Rattle.prop_store.proofs.ReadCounts.{reads_more, reads_then}
+use Rattle.prop_store.specs.Reading.{ReadsAtMost}
 use Rattle.rec_bytes.specs.Space.{State}
 use Rattle.rec_bytes.proofs.Causes.{never_ok, ok_cause}
 use Rattle.store_rules.specs.Graph.{graph_of}
@@ -12,6 +14,8 @@ use Rattle.traversal_run.specs.NumberedFilter.{IsNumbered, passes_numbered}
 use Rattle.traversal_run.proofs.Broken.{blamed_before}
 use Rattle.traversal_run.proofs.Causes.{cause_passed}
 use Rattle.traversal_run.proofs.FilteredCounts.{no_row_passes, row_passes}
+use Rattle.traversal_run.specs.Owing.{numbered_reads, vertex_reads}
+use Rattle.traversal_run.proofs.StepReads.{vertex_there}
 use Rattle.traversal_run.proofs.OnlyReads.{is_read-on}
 use Rattle.traversal_run.proofs.feeding.vertex_passes.Goals as goal
 
@@ -65,3 +69,29 @@ returns-in_err-row-clause-found g c _ _ _ = never_ok c.from_residual.result _ _ 
 
 pub returns-in_err-row-clause-damaged : goal.returns-in_err-row-clause-damaged
 returns-in_err-row-clause-damaged g c tells = same_has _ c.from_residual.result _ c.from_residual.ensures.1 (c.in_err-row.ensures.damaged tells)
+
+pub returns-then-is_some-clause-reads : goal.returns-then-is_some-clause-reads
+returns-then-is_some-clause-reads g c = λ tells store numbered.
+    let s = g.R.Reads.state c.args.space.now in
+    let z = g.R.Reads.state c.vertex_row.new.space in
+    let t = g.R.Reads.state c.passes_each.new.space in
+    let same = c.in_ok-row.ensures.read.same in
+    let filters = c.args.filters.now in
+    let id = c.args.id in
+    let each = numbered_reads (graph_of s.records) filters (items.Vertex id) in
+    let there = ap is_some (c.in_ok-row.ensures.is tells) ∙ vertex_there id c.in_ok-row.row ∙ sym c.is_some.ensures ∙ c.if-is_some.true in
+    let asked = ap (λ (b : Bool). cond b each 0) there in
+    let later = subst (λ (u : State). ReadsAtMost (numbered_reads (graph_of u.records) filters (items.Vertex id)) z t) same
+    (c.passes_each.ensures.reads tells (subst (λ (u : State). IsWellFormed u.records u.shape) (sym same) store)
+    (subst (λ (u : State). All (IsNumbered u.records) filters) (sym same) numbered)) in
+    reads_then 1 each (vertex_reads s.records filters id) s z t (omega (arith, asked)) c.in_ok-row.ensures.gets later
+
+pub returns-else-is_some-clause-reads : goal.returns-else-is_some-clause-reads
+returns-else-is_some-clause-reads g c = λ tells store numbered.
+    let s = g.R.Reads.state c.args.space.now in
+    reads_more 1 (vertex_reads s.records c.args.filters.now c.args.id) s (g.R.Reads.state c.vertex_row.new.space) (omega arith) c.in_ok-row.ensures.gets
+
+pub returns-in_err-row-clause-reads : goal.returns-in_err-row-clause-reads
+returns-in_err-row-clause-reads g c = λ tells store numbered.
+    let s = g.R.Reads.state c.args.space.now in
+    reads_more 1 (vertex_reads s.records c.args.filters.now c.args.id) s (g.R.Reads.state c.vertex_row.new.space) (omega arith) c.in_err-row.ensures.gets

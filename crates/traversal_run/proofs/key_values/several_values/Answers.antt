@@ -1,10 +1,14 @@
-use Rattle.std.proofs.Common.{ap, map, sym, subst, ◌∙◌, arith}
+use Rattle.std.proofs.Common.{◌+◌, ap, map, sym, subst, ◌∙◌, arith}
 use Rattle.plain_graph.specs.Meaning.{properties_of}
+use Rattle.prop_store.proofs.ReadCounts.{reads_more}
 use Rattle.rec_bytes.specs.Space.{State}
 use Rattle.store_rules.specs.Graph.{graph_of}
+use Rattle.traversal_run.specs.Elements.{owner_reads}
 use Rattle.traversal_run.specs.KeyValues.{AreRead, entry_item}
+use Rattle.traversal_run.specs.Owing.{values_reads}
 use Rattle.traversal_run.specs.Reading.{IsNamedStore}
 use Rattle.traversal_run.proofs.Causes.{cause_passed, memory_cause}
+use Rattle.traversal_run.proofs.NodeReads.{owner_few}
 use Rattle.traversal_run.proofs.TakenRows.{values-rows}
 use Rattle.rec_bytes.proofs.Causes.{never_ok, ok_cause}
 use Rattle.traversal_run.proofs.key_values.several_values.Goals as goal
@@ -42,3 +46,19 @@ returns-in_err-values-clause-found g c _ _ = never_ok c.from_residual-in_err-val
 
 pub returns-clause-cause : goal.returns-clause-cause
 returns-clause-cause g c = ok_cause _ _ _ _ c.in_ok-props.ensures.cause.later
+
+pub returns-clause-at_most : goal.returns-clause-at_most
+returns-clause-at_most g c = reads_more (owner_reads c.args.row.now + 736) values_reads (g.R.Reads.state c.args.space.now)
+    (g.R.Reads.state c.read_properties.new.space) (let few = owner_few c.args.row.now in omega (arith, few)) c.in_ok-props.ensures.at_most
+
+pub returns-in_err-props-clause-at_most : goal.returns-in_err-props-clause-at_most
+returns-in_err-props-clause-at_most g c = reads_more (owner_reads c.args.row.now + 736) values_reads (g.R.Reads.state c.args.space.now)
+    (g.R.Reads.state c.read_properties.new.space) (let few = owner_few c.args.row.now in omega (arith, few)) c.in_err-props.ensures.at_most
+
+pub returns-in_err-rows-clause-at_most : goal.returns-in_err-rows-clause-at_most
+returns-in_err-rows-clause-at_most g c = reads_more (owner_reads c.args.row.now + 736) values_reads (g.R.Reads.state c.args.space.now)
+    (g.R.Reads.state c.read_properties.new.space) (let few = owner_few c.args.row.now in omega (arith, few)) c.in_ok-props.ensures.at_most
+
+pub returns-in_err-values-clause-at_most : goal.returns-in_err-values-clause-at_most
+returns-in_err-values-clause-at_most g c = reads_more (owner_reads c.args.row.now + 736) values_reads (g.R.Reads.state c.args.space.now)
+    (g.R.Reads.state c.read_properties.new.space) (let few = owner_few c.args.row.now in omega (arith, few)) c.in_ok-props.ensures.at_most

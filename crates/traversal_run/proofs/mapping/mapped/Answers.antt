@@ -1,5 +1,9 @@
-use Rattle.std.proofs.Common.{arith}
+use Rattle.std.proofs.Common.{arith, sym, subst}
+use Rattle.prop_store.specs.Reading.{ReadsAtMost}
+use Rattle.prop_store.proofs.ReadCounts.{reads_none}
 use Rattle.rec_bytes.proofs.Causes.{ok_cause}
+use Rattle.traversal_run.specs.Owing.{mapping_reads}
+use Rattle.traversal_run.specs.declared.mapping.Mapping.{Mapping}
 use Rattle.traversal_run.proofs.OnlyReads.{is_read-none}
 use Rattle.traversal_run.proofs.mapping.mapped.Goals as goal
 
@@ -65,3 +69,36 @@ returns-in-InV-clause-read g c = is_read-none g.R.Reads g.met.R.Reads.stays_onwa
 
 pub returns-in-InV-clause-cause : goal.returns-in-InV-clause-cause
 returns-in-InV-clause-cause g c = ok_cause _ _ _ _ (omega arith)
+
+pub returns-in-Id-clause-reads : goal.returns-in-Id-clause-reads
+returns-in-Id-clause-reads g c = λ tells store.
+    let s = g.R.Reads.state c.args.space.now in
+    reads_none (mapping_reads s.records c.args.mapping.now c.args.item) s
+
+pub returns-in-OutV-clause-reads : goal.returns-in-OutV-clause-reads
+returns-in-OutV-clause-reads g c = λ tells store.
+    let s = g.R.Reads.state c.args.space.now in
+    reads_none (mapping_reads s.records c.args.mapping.now c.args.item) s
+
+pub returns-in-InV-clause-reads : goal.returns-in-InV-clause-reads
+returns-in-InV-clause-reads g c = λ tells store.
+    let s = g.R.Reads.state c.args.space.now in
+    reads_none (mapping_reads s.records c.args.mapping.now c.args.item) s
+
+pub returns-in-Filter-clause-reads : goal.returns-in-Filter-clause-reads
+returns-in-Filter-clause-reads g c = λ tells store.
+    let s = g.R.Reads.state c.args.space.now in
+    let t = g.R.Reads.state c.filtered.new.space in
+    subst (λ (mapping : Mapping). ReadsAtMost (mapping_reads s.records mapping c.args.item) s t) (sym c.in-Filter.is) c.filtered.ensures.at_most
+
+pub returns-in-Values-clause-reads : goal.returns-in-Values-clause-reads
+returns-in-Values-clause-reads g c = λ tells store.
+    let s = g.R.Reads.state c.args.space.now in
+    let t = g.R.Reads.state c.distinct_values.new.space in
+    subst (λ (mapping : Mapping). ReadsAtMost (mapping_reads s.records mapping c.args.item) s t) (sym c.in-Values.is) c.distinct_values.ensures.at_most
+
+pub returns-in-Label-clause-reads : goal.returns-in-Label-clause-reads
+returns-in-Label-clause-reads g c = λ tells store.
+    let s = g.R.Reads.state c.args.space.now in
+    let t = g.R.Reads.state c.label_value.new.space in
+    subst (λ (mapping : Mapping). ReadsAtMost (mapping_reads s.records mapping c.args.item) s t) (sym c.in-Label.is) c.label_value.ensures.at_most

@@ -1,8 +1,9 @@
 use Rattle.std.proofs.Common.{[], ◌∷◌, ◌++◌, ◌≡◌, All, Global, List, Vec, ap, subst, sym, ◌∙◌}
 use Rattle.std.proofs.lemmas.List.Elements.{All-push}
-use Rattle.traversal_run.specs.NumberedFilter.{IsNumbered, passes_numbered}
+use Rattle.traversal_run.specs.NumberedFilter.{IsNumbered, passes_numbered, stages_numbered}
 use Rattle.traversal_run.specs.declared.numbered_filter.NumberedFilter.{NumberedFilter}
 use Rattle.traversal_run.proofs.FilteredCounts.{numbered_more, numbered_past}
+use Rattle.traversal_run.proofs.FilterReads.{filters_past, filters_taken}
 use Rattle.traversal_run.proofs.numbered_filter.numbered_filters.Goals as goal
 use Rattle.traversal_run.proofs.numbered_filter.numbered_filters.Goals.{in-Some+in_ok-numbered+in_ok-push, in_default}
 
@@ -23,6 +24,9 @@ loop-row-preserved g c =
                 ap (λ (list : List NumberedFilter). passes_numbered graph list item) items
                 ∙ numbered_more graph item old rows i row c.loop-row-test.true c.row-item.is (inv.same graph item) w.in_ok-numbered.numbered
                 w.in-Some.filter.now w.in-Some.ensures.some w.in_ok-numbered.ensures.filter;
+            stages = ap stages_numbered items
+                ∙ filters_taken old rows i row c.loop-row-test.true c.row-item.is inv.stages w.in_ok-numbered.numbered w.in-Some.filter.now
+                w.in-Some.ensures.some w.in_ok-numbered.ensures.filter;
             numbered = λ store.
                 subst (All (IsNumbered s.records)) (sym items) (All-push (IsNumbered s.records) old w.in_ok-numbered.numbered (inv.numbered store)
                 (w.in_ok-numbered.ensures.numbered store));
@@ -33,6 +37,7 @@ loop-row-preserved g c =
             same = λ graph item.
                 ap (λ (list : List NumberedFilter). passes_numbered graph list item) items
                 ∙ numbered_past graph item old rows i row c.loop-row-test.true c.row-item.is (inv.same graph item) w.in_default.ensures.none;
+            stages = ap stages_numbered items ∙ filters_past old rows i row c.loop-row-test.true c.row-item.is inv.stages w.in_default.ensures.none;
             numbered = λ store. subst (All (IsNumbered s.records)) (sym items) (inv.numbered store);
           }
     ]

@@ -12,7 +12,10 @@ use Rattle.traversal_run.proofs.Scans.{limit_advanced}
 use Rattle.traversal_run.proofs.Stops.{may_stop}
 use Rattle.rec_bytes.proofs.Causes.{never_ok}
 use Rattle.traversal_run.proofs.Causes.{stop_cause_passed, stop_has}
+use Rattle.traversal_run.specs.Owing.{Spends, steps_owe}
+use Rattle.traversal_run.proofs.OwedRows.{owe-advanced, owe-at, passed_on}
 use Rattle.traversal_run.proofs.run.advance_row.Goals as goal
+use Rattle.traversal_run.proofs.Spending.{spends_stop}
 
 pub returns-in_err-outs-clause-stops : goal.returns-in_err-outs-clause-stops
 returns-in_err-outs-clause-stops g c = λ tells store.
@@ -79,3 +82,25 @@ returns-in_err-outs-clause-read g c = c.in_err-outs.ensures.read
 pub returns-in_err-outs-clause-cause : goal.returns-in_err-outs-clause-cause
 returns-in_err-outs-clause-cause g c =
     stop_cause_passed _ _ _ c.from_residual.result c.in_err-outs.field-0.0 (omega arith) c.in_err-outs.ensures.cause c.from_residual.ensures.1
+
+pub returns-clause-owes : goal.returns-clause-owes
+returns-clause-owes g c = λ tells store coming.
+    let records = (g.R.Reads.state c.args.space.now).records in
+    let rows = c.args.rows.now in
+    let any = c.index-rows-at.result in
+    let comes = passed_on records (take c.args.at rows) coming in
+    let step = c.in_ok-outs.ensures.owes tells store comes in
+    let all = owe-advanced records rows c.put.new.rows c.args.at (get_or rows c.args.at any) c.advance.new.self any c.in_ok-outs.outs coming
+    c.requires.within refl (c.in_ok-outs.ensures.advances tells store comes).0 c.put.ensures.earlier (λ more. c.put.ensures.owes records more) in
+    omega (arith, step, all)
+
+pub returns-in_err-outs-clause-owes : goal.returns-in_err-outs-clause-owes
+returns-in_err-outs-clause-owes g c = λ tells store coming.
+    let s = g.R.Reads.state c.args.space.now in
+    let t = g.R.Reads.state c.advance.new.space in
+    let rows = c.args.rows.now in
+    let any = c.index-rows-at.result in
+    let step = c.in_err-outs.ensures.owes tells store (passed_on s.records (take c.args.at rows) coming) in
+    let within = owe-at s.records rows c.args.at (get_or rows c.args.at any) any coming c.requires.within refl in
+    let spends : Spends s t (steps_owe s.records rows coming) 0 = omega (arith, step, within) in
+    spends_stop c.from_residual.result _ s t (steps_owe s.records rows coming) _ c.from_residual.ensures.1 spends

@@ -16,7 +16,10 @@ use Rattle.rec_bytes.proofs.Causes.{never_ok}
 use Rattle.traversal_run.proofs.Causes.{stop_cause_passed, stop_has}
 use Rattle.traversal_run.proofs.HopRuns.{alone_fed}
 use Rattle.traversal_run.specs.HopRun.{FeedsHop}
+use Rattle.traversal_run.specs.Owing.{Spends, rows_owe}
+use Rattle.traversal_run.proofs.OwedRuns.{owe-fed, owe-head}
 use Rattle.traversal_run.proofs.run.feed_step.Goals as goal
+use Rattle.traversal_run.proofs.Spending.{spends_stop}
 
 pub returns-clause-same : goal.returns-clause-same
 returns-clause-same g c = λ tells store.
@@ -98,3 +101,26 @@ returns-in_err-outs-clause-hop g c = λ alone vertices.
     first
     (c.feed.ensures.hop vertices (ap (λ (row : Row). is_hop row.stage) first ∙ alone.hop)) in
     (fed, never_ok c.from_residual.result _ _ c.from_residual.ensures.1)
+
+pub returns-clause-owes : goal.returns-clause-owes
+returns-clause-owes g c = λ tells store.
+    let records = (g.R.Reads.state c.args.space.now).records in
+    let graph = graph_of records in
+    let rows = c.args.rows.now in
+    let any = c.index-rows-0.result in
+    let step = c.in_ok-outs.ensures.owes tells store in
+    let all = owe-fed records rows c.put.new.rows (get_or rows 0 any) any c.in_ok-outs.outs (left_of graph c.args.source.now)
+    (left_of graph c.feed.new.source) c.feed.new.stage c.requires.some refl c.requires.idle (c.in_ok-outs.ensures.feeds tells store).0 c.put.ensures.earlier
+    (λ more. c.put.ensures.owes records more) in
+    omega (arith, step, all)
+
+pub returns-in_err-outs-clause-owes : goal.returns-in_err-outs-clause-owes
+returns-in_err-outs-clause-owes g c = λ tells store.
+    let s = g.R.Reads.state c.args.space.now in
+    let t = g.R.Reads.state c.feed.new.space in
+    let rows = c.args.rows.now in
+    let any = c.index-rows-0.result in
+    let step = c.in_err-outs.ensures.owes tells store in
+    let within = owe-head s.records rows (get_or rows 0 any) any (left_of (graph_of s.records) c.args.source.now) c.requires.some refl c.requires.idle in
+    let spends : Spends s t (rows_owe s.records c.args.source.now rows) 0 = omega (arith, step, within) in
+    spends_stop c.from_residual.result _ s t (rows_owe s.records c.args.source.now rows) _ c.from_residual.ensures.1 spends

@@ -4,6 +4,8 @@ use Rattle.traversal_run.specs.declared.row.Row.{Row}
 use Rattle.traversal_run.proofs.Limits.{allowed-row}
 use Rattle.traversal_run.proofs.Rows.{advanced, finished}
 use Rattle.rec_bytes.proofs.Causes.{never_ok}
+use Rattle.store_rules.specs.Graph.{graph_of}
+use Rattle.traversal_run.proofs.OwedRows.{owe-finished}
 use Rattle.traversal_run.proofs.run.finish_row.Goals as goal
 
 pub returns-clause-same : goal.returns-clause-same
@@ -30,3 +32,13 @@ returns-in_err-outs-clause-same c = never_ok c.from_residual.result _ _ c.from_r
 
 pub returns-in_err-outs-clause-allowed : goal.returns-in_err-outs-clause-allowed
 returns-in_err-outs-clause-allowed c = never_ok c.from_residual.result _ _ c.from_residual.ensures.1
+
+pub returns-clause-owes : goal.returns-clause-owes
+returns-clause-owes c = λ records.
+    let rows = c.args.rows.now in
+    let any = c.index-rows-at.result in
+    owe-finished records rows c.put.new.rows c.args.at (get_or rows c.args.at any) any c.in_ok-outs.outs c.finish.new.self c.requires.within refl
+    c.requires.idle c.requires.quiet (c.in_ok-outs.ensures.finishes (graph_of records)).0 c.put.ensures.earlier (λ more. c.put.ensures.owes records more)
+
+pub returns-in_err-outs-clause-owes : goal.returns-in_err-outs-clause-owes
+returns-in_err-outs-clause-owes c = never_ok c.from_residual.result _ _ c.from_residual.ensures.1

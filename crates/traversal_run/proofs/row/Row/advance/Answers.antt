@@ -8,7 +8,11 @@ use Rattle.traversal_run.proofs.HeldSteps.{few_at, takes_batch}
 use Rattle.traversal_run.proofs.Scans.{limit_taken}
 use Rattle.rec_bytes.proofs.Causes.{never_ok}
 use Rattle.traversal_run.proofs.Causes.{fault_stop_cause, fault_stop_has, fault_stops}
+use Rattle.traversal_run.specs.Owing.{Spends, row_owes}
+use Rattle.traversal_run.specs.declared.row.Row.{Row}
+use Rattle.traversal_run.proofs.OwedRows.{count-owes, owe-taken}
 use Rattle.traversal_run.proofs.row.Row.advance.Goals as goal
+use Rattle.traversal_run.proofs.Spending.{reads_count, spends_stop}
 
 pub take-requires-clause-counts : goal.take-requires-clause-counts
 take-requires-clause-counts g c = not_count c.args.self.now.stage c.in_default.not-Count
@@ -75,3 +79,31 @@ returns-in_err-outs-in-Some-clause-read g c = c.in_err-outs-in-Some.ensures.read
 pub returns-in_err-outs-in-Some-clause-cause : goal.returns-in_err-outs-in-Some-clause-cause
 returns-in_err-outs-in-Some-clause-cause g c =
     fault_stop_cause _ _ _ c.from_residual.result c.in_err-outs-in-Some.field-0.0 (omega arith) c.in_err-outs-in-Some.ensures.cause c.from_residual.ensures.1
+
+pub returns-then-count_all-clause-owes : goal.returns-then-count_all-clause-owes
+returns-then-count_all-clause-owes g c = λ tells store coming.
+    let records = (g.R.Reads.state c.args.space.now).records in
+    let none = count-owes records c.count_all.new.so_far c.in-Count.given (c.count_all.new.waiting ++ coming) in
+    omega (arith, none)
+
+pub returns-in_ok-outs-in-Some-clause-owes : goal.returns-in_ok-outs-in-Some-clause-owes
+returns-in_ok-outs-in-Some-clause-owes g c = λ tells store coming.
+    let s = g.R.Reads.state c.args.space.now in
+    let t = g.R.Reads.state c.take.new.space in
+    let row = c.args.self.now in
+    let taken = owe-taken s.records row.stage c.take.new.self row.waiting c.take_first.new.self coming c.in-Some.item c.in-Some.ensures.some
+    (c.take.ensures.asks s.records) in
+    let read = reads_count _ s t (c.take.ensures.reads tells store) in
+    omega (arith, taken, read)
+
+pub returns-in_err-outs-in-Some-clause-owes : goal.returns-in_err-outs-in-Some-clause-owes
+returns-in_err-outs-in-Some-clause-owes g c = λ tells store coming.
+    let s = g.R.Reads.state c.args.space.now in
+    let t = g.R.Reads.state c.take.new.space in
+    let row = c.args.self.now in
+    let new : Row = record { stage = c.take.new.self; waiting = c.take_first.new.self } in
+    let taken = owe-taken s.records row.stage c.take.new.self row.waiting c.take_first.new.self coming c.in-Some.item c.in-Some.ensures.some
+    (c.take.ensures.asks s.records) in
+    let read = reads_count _ s t (c.take.ensures.reads tells store) in
+    let spends : Spends s t (row_owes s.records row coming) 0 = omega (arith, taken, read) in
+    spends_stop c.from_residual.result _ s t (row_owes s.records row coming) (row_owes s.records new coming) c.from_residual.ensures.1 spends

@@ -17,7 +17,10 @@ use Rattle.rec_bytes.proofs.Causes.{never_ok, ok_cause}
 use Rattle.traversal_run.proofs.HopRuns.{hop_first, hop_gives, hop_stops, turn_on, turn_stops}
 use Rattle.prop_store.proofs.ReadCounts.{reads_none}
 use Rattle.traversal_run.specs.HopRun.{reads_for_hop}
+use Rattle.store_rules.specs.Views.{Records}
+use Rattle.traversal_run.specs.Owing.{Spends, owed}
 use Rattle.traversal_run.proofs.run.Run.go_on.Goals as goal
+use Rattle.traversal_run.proofs.Spending.{spends_stop}
 
 pub returns-then-is_spent-clause-stops : goal.returns-then-is_spent-clause-stops
 returns-then-is_spent-clause-stops g c = λ tells store.
@@ -38,6 +41,7 @@ loop-init g c =
       scan = λ at scan. scan_starts run at scan (λ none. clash c.is_spent.result (c.is_spent.ensures.1 none) c.if-is_spent.false)
           (g.R.Reads.state c.args.space.now).reads;
       hop = hop_first g.R.Reads c.args.names.now.names c.args.space.now run;
+      owes = λ tells store. omega arith;
       stopped = refl;
       read = record { same = refl; onward = g.met.R.Reads.stays_onward c.args.space.now; later = omega arith };
     }
@@ -71,6 +75,13 @@ loop-preserved g c =
           (inv.scan at scan));
       hop = turn_on space c.args.names.now.names first now c.args.self.now run inv.hop c.turn.new.space c.turn.new.self
           (λ alone vertices. (turn.hop alone vertices).0) c.turn.ensures.stopped inv.read (λ alone vertices. (turn.hop alone vertices).1);
+      owes = λ tells store.
+          let step = turn.owes tells (named-read space first now c.args.names.now.names inv.read store) in
+          let kept : (space.state now).records ≡ (space.state first).records = ap (λ (t : State). t.records) inv.read.same in
+          let before = ap (λ (records : Records). owed records run) kept in
+          let after = ap (λ (records : Records). owed records c.turn.new.self) kept in
+          let spent = inv.owes tells store in
+          omega (arith, step, before, after, spent);
       stopped = c.turn.ensures.stopped ∙ inv.stopped;
       read = is_read-on space g.met.R.Reads.further_onward first now c.turn.new.space inv.read c.turn.ensures.read;
     }
@@ -198,3 +209,26 @@ returns-in_err-turn-clause-read g c =
 
 pub returns-clause-read : goal.returns-clause-read
 returns-clause-read g c = c.loop.invariant.read
+
+pub returns-in-Some-clause-owes : goal.returns-in-Some-clause-owes
+returns-in-Some-clause-owes g c = c.loop.invariant.owes
+
+pub returns-in_err-turn-clause-owes : goal.returns-in_err-turn-clause-owes
+returns-in_err-turn-clause-owes g c = λ tells store.
+    let space = g.R.Reads in
+    let first = c.args.space.now in
+    let inv = c.loop.invariant in
+    let run : Run = c.loop.self in
+    let s = space.state first in
+    let t = space.state c.turn.new.space in
+    let step = c.in_err-turn.ensures.owes tells (named-read space first c.loop.space c.args.names.now.names inv.read store) in
+    let kept : (space.state c.loop.space).records ≡ s.records = ap (λ (u : State). u.records) inv.read.same in
+    let before = ap (λ (records : Records). owed records run) kept in
+    let spent = inv.owes tells store in
+    let spends : Spends s t (owed s.records c.args.self.now) 0 = omega (arith, step, before, spent) in
+    spends_stop c.from_residual.result _ s t (owed s.records c.args.self.now) _ c.from_residual.ensures.1 spends
+
+pub returns-clause-owes : goal.returns-clause-owes
+returns-clause-owes g c = λ tells store.
+    let spent = c.loop.invariant.owes tells store in
+    omega (arith, spent)

@@ -1,4 +1,4 @@
-use Rattle.std.proofs.Common.{◌≡◌, ◌∙◌, length, ap, refl}
+use Rattle.std.proofs.Common.{◌≡◌, ◌∙◌, length, ap, refl, arith}
 use Rattle.plain_graph.specs.Meaning.{source_of}
 use Rattle.store_rules.specs.Graph.{graph_of}
 use Rattle.traversal_run.specs.Row.{stages_of, stream, through, with_first}
@@ -11,6 +11,7 @@ use Rattle.traversal_run.proofs.Limits.{allowed-rows_of}
 use Rattle.traversal_run.proofs.Scans.{scan_begins}
 use Rattle.rec_bytes.proofs.Causes.{never_ok}
 use Rattle.traversal_run.proofs.HopRuns.{hop_begins}
+use Rattle.traversal_run.specs.Owing.{steps_owe}
 use Rattle.traversal_run.proofs.run.Run.new.Goals as goal
 
 pub returns-clause-begins : goal.returns-clause-begins
@@ -75,3 +76,18 @@ returns-clause-hop g c = λ id hop is.
 
 pub returns-in_err-source-clause-hop : goal.returns-in_err-source-clause-hop
 returns-in_err-source-clause-hop g c _ _ _ = never_ok c.from_residual.result _ _ c.from_residual.ensures.1
+
+pub returns-clause-owes : goal.returns-clause-owes
+returns-clause-owes g c = λ tells store.
+    let records = (g.R.Reads.state c.args.space.now).records in
+    let graph = graph_of records in
+    let query = c.args.query.now in
+    let rows : c.in-Ok.rows.items ≡ rows_of query.steps = c.in-Ok.ensures ∙ ap rows_of c.as_slice.ensures in
+    let coming : left_of graph c.in_ok-source.source ≡ source_of graph query.source = c.in_ok-source.ensures.found tells store in
+    let steps : steps_owe records c.in-Ok.rows.items (left_of graph c.in_ok-source.source)
+    ≡ steps_owe records (rows_of query.steps) (source_of graph query.source) = λ i. steps_owe records (rows i) (coming i) in
+    let few = c.in_ok-source.ensures.owes tells store in
+    omega (arith, steps, few)
+
+pub returns-in_err-source-clause-owes : goal.returns-in_err-source-clause-owes
+returns-in_err-source-clause-owes g c _ _ = never_ok c.from_residual.result _ _ c.from_residual.ensures.1

@@ -1,5 +1,5 @@
 use Rattle.std.specs.Prelude.{Err}
-use Rattle.std.proofs.Common.{[], ◌≡◌, ◌∙◌, ap, refl, true}
+use Rattle.std.proofs.Common.{[], ◌≡◌, ◌∙◌, ap, refl, true, arith}
 use Rattle.store_rules.specs.Graph.{graph_of}
 use Rattle.traversal_run.specs.Row.{stream}
 use Rattle.traversal_run.specs.Run.{answer_if, to_come}
@@ -120,3 +120,17 @@ returns-in-Ok-clause-ready g c = c.in-Ok.ensures.ready
 
 pub returns-in-Ok-clause-read : goal.returns-in-Ok-clause-read
 returns-in-Ok-clause-read g c = c.in-Ok.ensures.read
+
+-- ---- what it reads
+
+pub returns-in-Some-clause-owes : goal.returns-in-Some-clause-owes
+returns-in-Some-clause-owes g c = λ _ _. omega arith
+
+pub returns-in-Err-clause-owes : goal.returns-in-Err-clause-owes
+returns-in-Err-clause-owes g c = λ tells store.
+    let spends = c.in-Err.ensures.owes tells store in
+    let none = c.stop.ensures.owes (g.R.Reads.state c.args.space.now).records in
+    omega (arith, spends, none)
+
+pub returns-in-Ok-clause-owes : goal.returns-in-Ok-clause-owes
+returns-in-Ok-clause-owes g c = c.in-Ok.ensures.owes

@@ -3,6 +3,7 @@ use Rattle.traversal_run.specs.Row.{stream, through, with_first}
 use Rattle.traversal_run.specs.Source.{left_of}
 use Rattle.traversal_run.proofs.HeldRuns.{within-none}
 use Rattle.traversal_run.proofs.Rows.{left_of-over}
+use Rattle.traversal_run.specs.Owing.{rows_owe}
 use Rattle.traversal_run.proofs.run.Run.stop.Goals as goal
 
 pub returns-clause-nothing : goal.returns-clause-nothing
@@ -12,3 +13,6 @@ returns-clause-nothing c = λ graph.
 
 pub returns-clause-within : goal.returns-clause-within
 returns-clause-within c = λ d most. within-none d most _ c.clear.ensures.items c.new.ensures
+
+pub returns-clause-owes : goal.returns-clause-owes
+returns-clause-owes c = λ records i. rows_owe records (c.end.ensures i) (c.clear.ensures.items i)

@@ -1,4 +1,4 @@
-use Rattle.std.proofs.Common.{[], ◌∷◌, ◌≡◌, ◌<◌, ◌+◌, List, Option, Bool, true, false, get_or, length, set, sym, ap, ◌∙◌, subst, arith}
+use Rattle.std.proofs.Common.{[], ◌∷◌, ◌++◌, ◌≡◌, ◌<◌, ◌+◌, List, Option, Bool, true, false, get_or, length, set, sym, ap, ◌∙◌, subst, arith}
 use Rattle.std.proofs.lemmas.Result.{err_from_is_err_and}
 use Rattle.std.specs.Option.{IfSome}
 use Rattle.plain_graph.specs.declared.item.Item.{Item}
@@ -21,7 +21,10 @@ use Rattle.rec_bytes.proofs.Causes.{never_ok, ok_cause}
 use Rattle.traversal_run.proofs.HopRuns.{feeds_nothing, idle_alone, over_none, quiet_alone}
 use Rattle.traversal_run.specs.HopRun.{IsHopAlone}
 use Rattle.traversal_run.proofs.run.Run.turn.Goals.{else-not-is_over-via-else-not-is_over, else-not-is_over-via-then-not-is_over+else-is_fed}
+use Rattle.traversal_run.specs.Owing.{Spends, owed, rows_owe, steps_owe}
+use Rattle.traversal_run.proofs.OwedRows.{all-left}
 use Rattle.traversal_run.proofs.run.Run.turn.Goals as goal
+use Rattle.traversal_run.proofs.Spending.{spends_stop}
 
 pub returns-clause-stops : goal.returns-clause-stops
 returns-clause-stops g c = λ tells store.
@@ -391,3 +394,112 @@ returns-in-Some-first_open-clause-cause g c = ok_cause _ _ _ _ c.in_ok-item.ensu
 
 pub returns-clause-read : goal.returns-clause-read
 returns-clause-read g c = c.in_ok-item.ensures.read
+
+pub returns-in-Some-clause-owes : goal.returns-in-Some-clause-owes
+returns-in-Some-clause-owes g c = λ tells store.
+    let records = (g.R.Reads.state c.args.space.now).records in
+    let run = c.args.self.now in
+    let left = left_of (graph_of records) run.source in
+    let rows : c.deref_mut.result.now ≡ run.rows.items = c.deref_mut.ensures.value in
+    let back = written_back c.advance_row.new.rows run.rows.items run.rows.len (omega (arith, c.advance_row.auto.rows, ap length rows)) run.rows.ok.0 in
+    let step = c.in_ok-advance_row.ensures.owes tells store left in
+    let cut = c.cut.ensures.owes records in
+    let before = ap (λ (rs : List Row). steps_owe records rs left) rows in
+    let after = ap (λ (rs : List Row). steps_owe records rs left) back in
+    omega (arith, step, cut, before, after)
+
+pub returns-in_err-advance_row-clause-owes : goal.returns-in_err-advance_row-clause-owes
+returns-in_err-advance_row-clause-owes g c = λ tells store.
+    let s = g.R.Reads.state c.args.space.now in
+    let t = g.R.Reads.state c.advance_row.new.space in
+    let run = c.args.self.now in
+    let left = left_of (graph_of s.records) run.source in
+    let rows : c.deref_mut.result.now ≡ run.rows.items = c.deref_mut.ensures.value in
+    let step = c.in_err-advance_row.ensures.owes tells store left in
+    let before = ap (λ (rs : List Row). steps_owe s.records rs left) rows in
+    let spends : Spends s t (owed s.records run) 0 = omega (arith, step, before) in
+    spends_stop c.from_residual.result _ s t (owed s.records run) _ c.from_residual.ensures.1 spends
+
+pub returns-then-is_fed-clause-owes : goal.returns-then-is_fed-clause-owes
+returns-then-is_fed-clause-owes g c = λ tells store.
+    let records = (g.R.Reads.state c.args.space.now).records in
+    let run = c.args.self.now in
+    let rows : c.deref_mut-then-is_fed.result.now ≡ run.rows.items = c.deref_mut-then-is_fed.ensures.value in
+    let back = written_back c.feed_rows.new.rows run.rows.items run.rows.len (omega (arith, c.feed_rows.auto.rows, ap length rows)) run.rows.ok.0 in
+    let step = c.in_ok-feed_rows.ensures.owes tells store in
+    let before = ap (λ (rs : List Row). rows_owe records run.source rs) rows in
+    let after = ap (λ (rs : List Row). rows_owe records c.feed_rows.new.source rs) back in
+    omega (arith, step, before, after)
+
+pub returns-in_err-feed_rows-clause-owes : goal.returns-in_err-feed_rows-clause-owes
+returns-in_err-feed_rows-clause-owes g c = λ tells store.
+    let s = g.R.Reads.state c.args.space.now in
+    let t = g.R.Reads.state c.feed_rows.new.space in
+    let run = c.args.self.now in
+    let rows : c.deref_mut-then-is_fed.result.now ≡ run.rows.items = c.deref_mut-then-is_fed.ensures.value in
+    let step = c.in_err-feed_rows.ensures.owes tells store in
+    let before = ap (λ (rs : List Row). rows_owe s.records run.source rs) rows in
+    let spends : Spends s t (owed s.records run) 0 = omega (arith, step, before) in
+    spends_stop c.from_residual-in_err-feed_rows.result _ s t (owed s.records run) _ c.from_residual-in_err-feed_rows.ensures.1 spends
+
+pub returns-in_err-item-clause-owes : goal.returns-in_err-item-clause-owes
+returns-in_err-item-clause-owes g c = λ tells store.
+    let s = g.R.Reads.state c.args.space.now in
+    let t = g.R.Reads.state c.next.new.space in
+    let run = c.args.self.now in
+    let step = c.in_err-item.ensures.owes in
+    let spends : Spends s t (owed s.records run) 0 = omega (arith, step) in
+    spends_stop c.from_residual-in_err-item.result _ s t (owed s.records run) _ c.from_residual-in_err-item.ensures.1 spends
+
+pub returns-in-Some-2-clause-owes : goal.returns-in-Some-2-clause-owes
+returns-in-Some-2-clause-owes g c = λ tells store.
+    let records = (g.R.Reads.state c.args.space.now).records in
+    let graph = graph_of records in
+    let run = c.args.self.now in
+    let rest = left_of graph c.next.new.self in
+    let old = c.deref_mut-in-Some-2.result.now in
+    let rows : old ≡ run.rows.items = c.deref_mut-in-Some-2.ensures.value in
+    let back = written_back c.put.new.rows run.rows.items run.rows.len (omega (arith, c.put.auto.rows, ap length rows)) run.rows.ok.0 in
+    let gives = subst (λ (found : Option Item). GivesFirst graph run.source found c.next.new.self) c.in-Some-2.is (c.in_ok-item.ensures.first tells store) in
+    let outs : c.one-outs.result ≡ c.in-Some-2.item ∷ [] = c.one-outs.ensures in
+    let step = c.in_ok-item.ensures.owes in
+    let after : steps_owe records c.put.new.rows rest ≡ steps_owe records run.rows.items (left_of graph run.source) =
+    ap (λ (rs : List Row). steps_owe records rs rest) (sym (all-left c.put.new.rows))
+    ∙ c.put.ensures.owes records rest
+    ∙ ap (λ (rs : List Row). steps_owe records rs (c.one-outs.result ++ rest)) (all-left old ∙ rows)
+    ∙ ap (λ (list : List Item). steps_owe records run.rows.items (list ++ rest)) outs
+    ∙ ap (steps_owe records run.rows.items) (sym gives) in
+    let now = ap (λ (rs : List Row). steps_owe records rs rest) back in
+    omega (arith, step, after, now)
+
+pub returns-in-Some-first_open-clause-owes : goal.returns-in-Some-first_open-clause-owes
+returns-in-Some-first_open-clause-owes g c = λ tells store.
+    let records = (g.R.Reads.state c.args.space.now).records in
+    let graph = graph_of records in
+    let run = c.args.self.now in
+    let old = c.deref_mut-in-Some-first_open.result.now in
+    let rows : old ≡ run.rows.items = c.deref_mut-in-Some-first_open.ensures.value in
+    let back = written_back c.finish_row.new.rows run.rows.items run.rows.len (omega (arith, c.finish_row.auto.rows, ap length rows)) run.rows.ok.0 in
+    let none = subst (λ (found : Option Item). GivesFirst graph run.source found c.next.new.self) c.in_default-2.is (c.in_ok-item.ensures.first tells store) in
+    let step = c.in_ok-item.ensures.owes in
+    let now = ap (λ (rs : List Row). steps_owe records rs (left_of graph c.next.new.self)) back in
+    let same : steps_owe records c.finish_row.new.rows (left_of graph c.next.new.self) ≡ steps_owe records run.rows.items (left_of graph run.source) =
+    ap (steps_owe records c.finish_row.new.rows) none.1
+    ∙ c.in_ok-finish_row.ensures.owes records
+    ∙ ap (λ (rs : List Row). steps_owe records rs []) rows
+    ∙ ap (steps_owe records run.rows.items) (sym none.0) in
+    omega (arith, step, now, same)
+
+pub returns-in_err-finish_row-clause-owes : goal.returns-in_err-finish_row-clause-owes
+returns-in_err-finish_row-clause-owes g c = λ tells store.
+    let s = g.R.Reads.state c.args.space.now in
+    let t = g.R.Reads.state c.next.new.space in
+    let run = c.args.self.now in
+    let step = c.in_ok-item.ensures.owes in
+    let spends : Spends s t (owed s.records run) 0 = omega (arith, step) in
+    spends_stop c.from_residual-in_err-finish_row.result _ s t (owed s.records run) _ c.from_residual-in_err-finish_row.ensures.1 spends
+
+pub returns-clause-owes : goal.returns-clause-owes
+returns-clause-owes g c = λ tells store.
+    let step = c.in_ok-item.ensures.owes in
+    omega (arith, step)

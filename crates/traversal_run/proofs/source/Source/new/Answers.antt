@@ -1,12 +1,15 @@
-use Rattle.std.proofs.Common.{◌≡◌, ◌∙◌, false, nat_eq, ap, sym, subst, List, ℕ, [], ◌∷◌, refl}
+use Rattle.std.proofs.Common.{◌≡◌, ◌≤◌, ◌∙◌, true, false, length, nat_eq, ap, sym, subst, List, ℕ, [], ◌∷◌, refl}
 use Rattle.std.specs.List.{list_any}
 use Rattle.plain_graph.specs.Meaning.{source_of}
 use Rattle.plain_graph.specs.declared.query.Source.{Source as Asked}
 use Rattle.plain_graph.specs.declared.query.Source.TheVariants as sources
 use Rattle.store_rules.specs.Graph.{graph_of}
+use Rattle.traversal_run.specs.Finding.{element_mark}
 use Rattle.traversal_run.specs.FoundNodes.{ReadsToBegin}
-use Rattle.traversal_run.specs.Source.{elements_left}
+use Rattle.traversal_run.specs.Owing.{asked_reads}
+use Rattle.traversal_run.specs.Source.{asked_count, elements_left, left_count}
 use Rattle.traversal_run.proofs.FoundSources.{found-left}
+use Rattle.traversal_run.proofs.StepReads.{edges_few, found_few, vertices_few}
 use Rattle.rec_bytes.proofs.Causes.{never_ok}
 use Rattle.traversal_run.proofs.HopRuns.{one_asked}
 use Rattle.traversal_run.proofs.source.Source.new.Goals as goal
@@ -122,3 +125,40 @@ returns-in_err-nodes-in-Found-clause-one g c _ _ = never_ok c.from_residual-in_e
 
 pub returns-in_err-left-in-Found-clause-one : goal.returns-in_err-left-in-Found-clause-one
 returns-in_err-left-in-Found-clause-one g c _ _ = never_ok c.from_residual-in_err-left-in-Found.result _ _ c.from_residual-in_err-left-in-Found.ensures.1
+
+pub returns-in_ok-left-in-Vertices-clause-owes : goal.returns-in_ok-left-in-Vertices-clause-owes
+returns-in_ok-left-in-Vertices-clause-owes g c = λ tells store.
+    let s = g.R.Reads.state c.args.space.now in
+    let left = c.in_ok-left-in-Vertices.left in
+    let mark = element_mark s.records false in
+    subst (λ (asked : Asked). left_count mark left ≤ asked_reads s.records asked) (sym c.in-Vertices.is) (vertices_few s.records c.in-Vertices.ids left
+    (subst (λ (ids : List ℕ). left_count mark left ≤ asked_count mark ids) c.as_slice.ensures (c.in_ok-left-in-Vertices.ensures.few mark)))
+
+pub returns-in_ok-left-in-Edges-clause-owes : goal.returns-in_ok-left-in-Edges-clause-owes
+returns-in_ok-left-in-Edges-clause-owes g c = λ tells store.
+    let s = g.R.Reads.state c.args.space.now in
+    let left = c.in_ok-left-in-Edges.left in
+    let mark = element_mark s.records true in
+    subst (λ (asked : Asked). left_count mark left ≤ asked_reads s.records asked) (sym c.in-Edges.is) (edges_few s.records c.in-Edges.ids left
+    (subst (λ (ids : List ℕ). left_count mark left ≤ asked_count mark ids) c.as_slice-in-Edges.ensures (c.in_ok-left-in-Edges.ensures.few mark)))
+
+pub returns-in_ok-left-in-Found-clause-owes : goal.returns-in_ok-left-in-Found-clause-owes
+returns-in_ok-left-in-Found-clause-owes g c = λ tells store.
+    let s = g.R.Reads.state c.args.space.now in
+    let left = c.in_ok-left-in-Found.left in
+    let mark = element_mark s.records false in
+    subst (λ (asked : Asked). left_count mark left ≤ asked_reads s.records asked) (sym c.in-Found.is) (found_few s.records c.in-Found.label c.in-Found.key
+    c.in-Found.value c.in_ok-nodes-in-Found.nodes.items left (c.in_ok-nodes-in-Found.ensures.found tells store)
+    (subst (λ (ids : List ℕ). left_count mark left ≤ length ids) c.deref.ensures.value (c.in_ok-left-in-Found.ensures.few mark)))
+
+pub returns-in_err-left-in-Vertices-clause-owes : goal.returns-in_err-left-in-Vertices-clause-owes
+returns-in_err-left-in-Vertices-clause-owes g c _ _ = never_ok c.from_residual.result _ _ c.from_residual.ensures.1
+
+pub returns-in_err-left-in-Edges-clause-owes : goal.returns-in_err-left-in-Edges-clause-owes
+returns-in_err-left-in-Edges-clause-owes g c _ _ = never_ok c.from_residual-in_err-left-in-Edges.result _ _ c.from_residual-in_err-left-in-Edges.ensures.1
+
+pub returns-in_err-nodes-in-Found-clause-owes : goal.returns-in_err-nodes-in-Found-clause-owes
+returns-in_err-nodes-in-Found-clause-owes g c _ _ = never_ok c.from_residual-in_err-nodes-in-Found.result _ _ c.from_residual-in_err-nodes-in-Found.ensures.1
+
+pub returns-in_err-left-in-Found-clause-owes : goal.returns-in_err-left-in-Found-clause-owes
+returns-in_err-left-in-Found-clause-owes g c _ _ = never_ok c.from_residual-in_err-left-in-Found.result _ _ c.from_residual-in_err-left-in-Found.ensures.1

@@ -1,19 +1,21 @@
-use Rattle.std.proofs.Common.{◌≡◌, ◌++◌, ◌+◌, false, ap, sym, ◌∙◌, subst, arith}
+use Rattle.std.proofs.Common.{◌≡◌, ◌++◌, ◌+◌, ℕ, false, ap, sym, ◌∙◌, subst, arith}
 use Rattle.std.proofs.lemmas.Result.{err_from_is_err_and}
 use Rattle.rec_bytes.specs.Space.{State}
 use Rattle.store_rules.specs.Graph.{graph_of}
 use Rattle.store_rules.specs.Rows.{option_list}
 use Rattle.traversal_run.specs.Finding.{element_at, element_mark}
 use Rattle.traversal_run.specs.Scan.{vertices_from}
-use Rattle.traversal_run.specs.Source.{HasNoneBelow, elements_left, left_of}
+use Rattle.traversal_run.specs.Source.{HasNoneBelow, elements_left, left_count, left_of}
 use Rattle.traversal_run.specs.declared.source.Source.{Source}
 use Rattle.traversal_run.proofs.Broken.{blamed_before}
 use Rattle.traversal_run.proofs.LeftRows.{gives-later, gives-some, left-none, left-takes}
 use Rattle.traversal_run.proofs.OnlyReads.{is_read-on, named-read}
 use Rattle.traversal_run.proofs.Scans.{scan_found}
+use Rattle.traversal_run.proofs.StepReads.{at_mark}
 use Rattle.traversal_run.proofs.Causes.{cause_passed}
 use Rattle.rec_bytes.proofs.Causes.{never_ok}
 use Rattle.traversal_run.proofs.source.Source.next.Goals as goal
+use Rattle.traversal_run.proofs.Spending.{spends_stop}
 
 pub returns-then-is_some-clause-vertex : goal.returns-then-is_some-clause-vertex
 returns-then-is_some-clause-vertex g c = λ at is.
@@ -65,6 +67,11 @@ loop-id-preserved g c =
           let later = v.1 in
           let before = v.3 in
           (v.0 + 1, omega arith, take.1, omega arith);
+      spent =
+          let one = c.element_at.ensures.reads in
+          let fewer = c.in-Some.ensures.fewer in
+          let before = c.loop-id.invariant.spent in
+          omega (arith, one, fewer, before);
       read = is_read-on space g.met.R.Reads.further_onward c.args.space.now c.loop-id.space c.element_at.new.space read c.element_at.ensures.read;
     }
 
@@ -104,3 +111,33 @@ returns-then-is_some-clause-unread g c =
 pub returns-in_err-item-clause-unread : goal.returns-in_err-item-clause-unread
 returns-in_err-item-clause-unread g c =
     λ over. absurd (let none = sym c.in-Some.is ∙ c.take_first.ensures.nothing (c.loop-id.invariant.over ∙ over) in cc)
+
+pub returns-then-is_some-clause-owes : goal.returns-then-is_some-clause-owes
+returns-then-is_some-clause-owes g c =
+    let space = g.R.Reads in
+    let s = space.state c.args.space.now in
+    let t = space.state c.element_at.new.space in
+    let one = c.element_at.ensures.reads in
+    let fewer = c.in-Some.ensures.fewer in
+    let before = c.loop-id.invariant.spent in
+    at_mark s.records c.args.mark t.reads s.reads c.loop-id.self.edges c.args.self.now.edges c.take_first.new.self c.args.self.now.left c.requires
+    c.loop-id.invariant.edges (omega (arith, one, fewer, before))
+
+pub returns-clause-owes : goal.returns-clause-owes
+returns-clause-owes g c =
+    let space = g.R.Reads in
+    let s = space.state c.args.space.now in
+    let t = space.state c.loop-id.space in
+    let same = ap (left_count c.args.mark) c.in_default.ensures.none.1 in
+    let before = c.loop-id.invariant.spent in
+    at_mark s.records c.args.mark t.reads s.reads c.loop-id.self.edges c.args.self.now.edges c.take_first.new.self c.args.self.now.left c.requires
+    c.loop-id.invariant.edges (omega (arith, same, before))
+
+pub returns-in_err-item-clause-owes : goal.returns-in_err-item-clause-owes
+returns-in_err-item-clause-owes g c =
+    let s = g.R.Reads.state c.args.space.now in
+    let one = c.element_at.ensures.reads in
+    let fewer = c.in-Some.ensures.fewer in
+    let before = c.loop-id.invariant.spent in
+    let mark = ap (λ (k : ℕ). left_count k c.args.self.now.left) c.requires in
+    spends_stop c.from_residual.result _ s (g.R.Reads.state c.element_at.new.space) _ _ c.from_residual.ensures.1 (omega (arith, one, fewer, before, mark))

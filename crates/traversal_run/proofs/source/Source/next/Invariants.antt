@@ -17,6 +17,7 @@ invariant-loop-id g l =
       unread : is_over l.fn.self.left ≡ true → l.space ≡ l.fn.space;
       vertex : (at : ℕ) → l.fn.self ≡ vertices_from at → (next : ℕ) × (at ≤ next) × (l.self.left ≡ From next)
           × ((g.R.Reads.state l.space).reads ≤ old.reads + (next - at));
+      spent : (g.R.Reads.state l.space).reads + left_count l.mark l.self.left ≤ old.reads + left_count l.mark l.fn.self.left;
       read : IsRead g.R.Reads l.fn.space l.space;
     }
 

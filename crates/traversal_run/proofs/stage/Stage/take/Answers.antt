@@ -1,9 +1,13 @@
-use Rattle.std.proofs.Common.{◌∙◌, ◌++◌, List, ap, arith, refl, sym}
+use Rattle.std.proofs.Common.{◌∙◌, ◌++◌, List, ap, arith, refl, sym, subst}
 use Rattle.std.specs.List.{filter_map}
 use Rattle.plain_graph.specs.Meaning.{ranked}
 use Rattle.plain_graph.specs.declared.item.Item.{Item}
+use Rattle.prop_store.specs.Reading.{ReadsAtMost}
+use Rattle.prop_store.proofs.ReadCounts.{reads_none}
 use Rattle.store_rules.specs.Graph.{graph_of}
+use Rattle.traversal_run.specs.Owing.{stage_reads}
 use Rattle.traversal_run.specs.Stage.{given_in_order, rank_in}
+use Rattle.traversal_run.specs.declared.stage.Stage.{Stage}
 use Rattle.traversal_run.proofs.KeptItems.{kept_rank, one_more_kept}
 use Rattle.traversal_run.proofs.Causes.{cause_passed, memory_cause}
 use Rattle.rec_bytes.proofs.Causes.{never_ok, ok_cause}
@@ -101,3 +105,42 @@ returns-in_ok-keep-in-Order-clause-takes g c tells store coming =
           (c.keep.new.self ++ filter_map (ranked graph c.in-Order.key) coming)) (sym c.new.ensures),
       refl,
     )
+
+pub returns-in-Limit-clause-reads : goal.returns-in-Limit-clause-reads
+returns-in-Limit-clause-reads g c = λ tells store.
+    let s = g.R.Reads.state c.args.space.now in
+    reads_none (stage_reads s.records c.args.self.now c.args.item) s
+
+pub returns-in_ok-outs-in-Dedup-clause-reads : goal.returns-in_ok-outs-in-Dedup-clause-reads
+returns-in_ok-outs-in-Dedup-clause-reads g c = λ tells store.
+    let s = g.R.Reads.state c.args.space.now in
+    reads_none (stage_reads s.records c.args.self.now c.args.item) s
+
+pub returns-in_err-outs-in-Dedup-clause-reads : goal.returns-in_err-outs-in-Dedup-clause-reads
+returns-in_err-outs-in-Dedup-clause-reads g c = λ tells store.
+    let s = g.R.Reads.state c.args.space.now in
+    reads_none (stage_reads s.records c.args.self.now c.args.item) s
+
+pub returns-in-Mapped-clause-reads : goal.returns-in-Mapped-clause-reads
+returns-in-Mapped-clause-reads g c = λ tells store.
+    let s = g.R.Reads.state c.args.space.now in
+    let t = g.R.Reads.state c.mapped.new.space in
+    subst (λ (stage : Stage). ReadsAtMost (stage_reads s.records stage c.args.item) s t) (sym c.in-Mapped.is) (c.mapped.ensures.reads tells store)
+
+pub returns-in_ok-keep-in-Order-clause-reads : goal.returns-in_ok-keep-in-Order-clause-reads
+returns-in_ok-keep-in-Order-clause-reads g c = λ tells store.
+    let s = g.R.Reads.state c.args.space.now in
+    let t = g.R.Reads.state c.rank.new.space in
+    subst (λ (stage : Stage). ReadsAtMost (stage_reads s.records stage c.args.item) s t) (sym c.in-Order.is) (c.in_ok-rank-in-Order.ensures.at_most)
+
+pub returns-in_err-keep-in-Order-clause-reads : goal.returns-in_err-keep-in-Order-clause-reads
+returns-in_err-keep-in-Order-clause-reads g c = λ tells store.
+    let s = g.R.Reads.state c.args.space.now in
+    let t = g.R.Reads.state c.rank.new.space in
+    subst (λ (stage : Stage). ReadsAtMost (stage_reads s.records stage c.args.item) s t) (sym c.in-Order.is) (c.in_ok-rank-in-Order.ensures.at_most)
+
+pub returns-in_err-rank-in-Order-clause-reads : goal.returns-in_err-rank-in-Order-clause-reads
+returns-in_err-rank-in-Order-clause-reads g c = λ tells store.
+    let s = g.R.Reads.state c.args.space.now in
+    let t = g.R.Reads.state c.rank.new.space in
+    subst (λ (stage : Stage). ReadsAtMost (stage_reads s.records stage c.args.item) s t) (sym c.in-Order.is) (c.in_err-rank-in-Order.ensures.at_most)
