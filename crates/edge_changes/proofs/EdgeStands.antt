@@ -49,7 +49,7 @@ edge_stays s t id from to mark number is = record {
 -- ---- it joins the chains of its ends
 
 -- none of the first numbers of a relationship is other
-rel_joined : (s : State) (head : Head) (node rel d : ℕ) → head.key.file ≢ format.relationships_file → (x n at : ℕ) → at + n ≤ 16
+pub rel_joined : (s : State) (head : Head) (node rel d : ℕ) → head.key.file ≢ format.relationships_file → (x n at : ℕ) → at + n ≤ 16
     → field n (rec_at (joined s head node rel d).records format.relationships_file x) at ≡ field n (rec_at s.records format.relationships_file x) at
 unfolding joined pushed
 rel_joined s head node rel d apart x n at low =
@@ -67,14 +67,17 @@ rel_joined s head node rel d apart x n at low =
     ∙ field-set_other back.records (next_place back.records node rel) old q n at (omega (arith, low)) (λ _. inl (omega (arith, low, to_next)))
     ∙ field-backed (after_get s) node old rel q n at (omega (arith, low)) (λ _. inl (omega (arith, low, to_back)))
 
+-- nor is the meta record of the relationships
+pub meta_joined : (s : State) (end : EdgeEnd) (rel : ℕ) → IsEdgeEnd end
+    → (end_joined s end rel).records (meta_key_of format.relationships_file) ≡ s.records (meta_key_of format.relationships_file)
+meta_joined s end rel is = record_joined s (head_of end.head) end.node rel _ (meta_key_of format.relationships_file) (λ e. omega arith)
+    (λ e. not_meta_key end.head.key.file end.head.key.id format.relationships_file is.own (sym e)) (λ e. let f = ap (λ (k : Key). k.file) e in omega arith)
+
 end_stands : (s : State) (end : EdgeEnd) (rel : ℕ) → IsEdgeEnd end → (id from to : ℕ) → IsEdgeBetween s.records id from to
     → IsEdgeBetween (end_joined s end rel).records id from to
 end_stands s end rel is id from to stands =
     edge_stays s.records (end_joined s end rel).records id from to
-    (ap (λ r. (metas.meta_of r).high) (record_joined s (head_of end.head) end.node rel _ (meta_key_of format.relationships_file) (λ e. omega arith)
-    (λ e. not_meta_key end.head.key.file end.head.key.id format.relationships_file is.own (sym e))
-    (λ e. let f = ap (λ (k : Key). k.file) e in omega arith)))
-    (rel_joined s (head_of end.head) end.node rel _ is.head.place.elsewhere id) stands
+    (ap (λ r. (metas.meta_of r).high) (meta_joined s end rel is)) (rel_joined s (head_of end.head) end.node rel _ is.head.place.elsewhere id) stands
 
 pub ends_stand : (s t : State) (ends : Ends EdgeEnd) (rel : ℕ) → AtEach IsEdgeEnd ends → t ≡ ends_joined s ends rel → (id from to : ℕ)
     → IsEdgeBetween s.records id from to → IsEdgeBetween t.records id from to
@@ -87,10 +90,13 @@ ends_stand s t ends rel each is id from to stands =
 
 -- ---- it gets its properties
 
+pub meta_owned : (s t : State) (id : ℕ) → LeavesElement s t (owner_of (targets.Edge id))
+    → t.records (meta_key_of format.relationships_file) ≡ s.records (meta_key_of format.relationships_file)
+meta_owned s t id left = left.others (meta_key_of format.relationships_file) (λ e. omega arith) (λ e. omega arith)
+    (λ e. let f = ap (λ (k : Key). k.id) e in omega arith) (λ e. let f = ap (λ (k : Key). k.id) e in omega arith)
+    (λ e. let f = ap (λ (k : Key). k.file) e in omega arith)
+
 pub owner_stands : (s t : State) (id from to : ℕ) → LeavesElement s t (owner_of (targets.Edge id)) → IsEdgeBetween s.records id from to
     → IsEdgeBetween t.records id from to
-owner_stands s t id from to left stands = edge_stays s.records t.records id from to
-    (ap (λ r. (metas.meta_of r).high) (left.others (meta_key_of format.relationships_file) (λ e. omega arith) (λ e. omega arith)
-    (λ e. let f = ap (λ (k : Key). k.id) e in omega arith) (λ e. let f = ap (λ (k : Key). k.id) e in omega arith)
-    (λ e. let f = ap (λ (k : Key). k.file) e in omega arith)))
+owner_stands s t id from to left stands = edge_stays s.records t.records id from to (ap (λ r. (metas.meta_of r).high) (meta_owned s t id left))
     (λ n at low. left.own n at (omega (arith, low)) (inl (omega (arith, low)))) stands

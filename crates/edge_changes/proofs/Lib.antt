@@ -22,6 +22,7 @@ pub mod EndLaws
 pub mod EndWrites
 pub mod EndsFound
 pub mod FileDamages
+pub mod FreeEdges
 pub mod HeadsFound
 pub mod JoinBlames
 pub mod JoinWrites

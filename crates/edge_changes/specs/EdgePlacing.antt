@@ -4,10 +4,12 @@ use Rattle.plain_graph.specs.Graph.{edge_number, has_edge, has_node, with_row}
 use Rattle.plain_graph.specs.Properties.{no_properties}
 use Rattle.rec_bytes.specs.Format as format
 use Rattle.rec_bytes.specs.Record.{field}
-use Rattle.rec_bytes.specs.Space.{State, meta_of}
+use Rattle.rec_bytes.specs.Space.{State, meta_in, meta_of}
+use Rattle.id_freelist.specs.FreeLists.{IsFreeList}
+use Rattle.id_freelist.specs.Taking.{mark_after, rest_of}
 use Rattle.store_rules.specs.Ends.{IsEndHead}
-use Rattle.store_rules.specs.Rules.{Head, first_of}
-use Rattle.store_rules.specs.Views.{Records, RelRow, kind_at, rec_at, rel_at}
+use Rattle.store_rules.specs.Rules.{Head, first_of, next_free}
+use Rattle.store_rules.specs.Views.{Records, RelRow, high, kind_at, rec_at, rel_at}
 use Rattle.group_store.specs.Opening.{IsCountedHead}
 use Rattle.change_parts.specs.Store.{IsMidway, KeepsIndexes, graph_in}
 
@@ -67,3 +69,17 @@ pub record PutsEdge (s t : State) (names : List (List ℕ)) (from : ℕ) (label 
   pub first : IsFirst t.records id from to
   pub metas : (file : ℕ) → file ≢ format.relationships_file → file ≢ format.groups_file
       → meta_of t file ≡ meta_of s file
+
+-- ---- which identifiers are free
+
+-- The free list of the relationships and their mark are as they were.
+pub record KeepsFreeEdges (s t : Records) : Type 0 where
+  pub meta : meta_in t format.relationships_file ≡ meta_in s format.relationships_file
+  pub next : (x : ℕ) → next_free t format.relationships_file x
+      ≡ next_free s format.relationships_file x
+
+-- The first identifier on the file's free list was taken, or else the mark. The others are free
+-- still, in the same order.
+abbrev pub TakesFirst : Records → Records → ℕ → Type 0
+TakesFirst old new file = (free : List ℕ) → IsFreeList old file free
+    → IsFreeList new file (rest_of free) × (high new file ≡ mark_after free (high old file))

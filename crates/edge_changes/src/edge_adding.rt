@@ -1,5 +1,5 @@
 ghost use Rattle.std.specs.Prelude.{◌≡◌, ◌≤◌, ◌<◌, ◌++◌, ◌+◌, ◌-◌, ◌*◌, ◌∷◌, ◌⊎◌, ℕ, List};
-ghost use Rattle.std.specs.Prelude.{IfErr, IfOk, IsErr, OnErr, length};
+ghost use Rattle.std.specs.Prelude.{IfErr, IfOk, IsErr, OnErr, OnOk, length};
 ghost use Rattle.plain_graph.specs.Changes.{most_weight, properties_weight, start_weight};
 ghost use Rattle.plain_graph.specs.Graph.{UsesNames};
 ghost use Rattle.plain_graph.specs.Lines.{HasForm};
@@ -21,7 +21,7 @@ ghost use Rattle.edge_changes.specs.EdgeAdding.{degree_weight, degrees_weight};
 ghost use Rattle.edge_changes.specs.EdgeAdding.{HasEndDegree, IsNodeEnd, IsUsedEnd, LeadFrom};
 ghost use Rattle.edge_changes.specs.EdgeEnds.{AtEach};
 ghost use Rattle.edge_changes.specs.EdgeOpening.{ends_moved};
-ghost use Rattle.edge_changes.specs.EdgePlacing.{IsEdgeBetween, IsFirst};
+ghost use Rattle.edge_changes.specs.EdgePlacing.{IsEdgeBetween, IsFirst, TakesFirst};
 ghost use Rattle.change_parts.specs.Degrees.{HasDegree};
 ghost use Rattle.change_parts.specs.Owners.{IsAbsent};
 ghost use Rattle.change_parts.specs.Store.{IsMidway, IsStore, graph_in};
@@ -50,6 +50,9 @@ pub fn add_edge<S: Space>(
     // its identifier is the free one that was given back last, or else the mark
     ensures taken { S.tells → IfOk result (λ added.
         added.id ≡ taken_id (meta_of (S.state space.old) relationships_file)) }
+    // the other free ones are free still, and the mark is past it
+    ensures free { S.tells → OnOk result (TakesFirst
+        (S.state space.old).records (S.state space.new).records relationships_file) }
     // whatever the records are, it is in use, and leads from one node to the other
     ensures stands { S.tells → IfOk result (λ added.
         IsEdgeBetween (S.state space.new).records added.id from to) }

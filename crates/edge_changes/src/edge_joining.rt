@@ -33,7 +33,7 @@ ghost use Rattle.edge_changes.specs.EdgeJoining.{AreRightFirsts, BlamesEndJoined
 ghost use Rattle.edge_changes.specs.EdgeJoining.{CanJoin, IsOfLost, KeepsBesideEnd};
 ghost use Rattle.edge_changes.specs.EdgeJoining.{HasPlaced, WritesJoined};
 ghost use Rattle.edge_changes.specs.EdgeJoining.{end_joined, ends_joined, joined_keys, new_row};
-ghost use Rattle.edge_changes.specs.EdgePlacing.{IsEdgeBetween, PutsEdge};
+ghost use Rattle.edge_changes.specs.EdgePlacing.{IsEdgeBetween, PutsEdge, TakesFirst};
 ghost use Rattle.change_parts.specs.Rooms.{HasRoom};
 
 use crate::edge_end::{EdgeEnd, Ends};
@@ -73,6 +73,8 @@ pub(crate) fn join_edge<S: Space>(
         (IsOfLost (S.state space.old) ends))) }
     ensures stands { S.tells → IfOk result (λ id. IsEdgeBetween (S.state space.new).records id
         (source_of ends).node (target_of ends).node) }
+    ensures free { S.tells → OnOk result (TakesFirst
+        (S.state space.old).records (S.state space.new).records relationships_file) }
     ensures key { IfOk result (λ id. IsKey (key_in relationships_file id)) }
     ensures writes { IfOk result (λ id.
         WritesJoined (S.state space.old) (S.state space.new) id ends) }

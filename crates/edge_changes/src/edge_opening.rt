@@ -17,6 +17,7 @@ ghost use Rattle.edge_changes.specs.EdgeEnds.{source_of, target_of};
 ghost use Rattle.edge_changes.specs.EdgeOpening.{CanLink, IsJoint, KeepsHead, OpensEnds};
 ghost use Rattle.edge_changes.specs.EdgeOpening.{WritesEndsOpened};
 ghost use Rattle.edge_changes.specs.EdgeOpening.{ends_moved, from_of, to_of};
+ghost use Rattle.edge_changes.specs.EdgePlacing.{KeepsFreeEdges};
 ghost use Rattle.change_parts.specs.Rooms.{HasRoom};
 ghost use Rattle.rec_bytes.specs.Format.{groups_file, nodes_file, relationships_file};
 ghost use Rattle.rec_bytes.specs.RecordFiles.{meta_key_of};
@@ -45,6 +46,8 @@ pub(crate) fn open_ends<S: Space>(space: &mut S, joint: Joint) -> Result<Ends<Ed
     ensures meta_record { S.tells
         → OnOk result ((S.state space.new).records (meta_key_of relationships_file)
         ≡ (S.state space.old).records (meta_key_of relationships_file)) }
+    ensures free { S.tells → OnOk result
+        (KeepsFreeEdges (S.state space.old).records (S.state space.new).records) }
     ensures files { S.tells
         → OnOk result (HarmsNoFiles (S.state space.old) (S.state space.new)) }
     ensures leaves { S.tells → OnOk result

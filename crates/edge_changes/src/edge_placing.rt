@@ -16,7 +16,7 @@ ghost use Rattle.edge_changes.specs.EdgeAdding.{BlamesChains, KeepsButChains, gr
 ghost use Rattle.edge_changes.specs.EdgeAdding.{HasEndDegree, IsUsedEnd, IsUsedNode};
 ghost use Rattle.edge_changes.specs.EdgeEnds.{AtEach};
 ghost use Rattle.edge_changes.specs.EdgeOpening.{IsJoint, ends_moved, from_of, to_of};
-ghost use Rattle.edge_changes.specs.EdgePlacing.{IsEdgeBetween, PutsEdge};
+ghost use Rattle.edge_changes.specs.EdgePlacing.{IsEdgeBetween, PutsEdge, TakesFirst};
 ghost use Rattle.change_parts.specs.Degrees.{HasDegree};
 ghost use Rattle.change_parts.specs.Owners.{IsAbsent, IsMissing};
 ghost use Rattle.change_parts.specs.Rooms.{HasRoom};
@@ -78,6 +78,8 @@ pub(crate) fn put_edge<S: Space>(space: &mut S, joint: Joint) -> Result<u32, Cha
         (from_of joint) (to_of joint)) }
     ensures stands { S.tells → IfOk result (λ id. IsEdgeBetween (S.state space.new).records id
         (from_of joint) (to_of joint)) }
+    ensures free { S.tells → OnOk result (TakesFirst
+        (S.state space.old).records (S.state space.new).records relationships_file) }
     ensures key { IfOk result (λ id. IsKey (key_in relationships_file id)) }
     ensures writes { IfOk result (λ id. WritesBeside (rel_key id)
         (8 + ends_moved joint.threshold joint.ends) (S.state space.old) (S.state space.new)) }

@@ -47,6 +47,7 @@ use Rattle.change_parts.proofs.Broken.{blames_more}
 use Rattle.edge_changes.proofs.EdgeFound.{broken_added, chains_added, chains_harm_no_lists, lists_added, read_names}
 use Rattle.edge_changes.proofs.JoinBlames.{absent_blamed, room_beyond, used_beyond, used_read}
 use Rattle.rec_bytes.proofs.Causes.{never_ok, ok_cause}
+use Rattle.edge_changes.proofs.FreeEdges.{free_then, names_free, owner_frees, read_frees, taken_after, taken_before}
 use Rattle.edge_changes.proofs.edge_adding.add_edge.Goals as goal
 use Rattle.edge_changes.proofs.edge_adding.add_edge.Goals.{After-put_properties, In_err-ends, In_err-id}
 use Rattle.edge_changes.proofs.edge_adding.add_edge.Goals.{In_err-put_properties, In_ok-ends, In_ok-id, In_ok-prepared}
@@ -792,3 +793,31 @@ returns-in_err-id-clause-stands g c _ = never_ok c.from_residual-in_err-id.resul
 
 pub returns-in_err-put_properties-clause-stands : goal.returns-in_err-put_properties-clause-stands
 returns-in_err-put_properties-clause-stands g c _ = never_ok c.from_residual-in_err-put_properties.result _ _ c.from_residual-in_err-put_properties.ensures.1
+
+-- ---- which identifiers are free
+pub returns-clause-free : goal.returns-clause-free
+returns-clause-free g c tells =
+    let s = (g.S.Reads.state c.args.space.now).records in
+    let n = g.S.Reads.state c.end_degrees.new.space in
+    let u = g.S.Reads.state c.prepare.new.space in
+    let v = g.S.Reads.state c.put_edge.new.space in
+    let w = g.S.Reads.state c.put_properties.new.space in
+    let left = subst (LeavesElement v w) c.edge_owner.ensures (c.in_ok-put_properties.ensures.leaves tells) in
+    taken_before s v.records w.records (taken_after s u.records v.records (free_then s n.records u.records
+    (read_frees (g.S.Reads.state c.args.space.now) n c.end_degrees.ensures.state) (names_free n u (c.in_ok-prepared.ensures.stays tells)))
+    (c.in_ok-id.ensures.free tells)) (owner_frees v w c.in_ok-id.id left)
+
+pub returns-in_err-ends-clause-free : goal.returns-in_err-ends-clause-free
+returns-in_err-ends-clause-free g c _ = never_ok c.from_residual.result _ _ c.from_residual.ensures.1
+
+pub returns-in_err-test_room-clause-free : goal.returns-in_err-test_room-clause-free
+returns-in_err-test_room-clause-free g c _ = never_ok c.from_residual-in_err-test_room.result _ _ c.from_residual-in_err-test_room.ensures.1
+
+pub returns-in_err-prepared-clause-free : goal.returns-in_err-prepared-clause-free
+returns-in_err-prepared-clause-free g c _ = never_ok c.from_residual-in_err-prepared.result _ _ c.from_residual-in_err-prepared.ensures.1
+
+pub returns-in_err-id-clause-free : goal.returns-in_err-id-clause-free
+returns-in_err-id-clause-free g c _ = never_ok c.from_residual-in_err-id.result _ _ c.from_residual-in_err-id.ensures.1
+
+pub returns-in_err-put_properties-clause-free : goal.returns-in_err-put_properties-clause-free
+returns-in_err-put_properties-clause-free g c _ = never_ok c.from_residual-in_err-put_properties.result _ _ c.from_residual-in_err-put_properties.ensures.1

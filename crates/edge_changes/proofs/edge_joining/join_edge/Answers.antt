@@ -17,6 +17,7 @@ use Rattle.change_parts.proofs.Broken.{blames_more}
 use Rattle.edge_changes.specs.EdgeAdding.{IsChainDamage, KeepsButChains}
 use Rattle.edge_changes.specs.EdgeEnds.{source_of, target_of}
 use Rattle.edge_changes.proofs.EdgeFound.{chain_more, found_then, placed_then}
+use Rattle.edge_changes.proofs.FreeEdges.{ends_free, placed_takes, taken_before}
 use Rattle.edge_changes.proofs.edge_joining.join_edge.Goals as goal
 
 pub returns-in_err-id-clause-sound : goal.returns-in_err-id-clause-sound
@@ -158,3 +159,19 @@ returns-in_err-id-clause-stands g c _ = never_ok c.from_residual.result _ _ c.fr
 
 pub returns-in_err-join_ends-clause-stands : goal.returns-in_err-join_ends-clause-stands
 returns-in_err-join_ends-clause-stands g c _ = never_ok c.from_residual-in_err-join_ends.result _ _ c.from_residual-in_err-join_ends.ensures.1
+
+-- ---- which relationships are free
+pub returns-clause-free : goal.returns-clause-free
+returns-clause-free g c tells =
+    let s = g.S.Reads.state c.args.space.now in
+    let t = g.S.Reads.state c.place.new.space in
+    let u = g.S.Reads.state c.join_ends.new.space in
+    let id = c.in_ok-id.id in
+    taken_before s.records t.records u.records (placed_takes s t c.args.label _ _ id (c.in_ok-id.ensures.placed tells))
+    (ends_free t u c.args.ends id c.requires.each (c.in_ok-join_ends.ensures.ok tells))
+
+pub returns-in_err-id-clause-free : goal.returns-in_err-id-clause-free
+returns-in_err-id-clause-free g c _ = never_ok c.from_residual.result _ _ c.from_residual.ensures.1
+
+pub returns-in_err-join_ends-clause-free : goal.returns-in_err-join_ends-clause-free
+returns-in_err-join_ends-clause-free g c _ = never_ok c.from_residual-in_err-join_ends.result _ _ c.from_residual-in_err-join_ends.ensures.1

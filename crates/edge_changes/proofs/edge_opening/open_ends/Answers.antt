@@ -28,6 +28,7 @@ use Rattle.edge_changes.proofs.EdgeFound.{end_blames, ends_found, found_then, ot
 use Rattle.edge_changes.proofs.HeadsFound.{kept_after, kept_before}
 use Rattle.edge_changes.proofs.FileDamages.{files_beside, files_then}
 use Rattle.rec_bytes.proofs.Causes.{never_ok}
+use Rattle.edge_changes.proofs.FreeEdges.{free_then, head_frees}
 use Rattle.edge_changes.proofs.edge_opening.open_ends.Goals as goal
 use Rattle.edge_changes.proofs.edge_opening.open_ends.Goals.{In_ok-first-in-Two}
 use Rattle.edge_changes.proofs.edge_opening.open_ends.Given.{Over}
@@ -391,3 +392,26 @@ returns-in_err-first-in-Two-clause-room g c _ = never_ok c.from_residual-in_err-
 
 pub returns-in_err-last-in-Two-clause-room : goal.returns-in_err-last-in-Two-clause-room
 returns-in_err-last-in-Two-clause-room g c _ = never_ok c.from_residual-in_err-last-in-Two.result _ _ c.from_residual-in_err-last-in-Two.ensures.1
+
+-- ---- which relationships are free
+
+pub returns-in_ok-only-in-Loop-clause-free : goal.returns-in_ok-only-in-Loop-clause-free
+returns-in_ok-only-in-Loop-clause-free g c tells =
+    head_frees (g.S.Reads.state c.args.space.now) (g.S.Reads.state c.open_end.new.space) c.in-Loop.end.node (c.in_ok-only-in-Loop.ensures.leaves_others tells)
+
+pub returns-in_ok-last-in-Two-clause-free : goal.returns-in_ok-last-in-Two-clause-free
+returns-in_ok-last-in-Two-clause-free g c tells =
+    let s = g.S.Reads.state c.args.space.now in
+    let t = g.S.Reads.state c.open_end-in-Two.new.space in
+    let u = g.S.Reads.state c.open_end-in-Two-2.new.space in
+    free_then s.records t.records u.records (head_frees s t c.in-Two.source.node (c.in_ok-first-in-Two.ensures.leaves_others tells))
+    (head_frees t u c.in-Two.target.node (c.in_ok-last-in-Two.ensures.leaves_others tells))
+
+pub returns-in_err-only-in-Loop-clause-free : goal.returns-in_err-only-in-Loop-clause-free
+returns-in_err-only-in-Loop-clause-free g c _ = never_ok c.from_residual.result _ _ c.from_residual.ensures.1
+
+pub returns-in_err-first-in-Two-clause-free : goal.returns-in_err-first-in-Two-clause-free
+returns-in_err-first-in-Two-clause-free g c _ = never_ok c.from_residual-in_err-first-in-Two.result _ _ c.from_residual-in_err-first-in-Two.ensures.1
+
+pub returns-in_err-last-in-Two-clause-free : goal.returns-in_err-last-in-Two-clause-free
+returns-in_err-last-in-Two-clause-free g c _ = never_ok c.from_residual-in_err-last-in-Two.result _ _ c.from_residual-in_err-last-in-Two.ensures.1

@@ -11,7 +11,7 @@ use Rattle.group_store.proofs.OwnGroups.{if_ok}
 use Rattle.change_parts.specs.ChangeFault.{IsOutside}
 use Rattle.edge_changes.specs.EdgeEnds.{AtEach, source_of}
 use Rattle.edge_changes.specs.EdgeOpening.{ends_moved, from_of, to_of}
-use Rattle.edge_changes.specs.EdgePlacing.{IsEdgeBetween, PutsEdge}
+use Rattle.edge_changes.specs.EdgePlacing.{IsEdgeBetween, PutsEdge, TakesFirst}
 use Rattle.change_parts.specs.Store.{IsMidway}
 use Rattle.edge_changes.proofs.EdgeOpened.{puts_through}
 use Rattle.change_parts.proofs.ElementRooms.{room_still}
@@ -29,6 +29,7 @@ use Rattle.edge_changes.specs.EdgeJoining.{IsOfLost}
 use Rattle.edge_changes.specs.EdgeEnds.{target_of}
 use Rattle.edge_changes.proofs.EdgeFound.{chain_more, chain_then, found_then, lost_ends, lost_kept, marks_kept, on_ok}
 use Rattle.rec_bytes.proofs.Causes.{never_ok}
+use Rattle.edge_changes.proofs.FreeEdges.{taken_after}
 use Rattle.edge_changes.proofs.edge_placing.put_edge.Goals as goal
 
 pub returns-in_err-ends-clause-sound : goal.returns-in_err-ends-clause-sound
@@ -185,3 +186,15 @@ returns-clause-stands g c tells =
 
 pub returns-in_err-ends-clause-stands : goal.returns-in_err-ends-clause-stands
 returns-in_err-ends-clause-stands g c _ = never_ok c.from_residual.result _ _ c.from_residual.ensures.1
+
+-- ---- which relationships are free
+pub returns-clause-free : goal.returns-clause-free
+returns-clause-free g c tells =
+    let s = g.S.Reads.state c.args.space.now in
+    let t = g.S.Reads.state c.open_ends.new.space in
+    let u = g.S.Reads.state c.join_edge.new.space in
+    on_ok c.join_edge.result (TakesFirst t.records u.records format.relationships_file) (TakesFirst s.records u.records format.relationships_file)
+    (taken_after s.records t.records u.records (c.in_ok-ends.ensures.free tells)) (c.join_edge.ensures.free tells)
+
+pub returns-in_err-ends-clause-free : goal.returns-in_err-ends-clause-free
+returns-in_err-ends-clause-free g c _ = never_ok c.from_residual.result _ _ c.from_residual.ensures.1
