@@ -1,3 +1,4 @@
 pub mod Meeting
+pub mod NewIds
 pub mod Parts
 pub mod Spreading

@@ -7,8 +7,6 @@ use Rattle.plain_graph.specs.Refusals.{FirstReason, change_reasons}
 use Rattle.plain_graph.specs.Reply.{Reply}
 use Rattle.plain_graph.specs.declared.command.Command.{Command}
 use Rattle.plain_graph.specs.declared.command.Command.TheVariants as commands
-use Rattle.plain_graph.specs.declared.command.Target.{Target}
-use Rattle.plain_graph.specs.declared.command.Target.TheVariants as targets
 use Rattle.plain_graph.specs.declared.item.Item.{Item}
 use Rattle.plain_graph.specs.declared.item.Item.TheVariants as items
 use Rattle.plain_graph.specs.declared.pairs.Pair.{Pair}
@@ -26,8 +24,7 @@ use Rattle.change_parts.specs.declared.change_fault.ChangeFault.TheVariants.{Too
 use Rattle.change_parts.specs.declared.change_fault.ChangeFault.TheVariants.{NamesFull, PropsFull, Memory, Disk, Damaged}
 use Rattle.change_parts.proofs.Exits.{fault_exit}
 use Rattle.change_parts.specs.Causes.{IsCausedAfter}
-use Rattle.change_parts.specs.Damage.{BlamesBroken}
-use Rattle.graph_ops.specs.Mutating.{BlamesDeletion, IsListCaused, IsListRefusal, MakesChanges, MakesList}
+use Rattle.graph_ops.specs.Mutating.{IsListCaused, IsListRefusal, MakesChanges, MakesList}
 use Rattle.graph_ops.specs.Mutating.{MakesMutation, MakesPart, any_replies, most_drafted, most_told}
 use Rattle.plain_graph.specs.Mutations.{MakesEach, RefusesEach, changes_of, elements_of, new_elements, targets_once, vertex_id}
 use Rattle.plain_graph.specs.declared.mutation.Mutation.TheVariants as mutations
@@ -216,15 +213,6 @@ list_caused xs ys zs all t b m now fault is grown (inr why) =
       held = why.held ∙ ap (λ (l : List (List ℕ)). l ++ why.rest) names;
       caused = subst (λ (l : List (List ℕ)). IsCausedAfter why.command t l now fault) names why.caused;
     })
-
--- want of memory blames no record
-pub memory_blames : (s t : State) (target : Target) (fault : ChangeFault) → fault ≡ Memory → BlamesDeletion s t target fault
-memory_blames s t (targets.Node id) fault is = subst (BlamesDeletion s t (targets.Node id)) (sym is) tt
-memory_blames s t (targets.Edge id) fault is = subst (BlamesDeletion s t (targets.Edge id)) (sym is) tt
-
--- nor does it in the space as it is left
-pub memory_breaks : (t : State) (fault : ChangeFault) → fault ≡ Memory → BlamesBroken t fault
-memory_breaks t fault is = subst (BlamesBroken t) (sym is) tt
 
 -- ---- a loop over a list that is asked for part by part
 

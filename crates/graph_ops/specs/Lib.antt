@@ -1,2 +1,4 @@
 pub mod Distinct
+pub mod MutateFault
 pub mod Mutating
+pub mod NewIds

@@ -4,8 +4,6 @@ use Rattle.plain_graph.specs.Graph.{Graph}
 use Rattle.plain_graph.specs.Reply.{Reply}
 use Rattle.plain_graph.specs.declared.command.Command.{Command}
 use Rattle.plain_graph.specs.declared.command.Command.TheVariants as commands
-use Rattle.plain_graph.specs.declared.command.Target.{Target}
-use Rattle.plain_graph.specs.declared.command.Target.TheVariants as targets
 use Rattle.plain_graph.specs.declared.item.Item.{Item}
 use Rattle.plain_graph.specs.declared.refusal.Refusal.{Refusal}
 use Rattle.plain_graph.specs.declared.refusal.Refusal.TheVariants as refusals
@@ -13,7 +11,6 @@ use Rattle.rec_bytes.specs.Space.{State}
 use Rattle.store_rules.specs.Writes.{WritesAtMost}
 use Rattle.change_parts.specs.Causes.{IsCausedAfter}
 use Rattle.change_parts.specs.Change.{full_of}
-use Rattle.change_parts.specs.Damage.{BlamesBroken, BlamesEntries}
 use Rattle.change_parts.specs.Store.{IsStore, graph_in}
 use Rattle.change_parts.specs.declared.change_fault.ChangeFault.{ChangeFault}
 use Rattle.change_parts.specs.declared.change_fault.ChangeFault.TheVariants.{NoNode, NoEdge}
@@ -135,8 +132,3 @@ abbrev pub IsListCaused
     : List Command → State → List (List ℕ) → List (List ℕ) → ChangeFault → Type 0
 IsListCaused commands t names now fault =
     (fault ≡ Memory) ⊎ IsListCause commands t names now fault
-
--- what is so of a record that is blamed where this element is taken away
-abbrev pub BlamesDeletion : State → State → Target → ChangeFault → Type 0
-BlamesDeletion s t (targets.Node id) fault = BlamesEntries s t fault
-BlamesDeletion s t (targets.Edge id) fault = BlamesBroken s fault

@@ -3,9 +3,11 @@
 #![tactic(auto)]
 
 mod distinct;
+mod mutate_fault;
 mod mutating;
 
 pub use change_parts::{Added, ChangeFault};
 pub use edge_changes::{add_edge, delete_edge};
+pub use mutate_fault::MutateFault;
 pub use mutating::{Mutated, mutate};
 pub use node_changes::{add_node, delete_node, index, set, unset};

@@ -4,21 +4,25 @@ ghost use Rattle.std.specs.List.{AllByRecursion};
 ghost use Rattle.plain_graph.specs.Forms.{ArePairs, HasMutationForm, IsShown};
 ghost use Rattle.plain_graph.specs.Names.{IsShortName};
 ghost use Rattle.plain_graph.specs.declared.command.Command.TheVariants as commands;
+ghost use Rattle.rec_bytes.specs.Format.{nodes_file, relationships_file};
+ghost use Rattle.rec_bytes.specs.Space.{meta_of};
 ghost use Rattle.store_rules.specs.Writes.{WritesAtMost};
+ghost use Rattle.id_freelist.specs.Taking.{taken_id};
 ghost use Rattle.change_parts.specs.Change.{IsRefusal};
 ghost use Rattle.change_parts.specs.ChangeFault.{HasChangeCause};
 ghost use Rattle.change_parts.specs.Store.{IsStore, graph_in};
 ghost use Rattle.change_parts.specs.Causes.{IsCausedAfter};
-ghost use Rattle.change_parts.specs.Damage.{BlamesBroken};
-ghost use Rattle.graph_ops.specs.Mutating.{BlamesDeletion, IsListCaused, IsListRefusal};
+ghost use Rattle.graph_ops.specs.MutateFault.{BlamesNone, HasMutateCause, IfRefused};
+ghost use Rattle.graph_ops.specs.MutateFault.{IsMutateRefusal};
+ghost use Rattle.graph_ops.specs.Mutating.{IsListCaused, IsListRefusal};
 ghost use Rattle.graph_ops.specs.Mutating.{MakesMutation, MakesPart};
 ghost use Rattle.graph_ops.specs.Mutating.{any_replies, command_from, most_drafted, most_told};
 ghost use Rattle.graph_ops.specs.Mutating.{steps_for};
-ghost use Rattle.plain_graph.specs.Mutations.{changes_of, deletions, elements_of, new_elements};
-ghost use Rattle.plain_graph.specs.Mutations.{settings, targets_once};
-ghost use Rattle.plain_graph.specs.declared.command.Target.{Target};
+ghost use Rattle.graph_ops.specs.NewIds.{GetsFreeIds, ShowsIds};
+ghost use Rattle.plain_graph.specs.Mutations.{changes_of, deletions, new_elements, settings};
 ghost use Rattle.plain_graph.specs.declared.mutation.Mutation.TheVariants as mutations;
 
+use crate::MutateFault;
 use crate::distinct::distinct_elements;
 use change_parts::{Added, ChangeFault};
 use edge_changes::{add_edge, delete_edge};
@@ -59,6 +63,46 @@ pub fn mutate<S: Space>(
     names: &mut Names,
     items: Vec<Item>,
     mutation: &Mutation,
+) -> Result<Mutated, MutateFault>
+    requires { HasMutationForm mutation.now }
+    ensures made { S.tells → IfOk result (λ mutated. IsStore (S.state space.old) names.old.names
+        → MakesMutation mutation.now items.items mutated.items.items mutated.weight
+        (S.state space.old) (S.state space.new) names.new.names) }
+    ensures refused { S.tells → IsStore (S.state space.old) names.old.names
+        → IfErr result (IsMutateRefusal (S.state space.old).shape.limit
+        (graph_in (S.state space.old)) (changes_of mutation.now items.items)) }
+    // its new elements have the identifiers of the free list, and then those from the mark on
+    ensures ids { S.tells → IfOk result (λ mutated.
+        GetsFreeIds mutation.now mutated.items.items (S.state space.old).records) }
+    // What it shows has a line where the results have.
+    ensures shown { AllByRecursion IsShown items.items
+        → IfOk result (λ mutated. AllByRecursion IsShown mutated.items.items) }
+    ensures few { IfOk result (λ mutated. mutated.weight ≤ 4096) }
+    ensures writes { IfOk result (λ mutated. mutated.weight < 4096
+        → WritesAtMost mutated.weight (S.state space.old) (S.state space.new)) }
+    ensures prefix { (rest : List (List ℕ)) × (names.new.names ≡ names.old.names ++ rest) }
+    ensures caused_after { S.tells → IfErr result (IfRefused (IsListCaused
+        (changes_of mutation.now items.items)
+        (S.state space.new) names.old.names names.new.names)) }
+    // A refusal names no damaged record.
+    ensures unnamed { IfErr result (IfRefused BlamesNone) }
+    ensures onward { S.onward space.old space.new }
+    ensures cause { HasMutateCause (S.faults space.old) (S.faults space.new) result }
+{
+    match make_changes(alloc, space, names, items, mutation) {
+        Ok(mutated) => Ok(mutated),
+        Err(ChangeFault::Damaged(_)) => Err(MutateFault::Damaged),
+        Err(fault) => Err(MutateFault::Refused(fault)),
+    }
+}
+
+/// Makes the changes, one after the other. A record that is called damaged may have been changed.
+fn make_changes<S: Space>(
+    alloc: Global,
+    space: &mut S,
+    names: &mut Names,
+    items: Vec<Item>,
+    mutation: &Mutation,
 ) -> Result<Mutated, ChangeFault>
     requires { HasMutationForm mutation.now }
     ensures made { S.tells → IfOk result (λ mutated. IsStore (S.state space.old) names.old.names
@@ -67,7 +111,8 @@ pub fn mutate<S: Space>(
     ensures refused { S.tells → IsStore (S.state space.old) names.old.names
         → IfErr result (IsListRefusal (S.state space.old).shape.limit
         (graph_in (S.state space.old)) (changes_of mutation.now items.items)) }
-    // What it shows has a line where the results have.
+    ensures ids { S.tells → IfOk result (λ mutated.
+        GetsFreeIds mutation.now mutated.items.items (S.state space.old).records) }
     ensures shown { AllByRecursion IsShown items.items
         → IfOk result (λ mutated. AllByRecursion IsShown mutated.items.items) }
     ensures few { IfOk result (λ mutated. mutated.weight ≤ 4096) }
@@ -77,12 +122,6 @@ pub fn mutate<S: Space>(
     ensures caused_after { S.tells → IfErr result (IsListCaused
         (changes_of mutation.now items.items)
         (S.state space.new) names.old.names names.new.names) }
-    // What a deletion is blamed for is so in the space as it is left.
-    ensures blamed { S.tells → mutation.now ≡ mutations.Drop
-        → IfErr result (BlamesBroken (S.state space.new)) }
-    ensures lone { S.tells → (target : Target) → mutation.now ≡ mutations.Drop
-        → targets_once [] (elements_of items.items) ≡ target ∷ [] → IfErr result
-        (BlamesDeletion (S.state space.old) (S.state space.new) target) }
     ensures onward { S.onward space.old space.new }
     ensures cause { HasChangeCause (S.faults space.old) (S.faults space.new) result }
 {
@@ -181,10 +220,6 @@ fn drop_each<S: Space>(
     ensures caused_after { S.tells → IfErr result (IsListCaused
         (changes_of mutations.Drop items.now)
         (S.state space.new) names.now.names names.now.names) }
-    ensures blamed { S.tells → IfErr result (BlamesBroken (S.state space.new)) }
-    ensures lone { S.tells → (target : Target)
-        → targets_once [] (elements_of items.now) ≡ target ∷ [] → IfErr result
-        (BlamesDeletion (S.state space.old) (S.state space.new) target) }
     ensures onward { S.onward space.old space.new }
     ensures cause { HasChangeCause (S.faults space.old) (S.faults space.new) result }
 {
@@ -209,9 +244,6 @@ fn delete_each<S: Space>(
         (graph_in (S.state space.old)) (deletions targets.now)) }
     ensures caused_after { S.tells → IfErr result (IsListCaused (deletions targets.now)
         (S.state space.new) names.now.names names.now.names) }
-    ensures blamed { S.tells → IfErr result (BlamesBroken (S.state space.new)) }
-    ensures lone { S.tells → (target : Target) → targets.now ≡ target ∷ [] → IfErr result
-        (BlamesDeletion (S.state space.old) (S.state space.new) target) }
     ensures onward { S.onward space.old space.new }
     ensures cause { HasChangeCause (S.faults space.old) (S.faults space.new) result }
 {
@@ -239,9 +271,6 @@ fn delete<S: Space>(
         (graph_in (S.state space.old)) (commands.Delete target)) }
     ensures caused_after { S.tells → IfErr result (IsCausedAfter (commands.Delete target)
         (S.state space.new) names.now.names names.now.names) }
-    ensures damaged { S.tells → IfErr result
-        (BlamesDeletion (S.state space.old) (S.state space.new) target) }
-    ensures broken { S.tells → IfErr result (BlamesBroken (S.state space.new)) }
     ensures onward { S.onward space.old space.new }
     ensures cause { HasChangeCause (S.faults space.old) (S.faults space.new) result }
 {
@@ -369,6 +398,8 @@ fn add_vertex<S: Space>(
     ensures refused { S.tells → IsStore (S.state space.old) names.old.names
         → IfErr result (IsRefusal (S.state space.old).shape.limit
         (graph_in (S.state space.old)) (commands.Node label.now pairs.now)) }
+    ensures ids { S.tells → OnOk result (shown.new.items ≡ shown.old.items
+        ++ Item.Vertex (taken_id (meta_of (S.state space.old) nodes_file)) ∷ []) }
     ensures prefix { (rest : List (List ℕ)) × (names.new.names ≡ names.old.names ++ rest) }
     ensures caused_after { S.tells → IfErr result (IsListCaused
         (commands.Node label.now pairs.now ∷ [])
@@ -402,6 +433,8 @@ fn add_edges<S: Space>(
     ensures refused { S.tells → IsStore (S.state space.old) names.old.names
         → IfErr result (IsListRefusal (S.state space.old).shape.limit
         (graph_in (S.state space.old)) (changes_of (steps_for edge.now) items.now)) }
+    ensures ids { S.tells → OnOk result (ShowsIds (S.state space.old).records
+        (S.state space.new).records relationships_file shown.old.items shown.new.items) }
     ensures prefix { (rest : List (List ℕ)) × (names.new.names ≡ names.old.names ++ rest) }
     ensures caused_after { S.tells → IfErr result (IsListCaused
         (changes_of (steps_for edge.now) items.now)
@@ -439,6 +472,8 @@ fn add_edge_from<S: Space>(
     ensures refused { S.tells → IsStore (S.state space.old) names.old.names
         → IfErr result (IsListRefusal (S.state space.old).shape.limit
         (graph_in (S.state space.old)) (changes_of (steps_for edge.now) (item.now ∷ []))) }
+    ensures ids { S.tells → OnOk result (ShowsIds (S.state space.old).records
+        (S.state space.new).records relationships_file shown.old.items shown.new.items) }
     ensures prefix { (rest : List (List ℕ)) × (names.new.names ≡ names.old.names ++ rest) }
     ensures caused_after { S.tells → IfErr result (IsListCaused
         (changes_of (steps_for edge.now) (item.now ∷ []))
@@ -472,6 +507,8 @@ fn add_one_edge<S: Space>(
     ensures refused { S.tells → IsStore (S.state space.old) names.old.names
         → IfErr result (IsRefusal (S.state space.old).shape.limit
         (graph_in (S.state space.old)) (command_from from edge.now)) }
+    ensures ids { S.tells → OnOk result (ShowsIds (S.state space.old).records
+        (S.state space.new).records relationships_file shown.old.items shown.new.items) }
     ensures prefix { (rest : List (List ℕ)) × (names.new.names ≡ names.old.names ++ rest) }
     ensures caused_after { S.tells → IfErr result (IsListCaused (command_from from edge.now ∷ [])
         (S.state space.new) names.old.names names.new.names) }

@@ -23,13 +23,17 @@ use Rattle.txn_core.specs.OnlyReading.{only_reads_base_on}
 use Rattle.txn_core.specs.Store as store
 use Rattle.change_parts.specs.Change.{IsRefusal, IsRefusedBy, MakesChange, full_of}
 use Rattle.change_parts.specs.ChangeFault.{HasChangeCause}
+use Rattle.graph_ops.specs.MutateFault.{IsMutateRefusal}
 use Rattle.graph_ops.specs.Mutating.{IsListRefusal, MakesMutation, most_told}
+use Rattle.graph_ops.specs.NewIds.{GetsFreeIds}
+use Rattle.graph_ops.specs.declared.mutate_fault.MutateFault.{MutateFault}
+use Rattle.graph_ops.specs.declared.mutate_fault.MutateFault.TheVariants as mutate_faults
 use Rattle.change_parts.specs.Store.{IsStore, graph_in}
 use Rattle.change_parts.specs.declared.change_fault.ChangeFault.{ChangeFault}
 use Rattle.change_parts.specs.declared.change_fault.ChangeFault.TheVariants as faults
 use Rattle.graph_session.specs.Answering.{reply_of}
 use Rattle.graph_session.specs.ChangeLeft.{LeavesRecords}
-use Rattle.graph_session.specs.Drafting.{Drafts, HasStore, IsStopped, MakesLine, OnlyDrafts, answer_for, drafted_by}
+use Rattle.graph_session.specs.Drafting.{Drafts, HasStore, IsStopped, MakesLine, OnlyDrafts, answer_for, answer_for_changes, drafted_by}
 use Rattle.graph_session.specs.MayStep.{TellsMade}
 use Rattle.graph_session.specs.declared.answer.Answer.{Answer}
 use Rattle.graph_session.specs.declared.session.Session.{Session}
@@ -98,6 +102,11 @@ change-refused limit graph command (faults.Damaged damage) why = why
 
 -- ---- mutating queries, whose reading part is read in a space before the changes are made in it
 
+-- the first of them that is refused is refused so, and no record is damaged
+abbrev pub AreRefused : ℕ → Graph → Command → MutateFault → Type 0
+AreRefused limit graph command (mutate_faults.Refused fault) = IsRefusedBy line_reasons limit graph command fault
+AreRefused limit graph command mutate_faults.Damaged = ⊥
+
 module _ (old mid : Space) (same : SameButReads old mid) where
   pub store-read : {names : List (List ℕ)} → IsStore old names → IsStore mid names
   store-read {names = names} has = subst (λ (space : Space). IsStore space names) (sym same) (record { store = has.store; names = has.names })
@@ -120,7 +129,7 @@ module _ (old mid : Space) (same : SameButReads old mid) where
           free = mutation_free old.shape.limit (graph_in old) reading mutation there asked.2.free;
         }
 
-    pub mutation-refused : (fault : ChangeFault) → IsListRefusal mid.shape.limit (graph_in mid) (changes_of mutation items) fault
+    mutation-refused : (fault : ChangeFault) → IsListRefusal mid.shape.limit (graph_in mid) (changes_of mutation items) fault
         → IsRefusedBy line_reasons old.shape.limit (graph_in old) (commands.Mutate reading mutation) fault
     mutation-refused fault why =
         by fault
@@ -145,6 +154,16 @@ module _ (old mid : Space) (same : SameButReads old mid) where
         by faults.Memory why = why
         by faults.Disk why = why
         by (faults.Damaged damage) why = why
+
+    -- so is the whole list
+    pub changes-refused : (fault : MutateFault) → IsMutateRefusal mid.shape.limit (graph_in mid) (changes_of mutation items) fault
+        → AreRefused old.shape.limit (graph_in old) (commands.Mutate reading mutation) fault
+    changes-refused (mutate_faults.Refused fault) why = mutation-refused fault why
+    changes-refused mutate_faults.Damaged why = why
+
+  -- the identifiers are those that were free before
+  pub ids-read : (mutation : Mutation) (made : List Item) → GetsFreeIds mutation made mid.records → GetsFreeIds mutation made old.records
+  ids-read mutation made ids = subst (λ (space : Space). GetsFreeIds mutation made space.records) same ids
 
   pub writes-read : {weight : ℕ} {new : Space} → WritesAtMost weight mid new → WritesAtMost weight old new
   writes-read {weight = weight} {new = new} writes =
@@ -199,6 +218,16 @@ module _ {D : Type 0} {g : Ghosts D} (command : Command) (old : Session D g) (no
       by faults.Memory why rose = tt
       by faults.Disk why rose = rose refl
       by (faults.Damaged damage) why rose = why
+
+module _ {D : Type 0} {g : Ghosts D} (command : Command) (old : Session D g) (now : D) where
+  -- by the fault of a list of changes
+  pub changes-stopped : (fault : MutateFault)
+      → (g.tells_reads → HasStore old → AreRefused (store.state_of old.store).shape.limit (graph_in (store.state_of old.store)) command fault)
+      → (fault ≡ mutate_faults.Refused faults.Disk → Rose (g.faults old.store.base.disk.now) (g.faults now)) → (answer : Answer)
+      → answer ≡ answer_for_changes fault → IsStopped command old now answer
+  changes-stopped (mutate_faults.Refused fault) why rose answer is =
+      change-stopped command old now fault why (λ e. rose (ap mutate_faults.Refused e)) answer is
+  changes-stopped mutate_faults.Damaged why rose answer is = subst (λ (a : Answer). IsStopped command old now a) (sym is) why
 
 -- ---- a call that makes a single change
 

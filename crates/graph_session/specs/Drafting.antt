@@ -14,6 +14,7 @@ use Rattle.plain_graph.specs.declared.refusal.Refusal.TheVariants as refusals
 use Rattle.rec_bytes.specs.declared.damage.Damage.{Damage}
 use Rattle.rec_bytes.specs.declared.key.Key.{Key}
 use Rattle.rec_bytes.specs.declared.record.Rec.{Rec}
+use Rattle.rec_bytes.specs.Format as format
 use Rattle.rec_bytes.specs.Pairs.{IsOrdered, Pairs, merged}
 use Rattle.rec_bytes.specs.Space.{State as Space, laid_over}
 use Rattle.rec_bytes.specs.declared.fault.Fault.TheVariants as read_faults
@@ -29,6 +30,8 @@ use Rattle.txn_core.specs.Sights.{KeepsSights}
 use Rattle.txn_core.specs.Store.{committed, drafted, state_of, working}
 use Rattle.change_parts.specs.Change.{full_of}
 use Rattle.graph_ops.specs.Mutating.{most_told}
+use Rattle.graph_ops.specs.declared.mutate_fault.MutateFault.{MutateFault}
+use Rattle.graph_ops.specs.declared.mutate_fault.MutateFault.TheVariants as mutate_faults
 use Rattle.change_parts.specs.Store.{IsStore, graph_in}
 use Rattle.change_parts.specs.declared.added.Added.{Added}
 use Rattle.change_parts.specs.declared.change_fault.ChangeFault.{ChangeFault}
@@ -60,6 +63,15 @@ answer_for (faults.PropsFull count) = answers.Refused refusals.TooManyProperties
 answer_for faults.Memory = answers.Fault read_faults.Memory
 answer_for faults.Disk = answers.Fault read_faults.Disk
 answer_for (faults.Damaged damage) = answers.Fault (read_faults.Damaged damage)
+
+-- a damage that stands for a record that isn't named yet
+abbrev pub unnamed_damage : Damage
+unnamed_damage = record { file = format.meta_file; id = format.names_file; rule = 1 }
+
+-- the answer of a list of changes that isn't made
+abbrev pub answer_for_changes : MutateFault → Answer
+answer_for_changes (mutate_faults.Refused fault) = answer_for fault
+answer_for_changes mutate_faults.Damaged = answers.Fault (read_faults.Damaged unnamed_damage)
 
 -- What a call that changes gives as a draft: its answer and its weight, or the answer of its fault.
 abbrev pub drafted_by :

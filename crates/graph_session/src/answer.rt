@@ -3,11 +3,18 @@ ghost use Rattle.change_parts.specs.Change.{full_of};
 
 use crate::results::Results;
 use expand::ExpandFault;
-use graph_ops::ChangeFault;
+use graph_ops::{ChangeFault, MutateFault};
 use gremlin_parse::LineFault;
 use plain_graph::Refusal;
 use prop_index::LookupFault;
-use rec_bytes::{Fault, INDEX, NODES, PROPERTIES, RELATIONSHIPS};
+use rec_bytes::{Damage, Fault, INDEX, META, NAMES, NODES, PROPERTIES, RANGE_RULE, RELATIONSHIPS};
+
+/// Stands for a damaged record that isn't named yet. Another one replaces it in each reply.
+const UNNAMED: Damage = Damage {
+    file: META,
+    id: NAMES as u32,
+    rule: RANGE_RULE,
+};
 
 /// What a line is answered with that is no question.
 #[derive(Drop)]
@@ -109,6 +116,19 @@ impl From<ChangeFault> for Answer {
                 Answer::Refused(Refusal::HasRelationships { id })
             }
             ChangeFault::Damaged(damage) => Answer::Fault(Fault::Damaged(damage)),
+        }
+    }
+}
+
+impl From<MutateFault> for Answer {
+    ghost from_gives = { λ fault answer. answer ≡ answer_for_changes fault };
+
+    ghost use Rattle.graph_session.specs.Drafting.{answer_for_changes};
+
+    fn from(fault: MutateFault) -> Answer {
+        match fault {
+            MutateFault::Refused(fault) => Answer::from(fault),
+            MutateFault::Damaged => Answer::Fault(Fault::Damaged(UNNAMED)),
         }
     }
 }

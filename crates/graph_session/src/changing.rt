@@ -281,7 +281,8 @@ impl<'d, D: Disk> Session<'d, D> {
         }
     }
 
-    // The changes of a mutating query in the draft. Its reading part is made whole before them.
+    // The changes of a mutating query in the draft. Its reading part is made whole before them. A
+    // damaged record that they meet isn't named yet.
     fn draft_mutation(
         &mut self,
         reading: &Option<Query>,

@@ -5,6 +5,8 @@ use Rattle.change_parts.specs.Store.{graph_in}
 use Rattle.graph_ops.specs.Mutating.{IsListCaused, IsListRefusal, command_from, steps_for}
 use Rattle.plain_graph.specs.Mutations.{changes_of, vertex_id}
 use Rattle.graph_ops.proofs.Parts.{none_from, result_refused}
+use Rattle.rec_bytes.specs.Format as format
+use Rattle.graph_ops.proofs.NewIds.{shows_none}
 use Rattle.graph_ops.proofs.mutating.add_edge_from.Goals as goal
 
 pub returns-in-Vertex-clause-refused : goal.returns-in-Vertex-clause-refused
@@ -33,3 +35,14 @@ returns-in-Vertex-clause-caused_after g c tells =
     let mutation = steps_for c.args.edge.now in
     subst (λ (item : Item). IfErr c.add_one_edge.result (IsListCaused (changes_of mutation (item ∷ [])) t c.args.names.now.names
     c.add_one_edge.new.names.names)) (sym c.in-Vertex.is) (c.add_one_edge.ensures.caused_after tells)
+
+-- ---- which identifier it gets
+
+pub returns-in-Vertex-clause-ids : goal.returns-in-Vertex-clause-ids
+returns-in-Vertex-clause-ids g c tells = c.add_one_edge.ensures.ids tells
+
+pub returns-in-Edge-clause-ids : goal.returns-in-Edge-clause-ids
+returns-in-Edge-clause-ids g c tells = shows_none (g.S.Reads.state c.args.space.now).records format.relationships_file c.args.shown.now.items
+
+pub returns-in-Edge-2-clause-ids : goal.returns-in-Edge-2-clause-ids
+returns-in-Edge-2-clause-ids g c tells = shows_none (g.S.Reads.state c.args.space.now).records format.relationships_file c.args.shown.now.items

@@ -11,6 +11,8 @@ use Rattle.plain_graph.proofs.Making.{elements_then}
 use Rattle.graph_ops.proofs.Parts.{making_more, next_exit, next_caused, up_to}
 use Rattle.graph_ops.proofs.Spreading.{edges_spread}
 use Rattle.rec_bytes.proofs.Causes.{never_ok, ok_cause}
+use Rattle.rec_bytes.specs.Format as format
+use Rattle.graph_ops.proofs.NewIds.{shows_then}
 use Rattle.graph_ops.proofs.mutating.add_edges.Goals as goal
 
 pub returns-in_err-more-clause-refused : goal.returns-in_err-more-clause-refused
@@ -49,6 +51,8 @@ loop-item-preserved g c =
           ∙ ap (λ (l : List Item). start ++ l)
           (sym (elements_then s.shape.limit s.shape.threshold (graph_in s) (graph_in t) (of (take i results)) (of (item ∷ [])) rs ts total each) ∙ ap
           (λ (cs : List Command). new_elements cs (rs ++ ts)) (sym (up_to of spread results i item item c.loop-item-test.true c.item-item.is))));
+      ids = λ tells. shows_then s.records t.records (g.S.Reads.state c.add_edge_from.new.space).records format.relationships_file start c.loop-item.shown.items
+          c.add_edge_from.new.shown.items (c.loop-item.invariant.ids tells) (c.in_ok-more.ensures.ids tells);
       lines = λ shown. c.in_ok-more.ensures.lines (c.loop-item.invariant.lines shown);
     }
 
@@ -94,3 +98,14 @@ returns-in_err-both-clause-lines g c _ = never_ok c.from_residual-in_err-both.re
 
 pub returns-clause-cause : goal.returns-clause-cause
 returns-clause-cause g c = ok_cause _ _ _ _ c.loop-item.invariant.making.later
+
+-- ---- which identifiers they get
+
+pub returns-clause-ids : goal.returns-clause-ids
+returns-clause-ids g c tells = c.loop-item.invariant.ids tells
+
+pub returns-in_err-more-clause-ids : goal.returns-in_err-more-clause-ids
+returns-in_err-more-clause-ids g c _ = never_ok c.from_residual.result _ _ c.from_residual.ensures.1
+
+pub returns-in_err-both-clause-ids : goal.returns-in_err-both-clause-ids
+returns-in_err-both-clause-ids g c _ = never_ok c.from_residual-in_err-both.result _ _ c.from_residual-in_err-both.ensures.1

@@ -6,6 +6,8 @@ use Rattle.plain_graph.specs.declared.item.Item.TheVariants as items
 use Rattle.plain_graph.specs.Mutations.{new_elements}
 use Rattle.graph_ops.proofs.Parts.{one_caused, one_part}
 use Rattle.rec_bytes.proofs.Causes.{never_ok, ok_cause}
+use Rattle.rec_bytes.specs.Format as format
+use Rattle.graph_ops.proofs.NewIds.{edge_takes}
 use Rattle.graph_ops.proofs.mutating.add_one_edge.Goals as goal
 
 pub returns-clause-part : goal.returns-clause-part
@@ -62,3 +64,23 @@ returns-in_err-show-clause-lines g c _ = never_ok c.from_residual-in_err-show.re
 
 pub returns-clause-cause : goal.returns-clause-cause
 returns-clause-cause g c = ok_cause _ _ _ _ c.in_ok-id.ensures.cause.later
+
+-- ---- which identifier it gets
+
+pub returns-clause-ids : goal.returns-clause-ids
+returns-clause-ids g c tells =
+    let from = c.args.from in
+    let edge = c.args.edge.now in
+    let id = c.in_ok-id.field-0.id in
+    let old = c.args.shown.now.items in (
+      items.Edge id edge.label.now from edge.to ∷ [],
+      c.in_ok-show.ensures.shown ∙ (λ i. old ++ items.Edge id (c.in-Ok.ensures i) from edge.to ∷ []),
+      edge_takes (g.S.Reads.state c.args.space.now).records (g.S.Reads.state c.add_edge.new.space).records format.relationships_file id edge.label.now from
+          edge.to (c.in_ok-id.ensures.taken tells) (c.in_ok-id.ensures.free tells),
+    )
+
+pub returns-in_err-id-clause-ids : goal.returns-in_err-id-clause-ids
+returns-in_err-id-clause-ids g c _ = never_ok c.from_residual.result _ _ c.from_residual.ensures.1
+
+pub returns-in_err-show-clause-ids : goal.returns-in_err-show-clause-ids
+returns-in_err-show-clause-ids g c _ = never_ok c.from_residual-in_err-show.result _ _ c.from_residual-in_err-show.ensures.1

@@ -1,4 +1,4 @@
-use Rattle.std.proofs.Common.{◌≡◌, ◌++◌, ◌∷◌, [], List, inl, rules}
+use Rattle.std.proofs.Common.{◌≡◌, ◌∙◌, ◌++◌, ◌∷◌, [], List, inl, rules}
 use Rattle.graph_ops.specs.Mutating.{IsListCaused}
 use Rattle.change_parts.proofs.Exits.{fault_exit}
 use Rattle.plain_graph.specs.Reply.{NodeMade, Reply}
@@ -57,3 +57,16 @@ returns-in_err-show-clause-lines g c _ = never_ok c.from_residual-in_err-show.re
 
 pub returns-clause-cause : goal.returns-clause-cause
 returns-clause-cause g c = ok_cause _ _ _ _ c.in_ok-id.ensures.cause.later
+
+-- ---- which identifier it gets
+
+pub returns-clause-ids : goal.returns-clause-ids
+returns-clause-ids g c tells =
+    let old = c.args.shown.now.items in
+    c.in_ok-show.ensures.shown ∙ (λ i. old ++ items.Vertex (c.in_ok-id.ensures.taken tells i) ∷ [])
+
+pub returns-in_err-id-clause-ids : goal.returns-in_err-id-clause-ids
+returns-in_err-id-clause-ids g c _ = never_ok c.from_residual.result _ _ c.from_residual.ensures.1
+
+pub returns-in_err-show-clause-ids : goal.returns-in_err-show-clause-ids
+returns-in_err-show-clause-ids g c _ = never_ok c.from_residual-in_err-show.result _ _ c.from_residual-in_err-show.ensures.1

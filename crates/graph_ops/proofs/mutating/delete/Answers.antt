@@ -1,18 +1,10 @@
-use Rattle.std.proofs.Common.{ℕ, [], ◌∷◌, sym, subst}
-use Rattle.std.proofs.lemmas.Result.{IfErr-weaker}
-use Rattle.rec_bytes.specs.Space.{State}
-use Rattle.change_parts.specs.Damage.{BlamesEntries}
-use Rattle.node_changes.specs.NodeDeleting.{IsDeleteCause}
-use Rattle.change_parts.specs.declared.change_fault.ChangeFault.{ChangeFault}
-use Rattle.change_parts.specs.declared.change_fault.ChangeFault.TheVariants.{NoNode, NoEdge, HasRelationships, IndexThere}
-use Rattle.change_parts.specs.declared.change_fault.ChangeFault.TheVariants.{TooManyIndexes, IndexTooLarge, Full}
-use Rattle.change_parts.specs.declared.change_fault.ChangeFault.TheVariants.{NamesFull, PropsFull, Memory, Disk, Damaged}
+use Rattle.std.proofs.Common.{[], ◌∷◌, sym, subst}
 use Rattle.std.specs.Prelude.{IfErr, IfOk}
 use Rattle.change_parts.specs.Causes.{IsCausedAfter}
 use Rattle.plain_graph.specs.Reply.{Done}
 use Rattle.plain_graph.specs.declared.command.Command.TheVariants as commands
 use Rattle.plain_graph.specs.declared.command.Target.{Target}
-use Rattle.graph_ops.specs.Mutating.{BlamesDeletion, MakesPart, any_replies}
+use Rattle.graph_ops.specs.Mutating.{MakesPart, any_replies}
 use Rattle.change_parts.specs.Change.{IsRefusal}
 use Rattle.change_parts.specs.Store.{graph_in}
 use Rattle.graph_ops.proofs.Parts.{one_result}
@@ -49,35 +41,6 @@ returns-in-Edge-clause-caused_after g c tells =
     let names = c.args.names.now.names in
     subst (λ (target : Target). IfErr c.delete_edge.result (IsCausedAfter (commands.Delete target) t names names)) (sym c.in-Edge.is)
     (c.delete_edge.ensures.caused_after tells)
-
--- ---- which record is blamed
-
-found_blames : (s t : State) (id : ℕ) (fault : ChangeFault) → IsDeleteCause s t id fault → BlamesEntries s t fault
-found_blames s t id (NoNode missing) why = tt
-found_blames s t id (NoEdge missing) why = absurd why
-found_blames s t id (HasRelationships of degree) why = tt
-found_blames s t id IndexThere why = absurd why
-found_blames s t id TooManyIndexes why = absurd why
-found_blames s t id (IndexTooLarge count) why = absurd why
-found_blames s t id (Full file live) why = absurd why
-found_blames s t id (NamesFull count) why = absurd why
-found_blames s t id (PropsFull count) why = absurd why
-found_blames s t id Memory why = tt
-found_blames s t id Disk why = tt
-found_blames s t id (Damaged damage) why = why
-
-pub returns-in-Node-clause-damaged : goal.returns-in-Node-clause-damaged
-returns-in-Node-clause-damaged g c tells =
-    let s = g.S.Reads.state c.args.space.now in
-    let t = g.S.Reads.state c.delete_node.new.space in
-    subst (λ (target : Target). IfErr c.delete_node.result (BlamesDeletion s t target)) (sym c.in-Node.is)
-    (IfErr-weaker c.delete_node.result (IsDeleteCause s t c.in-Node.id) (BlamesEntries s t) (found_blames s t c.in-Node.id) (c.delete_node.ensures.found tells))
-
-pub returns-in-Edge-clause-damaged : goal.returns-in-Edge-clause-damaged
-returns-in-Edge-clause-damaged g c tells =
-    let s = g.S.Reads.state c.args.space.now in
-    let t = g.S.Reads.state c.delete_edge.new.space in
-    subst (λ (target : Target). IfErr c.delete_edge.result (BlamesDeletion s t target)) (sym c.in-Edge.is) (c.delete_edge.ensures.damaged tells)
 
 pub returns-in-Node-clause-refused : goal.returns-in-Node-clause-refused
 returns-in-Node-clause-refused g c = λ tells store.

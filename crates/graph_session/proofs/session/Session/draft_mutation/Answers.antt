@@ -2,7 +2,7 @@ use Rattle.std.proofs.Common.{Err, ap, refl}
 use Rattle.std.proofs.lemmas.Result.{err_from_is_err_and}
 use Rattle.plain_graph.specs.declared.command.Command.TheVariants as commands
 use Rattle.txn_core.specs.Store.{state_of}
-use Rattle.graph_session.proofs.LineDrafts.{change-stopped, has-read, mutation-made, mutation-refused, writes-read}
+use Rattle.graph_session.proofs.LineDrafts.{changes-refused, changes-stopped, has-read, ids-read, mutation-made, writes-read}
 use Rattle.graph_session.proofs.Streams.{Rose-from}
 use Rattle.graph_session.proofs.session.Session.draft_mutation.Goals as goal
 
@@ -25,7 +25,11 @@ returns-in-Ok-clause-drafts g c =
           c.in-Ok.field-0.items.items c.in-Ok.field-0.weight _ _
           (c.in-Ok.ensures.made told (has-read old mid read.same read.names has)),
       λ few. writes-read (state_of old.store) (state_of mid.store) read.same (c.in-Ok.ensures.writes few),
-      λ told. tt,
+      λ told. (
+        c.in-Ok.field-0.items.items,
+        refl,
+        ids-read (state_of old.store) (state_of mid.store) read.same c.args.mutation.now c.in-Ok.field-0.items.items (c.in-Ok.ensures.ids told),
+      ),
     )
 
 pub returns-in-Err-clause-drafts : goal.returns-in-Err-clause-drafts
@@ -34,9 +38,9 @@ returns-in-Err-clause-drafts g c =
     let mid = c.read_items.new.self in
     let read = c.in_ok-items.ensures in
     let met = c.in-Err.ensures in
-    change-stopped (commands.Mutate c.args.reading.now c.args.mutation.now) old c.mutate.new.space.base.disk.now c.in-Err.fault
+    changes-stopped (commands.Mutate c.args.reading.now c.args.mutation.now) old c.mutate.new.space.base.disk.now c.in-Err.fault
     (λ told has.
-    mutation-refused (state_of old.store) (state_of mid.store) read.same c.args.reading.now c.args.mutation.now (read.there told has) _ (read.items told has)
+    changes-refused (state_of old.store) (state_of mid.store) read.same c.args.reading.now c.args.mutation.now (read.there told has) _ (read.items told has)
     c.in-Err.fault
     (met.refused told (has-read old mid read.same read.names has)))
     (λ e. Rose-from (g.D.Disk.faults old.store.base.disk.now) (g.D.Disk.faults mid.store.base.disk.now) (g.D.Disk.faults c.mutate.new.space.base.disk.now)

@@ -1,4 +1,4 @@
-use Rattle.std.proofs.Common.{◌≡◌, ◌∙◌, ◌++◌, ◌∷◌, [], List, sym, subst, rules}
+use Rattle.std.proofs.Common.{◌≡◌, ◌++◌, ◌∷◌, [], List, sym, subst, rules}
 use Rattle.std.specs.Prelude.{IfErr}
 use Rattle.plain_graph.specs.Reply.{Reply}
 use Rattle.plain_graph.specs.declared.command.Command.TheVariants as commands
@@ -12,7 +12,10 @@ use Rattle.plain_graph.specs.declared.mutation.Mutation.{Mutation}
 use Rattle.plain_graph.specs.declared.mutation.Mutation.TheVariants as mutations
 use Rattle.graph_ops.proofs.Parts.{drops_made, edges_made, one_refused, values_made, vertex_made}
 use Rattle.rec_bytes.proofs.Causes.{never_ok}
-use Rattle.graph_ops.proofs.mutating.mutate.Goals as goal
+use Rattle.rec_bytes.specs.Format as format
+use Rattle.graph_ops.specs.NewIds.{GetsFreeIds}
+use Rattle.graph_ops.proofs.NewIds.{shown_have, vertex_has}
+use Rattle.graph_ops.proofs.mutating.make_changes.Goals as goal
 
 pub returns-in_err-weight-in-AddV-clause-refused :
     goal.returns-in_err-weight-in-AddV-clause-refused
@@ -97,14 +100,6 @@ returns-in_err-weight-in-AddV-clause-caused_after g c tells =
     (fault_exit (λ f. f) (IsListCaused (command ∷ []) t names now) c.in_err-weight-in-AddV.field-0.0 out c.from_residual.ensures.1
     (c.in_err-weight-in-AddV.ensures.caused_after tells))
 
--- ---- which record is blamed
-
-pub returns-in_err-weight-in-AddV-clause-lone : goal.returns-in_err-weight-in-AddV-clause-lone
-returns-in_err-weight-in-AddV-clause-lone g c tells target drop lone = let e = sym c.in-AddV.is ∙ drop in absurd cc
-
-pub returns-in_err-weight-in-AddV-clause-blamed : goal.returns-in_err-weight-in-AddV-clause-blamed
-returns-in_err-weight-in-AddV-clause-blamed g c tells drop = let e = sym c.in-AddV.is ∙ drop in absurd cc
-
 pub returns-in_err-weight-in-AddV-clause-made : goal.returns-in_err-weight-in-AddV-clause-made
 returns-in_err-weight-in-AddV-clause-made g c _ = never_ok c.from_residual.result _ _ c.from_residual.ensures.1
 
@@ -159,3 +154,40 @@ returns-in_err-weight-in-Drop-clause-few g c = never_ok c.from_residual-in_err-w
 
 pub returns-in_err-weight-in-Drop-clause-writes : goal.returns-in_err-weight-in-Drop-clause-writes
 returns-in_err-weight-in-Drop-clause-writes g c = never_ok c.from_residual-in_err-weight-in-Drop.result _ _ c.from_residual-in_err-weight-in-Drop.ensures.1
+
+-- ---- which identifiers its new elements get
+
+pub returns-in_ok-weight-in-AddV-clause-ids : goal.returns-in_ok-weight-in-AddV-clause-ids
+returns-in_ok-weight-in-AddV-clause-ids g c tells =
+    let s = (g.S.Reads.state c.args.space.now).records in
+    let shown = c.add_vertex.new.shown.items in
+    subst (λ (m : Mutation). GetsFreeIds m shown s) (sym c.in-AddV.is)
+    (vertex_has s c.new-vertices.result.items shown c.new-vertices.ensures.items (c.in_ok-weight-in-AddV.ensures.ids tells))
+
+pub returns-in_ok-weight-in-AddE-clause-ids : goal.returns-in_ok-weight-in-AddE-clause-ids
+returns-in_ok-weight-in-AddE-clause-ids g c tells =
+    let s = (g.S.Reads.state c.args.space.now).records in
+    let shown = c.add_edges.new.shown.items in
+    subst (λ (m : Mutation). GetsFreeIds m shown s) (sym c.in-AddE.is)
+    (shown_have s (g.S.Reads.state c.add_edges.new.space).records format.relationships_file c.new-edges.result.items shown c.new-edges.ensures.items
+    (c.in_ok-weight-in-AddE.ensures.ids tells))
+
+pub returns-in_ok-weight-in-Property-clause-ids : goal.returns-in_ok-weight-in-Property-clause-ids
+returns-in_ok-weight-in-Property-clause-ids g c tells =
+    subst (λ (m : Mutation). GetsFreeIds m c.args.items.items (g.S.Reads.state c.args.space.now).records) (sym c.in-Property.is) tt
+
+pub returns-in_ok-weight-in-Drop-clause-ids : goal.returns-in_ok-weight-in-Drop-clause-ids
+returns-in_ok-weight-in-Drop-clause-ids g c tells =
+    subst (λ (m : Mutation). GetsFreeIds m c.new.result.items (g.S.Reads.state c.args.space.now).records) (sym c.in-Drop.is) tt
+
+pub returns-in_err-weight-in-AddV-clause-ids : goal.returns-in_err-weight-in-AddV-clause-ids
+returns-in_err-weight-in-AddV-clause-ids g c _ = never_ok c.from_residual.result _ _ c.from_residual.ensures.1
+
+pub returns-in_err-weight-in-AddE-clause-ids : goal.returns-in_err-weight-in-AddE-clause-ids
+returns-in_err-weight-in-AddE-clause-ids g c _ = never_ok c.from_residual-in_err-weight-in-AddE.result _ _ c.from_residual-in_err-weight-in-AddE.ensures.1
+
+pub returns-in_err-weight-in-Property-clause-ids : goal.returns-in_err-weight-in-Property-clause-ids
+returns-in_err-weight-in-Property-clause-ids g c _ = never_ok c.from_residual-in_err-weight-in-Property.result _ _ c.from_residual-in_err-weight-in-Property.ensures.1
+
+pub returns-in_err-weight-in-Drop-clause-ids : goal.returns-in_err-weight-in-Drop-clause-ids
+returns-in_err-weight-in-Drop-clause-ids g c _ = never_ok c.from_residual-in_err-weight-in-Drop.result _ _ c.from_residual-in_err-weight-in-Drop.ensures.1
