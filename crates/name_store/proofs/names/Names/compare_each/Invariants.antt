@@ -1,7 +1,7 @@
 use Rattle.std.proofs.Common.{◌≡◌, ◌<◌, ◌≤◌, ℕ, Some, slice_get, length}
 use Rattle.rec_bytes.specs.Space.{after_gets}
 use Rattle.name_store.specs.Loading.{text_at}
-use Rattle.name_store.proofs.names.Names.again.Given as goal
+use Rattle.name_store.proofs.names.Names.compare_each.Given as goal
 
 abbrev pub invariant-loop-id : goal.invariant-loop-id
 invariant-loop-id g l = record {
