@@ -72,7 +72,8 @@ module _ {D : Type 0} {g : Ghosts D} {old new : SessionView D} (command : Comman
   pub may-stopped : (why : Answer) → IsStopped command base now why → (¬ (why ≡ answers.Fault faults.Disk) → Stays g old new)
       → (why ≡ answers.Fault faults.Disk → Rose (g.faults base.store.base.disk.now) (g.faults now)
       → Rose (g.faults old.disk) (g.faults new.disk) × HasFailedChange g old new)
-      → BlamesSeen base why → HasNoDraft (view base) → ((damage : Damage) → IsSeenDamage (view base).console damage → IsSeenDamage old.console damage)
+      → BlamesSeen command base why → HasNoDraft (view base)
+      → ((damage : Damage) → IsSeenDamage command (view base).console damage → IsSeenDamage command old.console damage)
       → MayChange g old (reply_of why) new command
   may-stopped answers.Done stopped stays fault blames none seen = absurd stopped
   may-stopped (answers.NodeMade id) stopped stays fault blames none seen = absurd stopped

@@ -19,12 +19,12 @@ module _ {D : Type 0} {g : Ghosts D} {command : Command} (change : IsChange comm
     {mid then : Session D g} (new : Session D g) (begun : Begun) where
   -- what is drafted settles the line
   pub settles-change : BeginsChange old mid begun → OnlyDrafts mid then → (drafted : Result Drafted Answer) → Drafts command mid then drafted
-      → IfErr drafted (BlamesSeen mid) → (answer : Answer) → EndsChange begun drafted then new answer
+      → IfErr drafted (BlamesSeen command mid) → (answer : Answer) → EndsChange begun drafted then new answer
       → SettlesCommand g command (view old) (view new) (reply_of answer)
   settles-change (counts, inl (within, opened, same)) only drafted drafts blames answer (inl (is, ends)) =
       settles-finish new live opened (subst (λ (s : Session D g). OnlyDrafts s then) same only) change begun.names counts drafted answer
       (subst (λ (s : Session D g). Drafts command s then drafted) same drafts)
-      (subst (λ (s : Session D g). IfErr drafted (BlamesSeen s)) same blames) ends
+      (subst (λ (s : Session D g). IfErr drafted (BlamesSeen command s)) same blames) ends
   settles-change (counts, inl (within, opened, same)) only drafted drafts blames answer (inr (is, ends)) = absurd (true≢false (sym is ∙ within))
   settles-change (counts, inr (alone, begins)) only drafted drafts blames answer (inl (is, ends)) = absurd (true≢false (sym alone ∙ is))
   settles-change (counts, inr (alone, begins)) only drafted drafts blames answer (inr (is, ends)) =

@@ -60,11 +60,11 @@ module _ {D : Type 0} {g : Ghosts D} {mid new : Session D g} (more : OnlyDrafts 
   only-changed made (Err why) dropped = tt
 
   -- where there is none any more, no record is blamed
-  pub unchanged-blames : (old : Session D g) (made : Drafted) (result : Result Drafted Answer) → DropsUnchanged made mid new result
-      → IfErr result (BlamesSeen old)
-  unchanged-blames old made (Ok also) dropped = tt
-  unchanged-blames old made (Err why) (inl is) = subst (λ (a : Answer). BlamesSeen old a) (sym is) tt
-  unchanged-blames old made (Err why) (inr (is, rose)) = subst (λ (a : Answer). BlamesSeen old a) (sym is) tt
+  pub unchanged-blames : (command : Command) (old : Session D g) (made : Drafted) (result : Result Drafted Answer) → DropsUnchanged made mid new result
+      → IfErr result (BlamesSeen command old)
+  unchanged-blames command old made (Ok also) dropped = tt
+  unchanged-blames command old made (Err why) (inl is) = subst (λ (a : Answer). BlamesSeen command old a) (sym is) tt
+  unchanged-blames command old made (Err why) (inr (is, rose)) = subst (λ (a : Answer). BlamesSeen command old a) (sym is) tt
 
   -- and it is the draft of the same change
   pub drafts-changed : {command : Command} {old : Session D g} → OnlyDrafts old mid → (made : Drafted) → Drafts command old mid (Ok made)

@@ -216,7 +216,7 @@ module _ {D : Type 0} {g : Ghosts D} where
           (λ is rose. let one = is_open at opened in settles-change_fault at live one.0 one.1 spelled change (stays-known known stays)
           (subst (λ (disk : D). Rose (g.faults old.store.base.disk.now) (g.faults disk)) (sym drops.beneath.disk) rose))
 
-      pub settles-finish : (result : Result Drafted Answer) (answer : Answer) → Drafts command old mid result → IfErr result (BlamesSeen old)
+      pub settles-finish : (result : Result Drafted Answer) (answer : Answer) → Drafts command old mid result → IfErr result (BlamesSeen command old)
           → Finishes result count mid new answer → SettlesCommand g command (view old) (view new) (reply_of answer)
       settles-finish (Ok made) answer drafts blames (inl (told_so, kept)) = record {
         settles = λ known line state spelled served at.

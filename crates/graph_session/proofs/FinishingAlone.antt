@@ -20,9 +20,10 @@ use Rattle.rec_bytes.specs.declared.record.Rec.{Rec}
 use Rattle.rec_bytes.specs.declared.shape.Shape.{Shape}
 use Rattle.record_file.specs.Redone.{Redoes}
 use Rattle.store_rules.specs.Breaking.{BreaksAny}
-use Rattle.store_rules.specs.Graph.{graph_of, names_of}
+use Rattle.store_rules.specs.Graph.{graph_of}
 use Rattle.store_rules.specs.Indexes.{IsIndexed}
 use Rattle.store_rules.specs.Views.{Records}
+use Rattle.name_store.specs.Again.{IsOtherName}
 use Rattle.txn_core.specs.Base.{SameBeneath}
 use Rattle.txn_core.specs.Store.{committed, drafted, state_of}
 use Rattle.txn_core.proofs.StoreRecords.{committed-beneath, committed-read, drafted-none, working-none}
@@ -73,12 +74,18 @@ module _ {D : Type 0} {g : Ghosts D} {begun mid : Session D g} (old new : Sessio
   seen-begun none = drafted-begun ∙ sym (drafted-none old.store none ∙ working-none old.store.base (nil_from_length old.store.base.own.pairs idle))
 
   -- and what is damaged in it
-  damage-begun : HasNoDraft (view old) → (damage : Damage) → IsSeenDamage (view begun).console damage → IsSeenDamage (view old).console damage
-  damage-begun none damage (inl breaks) =
+  damage-begun : HasNoDraft (view old) → (command : Command) (damage : Damage) → IsSeenDamage command (view begun).console damage
+      → IsSeenDamage command (view old).console damage
+  damage-begun none command damage (inl breaks) =
       inl (subst (λ (shape : Shape). BreaksAny (drafted old.store) shape damage) same.shape
       (subst (λ (records : Records). BreaksAny records begun.store.base.shape damage) (seen-begun none) breaks))
-  damage-begun none damage (inr other) =
-      inr (λ named. other (names ∙ named ∙ ap names_of (sym (seen-begun none))))
+  damage-begun none command damage (inr (may, sound, other)) = inr (
+    may,
+    subst (λ (shape : Shape). IsIndexed (drafted old.store) shape) same.shape
+        (subst (λ (records : Records). IsIndexed records begun.store.base.shape) (seen-begun none) sound),
+    subst (λ (known : List (List ℕ)). IsOtherName (drafted old.store) known damage) names
+        (subst (λ (records : Records). IsOtherName records begun.names.names damage) (seen-begun none) other),
+  )
 
   pub committed-mid : committed mid.store ≡ committed old.store
   committed-mid = committed-read begun.store.base mid.store.base only.base ∙ committed-beneath old.store.base begun.store.base same
@@ -157,11 +164,11 @@ module _ {D : Type 0} {g : Ghosts D} {begun mid : Session D g} (old new : Sessio
     later-dropped = subst (λ (disk : D). g.faults old.store.base.disk.now ≤ g.faults disk) (sym drops.beneath.disk) later-mid
 
     may-unmade : HasNoDraft (view old) → (command : Command) → IsChange command → IsStopped command begun mid.store.base.disk.now answer
-        → BlamesSeen begun answer → MayAnswer g command (view old) (reply_of answer) (view new)
+        → BlamesSeen command begun answer → MayAnswer g command (view old) (reply_of answer) (view new)
     may-unmade none command change stopped blames =
         may-change g (view old) (reply_of answer) (view new) command change
         (may-stopped command begun mid.store.base.disk.now answer stopped stays-dropped (λ is rose. (rose-dropped rose, inr (closed, inl (fails-dropped is))))
-        blames draft (damage-begun none))
+        blames draft (damage-begun none command))
 
     unmade-alone : (known : Bool) {command : Command} → IsChange command → {line : List ℕ} {state : State} → SpellsOnly line command
         → IsAt (as_known known g) (view old) state → IsStopped command begun mid.store.base.disk.now answer
@@ -330,7 +337,7 @@ module _ {D : Type 0} {g : Ghosts D} {begun mid : Session D g} (old new : Sessio
               (rose-mid doubts.rose))
 
   module _ {command : Command} (change : IsChange command) (count : ℕ) (counts : count ≡ length old.names.names) where
-    pub settles-finish_alone : (result : Result Drafted Answer) (answer : Answer) → Drafts command begun mid result → IfErr result (BlamesSeen begun)
+    pub settles-finish_alone : (result : Result Drafted Answer) (answer : Answer) → Drafts command begun mid result → IfErr result (BlamesSeen command begun)
         → FinishesAlone result count mid new answer → SettlesCommand g command (view old) (view new) (reply_of answer)
     settles-finish_alone (Ok made) answer drafts blames (inl (fits, tries)) = record {
       settles = λ known line state spelled served at. settles-tried made answer fits tries known change drafts.0 drafts.1 spelled at;
@@ -368,6 +375,6 @@ module _ {D : Type 0} {g : Ghosts D} {begun mid : Session D g} (old new : Sessio
           (subst (λ (a : Answer). IsStopped command begun mid.store.base.disk.now a) (sym is) drafts);
       may = λ none. may-unmade count counts answer drops none command change
           (subst (λ (a : Answer). IsStopped command begun mid.store.base.disk.now a) (sym is) drafts)
-          (subst (λ (a : Answer). BlamesSeen begun a) (sym is) blames);
+          (subst (λ (a : Answer). BlamesSeen command begun a) (sym is) blames);
       onward = record { disk_later = later-dropped count counts answer drops };
     }

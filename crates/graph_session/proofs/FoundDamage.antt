@@ -1,5 +1,5 @@
 -- A record that is blamed by the call that makes a change, where all that it blames breaks a rule in what it found.
-use Rattle.std.proofs.Common.{◌⊎◌, ℕ, Contains, IfErr, Ok, Err, Result, List, inl, inr, subst}
+use Rattle.std.proofs.Common.{◌≡◌, ◌⊎◌, ℕ, Contains, IfErr, Ok, Err, Result, List, inl, inr, refl, subst}
 use Rattle.disk_model.specs.declared.disk.Disk.{Ghosts}
 use Rattle.plain_graph.specs.declared.command.Command.{Command}
 use Rattle.rec_bytes.specs.Space.{State as Space}
@@ -12,7 +12,7 @@ use Rattle.change_parts.specs.declared.change_fault.ChangeFault.{ChangeFault}
 use Rattle.change_parts.specs.declared.change_fault.ChangeFault.TheVariants as faults
 use Rattle.node_changes.specs.NodeDeleting.{IsDeleteCause}
 use Rattle.txn_core.specs.Store.{state_of}
-use Rattle.graph_session.specs.ChangeDamage.{TellsAsFound}
+use Rattle.graph_session.specs.ChangeDamage.{IsToldAsFound, MayMeetNames, TellsAsFound}
 use Rattle.graph_session.specs.Drafting.{BlamesFound, answer_for, drafted_by}
 use Rattle.graph_session.specs.declared.answer.Answer.{Answer}
 use Rattle.graph_session.specs.declared.answer.Answer.TheVariants as answers
@@ -45,9 +45,6 @@ entry-aside s t damage (inr (entry, found)) other = absurd (other entry.0)
 pub entries-aside : (s t : Space) (fault : ChangeFault) → BlamesEntries s t fault → BlamesAside s fault
 entries-aside s t = aside s (λ damage. IsBroken s damage ⊎ (IsEntryDamage t damage × IsAsFound s t damage)) (entry-aside s t)
 
-pub broken-aside : (s : Space) (fault : ChangeFault) → BlamesBroken s fault → BlamesAside s fault
-broken-aside s = aside s (IsBroken s) (λ damage broken other. broken)
-
 -- where the key is a name already
 pub given-aside : (s t : Space) (names : List (List ℕ)) (key : List ℕ) → Contains names key → (fault : ChangeFault)
     → BlamesGiven s (interned s names key) t fault → BlamesAside s fault
@@ -74,7 +71,8 @@ deletion-aside s t id faults.Disk told = tt
 deletion-aside s t id (faults.Damaged damage) told = entry-aside s t damage told
 
 module _ {D : Type 0} {g : Ghosts D} (command : Command) (old : Session D g) where
-  by-fault : (fault : ChangeFault) → (g.tells_reads → TellsAsFound command old.names.names → BlamesAside (state_of old.store) fault)
+  by-fault : (fault : ChangeFault) → (g.tells_reads → (damage : Damage) → fault ≡ faults.Damaged damage → IsToldAsFound command old.names.names damage
+      → IsBroken (state_of old.store) damage)
       → BlamesFound command old (answer_for fault)
   by-fault (faults.NoNode id) told = tt
   by-fault (faults.NoEdge id) told = tt
@@ -87,24 +85,36 @@ module _ {D : Type 0} {g : Ghosts D} (command : Command) (old : Session D g) whe
   by-fault (faults.PropsFull count) told = tt
   by-fault faults.Memory told = tt
   by-fault faults.Disk told = tt
-  by-fault (faults.Damaged damage) told = λ tells at_once. told tells at_once.1 at_once.0
+  by-fault (faults.Damaged damage) told = λ tells. told tells damage refl
+
+  told-aside : MayMeetNames command → (damage : Damage) → IsToldAsFound command old.names.names damage
+      → (¬ IsOfIndex damage) × TellsAsFound command old.names.names
+  told-aside meets damage (inl never) = absurd (never meets)
+  told-aside meets damage (inr told) = told
 
   -- what the call says, of its answer
-  pub found-call : {T : Type 0} (answer : T → Answer) (weight : T → ℕ) (told : ChangeFault → Type 0) (outcome : Result T ChangeFault)
+  pub found-call : MayMeetNames command → {T : Type 0} (answer : T → Answer) (weight : T → ℕ) (told : ChangeFault → Type 0) (outcome : Result T ChangeFault)
       → (g.tells_reads → IfErr outcome told)
       → ((fault : ChangeFault) → TellsAsFound command old.names.names → told fault → BlamesAside (state_of old.store) fault)
       → IfErr (drafted_by answer weight outcome) (BlamesFound command old)
-  found-call answer weight told (Ok made) says on = tt
-  found-call answer weight told (Err fault) says on = by-fault fault (λ tells at_once. on fault at_once (says tells))
+  found-call meets answer weight told (Ok made) says on = tt
+  found-call meets answer weight told (Err fault) says on = by-fault fault (λ tells damage is at.
+      let found = told-aside meets damage at in subst (BlamesAside (state_of old.store)) is (on fault found.1 (says tells)) found.0)
+
+  -- a change whose call blames nothing else
+  pub found-all : {T : Type 0} (answer : T → Answer) (weight : T → ℕ) (outcome : Result T ChangeFault)
+      → (g.tells_reads → IfErr outcome (BlamesBroken (state_of old.store))) → IfErr (drafted_by answer weight outcome) (BlamesFound command old)
+  found-all answer weight (Ok made) says = tt
+  found-all answer weight (Err fault) says = by-fault fault (λ tells damage is at. subst (BlamesBroken (state_of old.store)) is (says tells))
 
   -- a change whose call may blame other records
-  pub found-none : (TellsAsFound command old.names.names → ⊥) → (result : Result Drafted Answer) → IfErr result (BlamesFound command old)
-  found-none none (Ok made) = tt
-  found-none none (Err answers.Done) = tt
-  found-none none (Err (answers.NodeMade id)) = tt
-  found-none none (Err (answers.EdgeMade id)) = tt
-  found-none none (Err (answers.Results results)) = tt
-  found-none none (Err (answers.Refused why)) = tt
-  found-none none (Err (answers.Fault read_faults.Memory)) = tt
-  found-none none (Err (answers.Fault read_faults.Disk)) = tt
-  found-none none (Err (answers.Fault (read_faults.Damaged damage))) = λ tells at_once. absurd (none at_once.1)
+  pub found-none : MayMeetNames command → (TellsAsFound command old.names.names → ⊥) → (result : Result Drafted Answer) → IfErr result (BlamesFound command old)
+  found-none meets none (Ok made) = tt
+  found-none meets none (Err answers.Done) = tt
+  found-none meets none (Err (answers.NodeMade id)) = tt
+  found-none meets none (Err (answers.EdgeMade id)) = tt
+  found-none meets none (Err (answers.Results results)) = tt
+  found-none meets none (Err (answers.Refused why)) = tt
+  found-none meets none (Err (answers.Fault read_faults.Memory)) = tt
+  found-none meets none (Err (answers.Fault read_faults.Disk)) = tt
+  found-none meets none (Err (answers.Fault (read_faults.Damaged damage))) = λ tells at. absurd (none (told-aside meets damage at).1)

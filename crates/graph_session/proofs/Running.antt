@@ -45,7 +45,7 @@ use Rattle.graph_session.proofs.Streams.{Rose-from}
 
 -- ---- spaces that were only read
 
-records-same : (s t : State) → SameButReads s t → t.records ≡ s.records
+pub records-same : (s t : State) → SameButReads s t → t.records ≡ s.records
 records-same s t same = ap (λ (x : State). x.records) same
 
 -- what holds of the records and the shape holds of them still

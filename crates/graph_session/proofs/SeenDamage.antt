@@ -6,8 +6,10 @@ use Rattle.plain_graph.specs.declared.command.Command.{Command}
 use Rattle.rec_bytes.specs.declared.damage.Damage.{Damage}
 use Rattle.rec_bytes.specs.declared.shape.Shape.{Shape}
 use Rattle.store_rules.specs.Breaking.{BreaksAny}
+use Rattle.store_rules.specs.Graph.{names_of}
 use Rattle.store_rules.specs.Indexes.{IsIndexed}
 use Rattle.store_rules.specs.Views.{Records}
+use Rattle.name_store.specs.Again.{IsOtherName}
 use Rattle.txn_core.specs.Base as base
 use Rattle.txn_core.specs.OnlyReading.{only_reads_base_on}
 use Rattle.txn_core.specs.Store.{drafted, working}
@@ -43,25 +45,33 @@ module _ {D : Type 0} {g : Ghosts D} {old mid : Session D g} (only : OnlyDrafts 
     later = let early = only.later in omega (arith, early, later);
   }
 
-  -- What breaks a rule beneath the draft does so in what the line sees. Where nothing does, the names are not those of the records.
+  -- What breaks a rule beneath the draft does so in what the line sees. Where nothing does, the names are not those of the records: the call would blame
+  -- nothing then.
   pub seen-beneath : (command : Command) → (HasStore old → ⊥) → (met damage : Damage)
       → (IsToldAsFound command old.names.names met → BreaksAny (drafted old.store) old.store.base.shape met) → (names : List (List ℕ))
-      → names ≡ old.names.names → IsBrokenBeneath command names mid met damage → HasNoDraft (view old) → IsSeenDamage (view old).console damage
+      → names ≡ old.names.names → IsBrokenBeneath command names mid met damage → HasNoDraft (view old) → IsSeenDamage command (view old).console damage
   seen-beneath command lacks met damage found names kept beneath none = by beneath
     where
       same : working mid.store ≡ drafted old.store
       same = working-read old.store.base mid.store.base only.base ∙ sym (drafted-none old.store none)
 
-      by : IsBrokenBeneath command names mid met damage → IsSeenDamage (view old).console damage
+      indexed : IsIndexed (working mid.store) mid.store.base.shape → IsIndexed (drafted old.store) old.store.base.shape
+      indexed sound =
+          subst (λ (shape : Shape). IsIndexed (drafted old.store) shape) only.base.shape
+          (subst (λ (records : Records). IsIndexed records mid.store.base.shape) same sound)
+
+      by : IsBrokenBeneath command names mid met damage → IsSeenDamage command (view old).console damage
       by (inl breaks) =
           inl (subst (λ (shape : Shape). BreaksAny (drafted old.store) shape damage) only.base.shape
           (subst (λ (records : Records). BreaksAny records mid.store.base.shape damage) same breaks))
-      by (inr (is, inl at_once)) =
+      by (inr (inl (is, at_once))) =
           inl (subst (λ (d : Damage). BreaksAny (drafted old.store) old.store.base.shape d) (sym is)
           (found (subst (λ (known : List (List ℕ)). IsToldAsFound command known met) kept at_once)))
-      by (inr (is, inr sound)) = inr (λ named. lacks (record {
-        store =
-            subst (λ (shape : Shape). IsIndexed (drafted old.store) shape) only.base.shape
-            (subst (λ (records : Records). IsIndexed records mid.store.base.shape) same sound);
-        names = named;
-      }))
+      by (inr (inr (may, sound, inl other))) = inr (
+        may,
+        indexed sound,
+        subst (λ (known : List (List ℕ)). IsOtherName (drafted old.store) known damage) kept
+            (subst (λ (records : Records). IsOtherName records names damage) same other),
+      )
+      by (inr (inr (may, sound, inr (named, is)))) =
+          absurd (lacks (record { store = indexed sound; names = sym kept ∙ named ∙ ap names_of same }))

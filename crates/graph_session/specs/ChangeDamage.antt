@@ -2,19 +2,36 @@
 use Rattle.std.specs.Prelude.{◌≡◌, ◌⊎◌, ℕ, Contains, List}
 use Rattle.plain_graph.specs.declared.command.Command.{Command}
 use Rattle.plain_graph.specs.declared.command.Command.TheVariants as commands
+use Rattle.plain_graph.specs.declared.command.Target.TheVariants as targets
 use Rattle.rec_bytes.specs.declared.damage.Damage.{Damage}
 use Rattle.store_rules.specs.Breaking.{BreaksAny}
 use Rattle.store_rules.specs.Graph.{names_of}
+use Rattle.store_rules.specs.Indexes.{IsIndexed}
+use Rattle.store_rules.specs.Views.{Records}
+use Rattle.name_store.specs.Again.{IsOtherName}
 use Rattle.change_parts.specs.Damage.{IsOfIndex}
 use Rattle.graph_session.specs.Console.{ConsoleView}
 use Rattle.graph_session.specs.Verdicts.{seen_records}
 
--- The record breaks a rule in what a line of the session that writes sees. Or the names in memory
--- are not those of these records.
-abbrev pub IsSeenDamage : ConsoleView → Damage → Type 0
-IsSeenDamage console damage =
+-- A deletion of an edge reads no names. Any other change may blame a record for its name.
+abbrev pub MayMeetNames : Command → Type 0
+MayMeetNames (commands.Delete (targets.Edge id)) = ⊥
+MayMeetNames _ = Unit {0}
+
+-- The record that a change of this command calls damaged breaks a rule in what a line of the
+-- session that writes sees. Or all rules hold there, and the record is that of the first name that
+-- isn't the one in memory, or the names' meta record where there are more in memory.
+abbrev pub IsSeenDamage : Command → ConsoleView → Damage → Type 0
+IsSeenDamage command console damage =
     BreaksAny (seen_records console) console.shape damage
-    ⊎ (console.names ≡ names_of (seen_records console) → ⊥)
+    ⊎ (MayMeetNames command × IsIndexed (seen_records console) console.shape
+    × IsOtherName (seen_records console) console.names damage)
+
+-- The record is that of a name that isn't the one in memory, or the names' meta record. Or these
+-- are the names in memory, and it is the one that was met.
+abbrev pub IsNameOrMet : Records → List (List ℕ) → Damage → Damage → Type 0
+IsNameOrMet records names met damage =
+    IsOtherName records names damage ⊎ ((names ≡ names_of records) × (damage ≡ met))
 
 -- The call that makes the change of this command, where these are the names, blames only what
 -- breaks a rule in the space as it found it, and records of the indexes.
@@ -25,6 +42,7 @@ TellsAsFound (commands.Unset target key) names = Unit {0}
 TellsAsFound (commands.Delete target) names = Unit {0}
 TellsAsFound _ names = ⊥
 
--- so this record breaks one, if the call blames it
+-- So this record breaks one, if the call blames it. A deletion of an edge blames no others at all.
 abbrev pub IsToldAsFound : Command → List (List ℕ) → Damage → Type 0
-IsToldAsFound command names damage = (¬ IsOfIndex damage) × TellsAsFound command names
+IsToldAsFound command names damage =
+    (¬ MayMeetNames command) ⊎ ((¬ IsOfIndex damage) × TellsAsFound command names)

@@ -37,7 +37,8 @@ use Rattle.change_parts.specs.declared.added.Added.{Added}
 use Rattle.change_parts.specs.declared.change_fault.ChangeFault.{ChangeFault}
 use Rattle.change_parts.specs.declared.change_fault.ChangeFault.TheVariants as faults
 use Rattle.graph_session.specs.Answering.{reply_of}
-use Rattle.graph_session.specs.ChangeDamage.{IsSeenDamage, IsToldAsFound}
+use Rattle.graph_session.specs.ChangeDamage.{IsNameOrMet, IsSeenDamage, IsToldAsFound}
+use Rattle.graph_session.specs.ChangeDamage.{MayMeetNames}
 use Rattle.graph_session.specs.ChangeLeft.{LeavesRecords}
 use Rattle.graph_session.specs.Console.{HasNoDraft}
 use Rattle.graph_session.specs.MayStep.{TellsMade}
@@ -167,10 +168,10 @@ module _ {D : Type 0} {g : Ghosts D} where
   BlamesFound command old _ = Unit {0}
 
   -- A record that is called damaged is so in what the line sees.
-  abbrev pub BlamesSeen : Session D g → Answer → Type 0
-  BlamesSeen old (answers.Fault (read_faults.Damaged damage)) =
-      g.tells_reads → HasNoDraft (view old) → IsSeenDamage (view old).console damage
-  BlamesSeen old _ = Unit {0}
+  abbrev pub BlamesSeen : Command → Session D g → Answer → Type 0
+  BlamesSeen command old (answers.Fault (read_faults.Damaged damage)) =
+      g.tells_reads → HasNoDraft (view old) → IsSeenDamage command (view old).console damage
+  BlamesSeen command old _ = Unit {0}
 
   -- what came of drafting
   abbrev pub Drafts : Command → Session D g → Session D g → Result Drafted Answer → Type 0
@@ -226,13 +227,15 @@ module _ {D : Type 0} {g : Ghosts D} where
     pub health : new.health ≡ old.health
     pub snaps : new.snaps ≡ old.snaps
 
-  -- The record breaks a rule in what is beneath the draft. Or it is the one that was met: the call
-  -- of this command told it as it found it, where these are the names, or all rules hold there.
+  -- The record breaks a rule in what is beneath the draft. Or it is the one that was met, and the
+  -- call of this command told it as it found it, where these are the names. Or all rules hold
+  -- there, and it is that of a name that isn't the one in memory, or else the one that was met.
   abbrev pub IsBrokenBeneath : Command → List (List ℕ) → Session D g → Damage → Damage → Type 0
   IsBrokenBeneath command names session met damage =
       BreaksAny (working session.store) session.store.base.shape damage
-      ⊎ ((damage ≡ met) × (IsToldAsFound command names met
-      ⊎ IsIndexed (working session.store) session.store.base.shape))
+      ⊎ ((damage ≡ met) × IsToldAsFound command names met)
+      ⊎ (MayMeetNames command × IsIndexed (working session.store) session.store.base.shape
+      × IsNameOrMet (working session.store) names met damage)
 
   -- The transaction has the draft.
   pub record KeepsDraft (more : ℕ) (old new : Session D g) : Type 0 where

@@ -148,12 +148,12 @@ module _ {D : Type 0} (g : Ghosts D) (old : SessionView D) (reply : Reply) (new 
     TellsDiskFault = (reply ≡ Faulted [] DiskFailed) × Rose (g.faults old.disk) (g.faults new.disk)
 
     -- The reply says that a record is damaged, and has no results. Where the disk tells its reads,
-    -- the record breaks a rule in what the line sees, or the names in memory are not those of the
-    -- records.
-    abbrev pub TellsDamage : Type 0
-    TellsDamage =
+    -- the record breaks a rule in what the line sees. Or all rules hold there, and it is that of
+    -- the first name that isn't the one in memory, or the names' meta record.
+    abbrev pub TellsDamage : Command → Type 0
+    TellsDamage command =
         (damage : Damage) × (reply ≡ Faulted [] (DamagedRecord damage.file damage.id))
-        × (g.tells_reads → IsSeenDamage old.console damage)
+        × (g.tells_reads → IsSeenDamage command old.console damage)
 
     -- A change that is answered as made is made. One that is not, and is not stopped by the disk,
     -- leaves all as it was.
@@ -165,7 +165,7 @@ module _ {D : Type 0} (g : Ghosts D) (old : SessionView D) (reply : Reply) (new 
         (seen_records new.console) new.console.names))
         ⊎ (((why : Refusal) × (reply ≡ Refused why)) × Stays g old new)
         ⊎ ((reply ≡ Faulted [] NoMemory) × Stays g old new)
-        ⊎ (TellsDamage × Stays g old new)
+        ⊎ (TellsDamage command × Stays g old new)
         ⊎ (TellsDiskFault × HasFailedChange g old new)
 
     abbrev pub MayBegin : Type 0

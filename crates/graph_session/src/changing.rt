@@ -1,4 +1,4 @@
-ghost use Rattle.std.specs.Prelude.{◌≡◌, ◌↔◌, [], IfErr, IfOk, IsTrue, OnErr, OnOk, true};
+ghost use Rattle.std.specs.Prelude.{◌≡◌, ◌↔◌, [], IfErr, IfOk, IsTrue, OnErr, OnOk, false, true};
 ghost use Rattle.std.specs.List.{AllByRecursion};
 ghost use Rattle.plain_graph.specs.Forms.{IsShown};
 ghost use Rattle.plain_graph.specs.LineChanges.{read_items};
@@ -15,7 +15,8 @@ ghost use Rattle.txn_core.specs.Store.{drafted, working};
 ghost use Rattle.change_parts.specs.Damage.{IsOfIndex};
 ghost use Rattle.change_parts.specs.Store.{graph_in};
 ghost use Rattle.graph_session.specs.Answering.{reply_of};
-ghost use Rattle.graph_session.specs.ChangeDamage.{IsToldAsFound, TellsAsFound};
+ghost use Rattle.graph_session.specs.ChangeDamage.{IsNameOrMet, IsToldAsFound, MayMeetNames};
+ghost use Rattle.graph_session.specs.ChangeDamage.{TellsAsFound};
 ghost use Rattle.graph_session.specs.Drafting.{drafted_done, drafted_edge, drafted_node};
 ghost use Rattle.graph_session.specs.Settling.{SettlesCommand};
 ghost use Rattle.graph_session.specs.SnapshotEffects.{KeepsOlds};
@@ -35,7 +36,7 @@ use graph_ops::{
 };
 use name_store::Names;
 use plain_graph::{Item, MOST_WEIGHT, Mutation, Query, Refusal, START_WEIGHT, Target};
-use rec_bytes::{Damage, Fault, INDEX, META, SpaceFault, WriteSet};
+use rec_bytes::{Damage, Fault, INDEX, META, Reads, RowFault, SpaceFault, WriteSet};
 use std::alloc::AllocError;
 use store_check::{Verdict, check};
 use traversal_run::items_of;
@@ -142,7 +143,7 @@ impl<'d, D: Disk> Session<'d, D> {
         requires { HasForm (change_command change) }
         ensures only { OnlyDrafts self.old self.new }
         ensures drafts { Drafts (change_command change.entry) self.old self.new result }
-        ensures blames { IfErr result (BlamesSeen self.old) }
+        ensures blames { IfErr result (BlamesSeen (change_command change.entry) self.old) }
         ensures changed { begun.alone ≡ true → DraftsChanged result self.new }
     {
         if begun.alone {
@@ -158,7 +159,7 @@ impl<'d, D: Disk> Session<'d, D> {
         requires { HasForm (change_command change) }
         ensures only { OnlyDrafts self.old self.new }
         ensures drafts { Drafts (change_command change.entry) self.old self.new result }
-        ensures blames { IfErr result (BlamesSeen self.old) }
+        ensures blames { IfErr result (BlamesSeen (change_command change.entry) self.old) }
         ensures changed { DraftsChanged result self.new }
     {
         match self.draft(change) {
@@ -190,7 +191,7 @@ impl<'d, D: Disk> Session<'d, D> {
         requires { HasForm (change_command change) }
         ensures only { OnlyDrafts self.old self.new }
         ensures drafts { Drafts (change_command change.entry) self.old self.new result }
-        ensures blames { IfErr result (BlamesSeen self.old) }
+        ensures blames { IfErr result (BlamesSeen (change_command change.entry) self.old) }
     {
         let names = self.names.count();
         match self.draft_any(change) {
@@ -207,26 +208,26 @@ impl<'d, D: Disk> Session<'d, D> {
     }
 
     // A record that breaks a rule beneath the draft, which is dropped with the names that it
-    // brought. It is the one that was met where the call told that as it found it, or where all
-    // rules hold.
+    // brought: so many there were. It is the one that was met where the call told that as it found
+    // it. Where all rules hold, it is that of a name that isn't the one in memory.
     fn broken_record(
         &mut self,
         change: Change<'_>,
         met: Damage,
-        names: u32,
+        count: u32,
     ) -> Result<Damage, SpaceFault>
-        ensures drops { ReadsBeneath names self.old self.new }
+        ensures drops { ReadsBeneath count self.old self.new }
         ensures broken { D.tells_reads → IfOk result (IsBrokenBeneath
             (change_command change.entry) self.new.names.names self.old met) }
         ensures cause { HasCause (D.faults self.old.store.base.disk.now)
             (D.faults self.new.store.base.disk.now) result }
     {
-        self.drop_draft(names);
+        self.drop_draft(count);
         if is_told_as_found(change, &self.names, met) {
             return Ok(met);
         }
         match check(self.alloc, &mut self.store)? {
-            Verdict::Sound => Ok(met),
+            Verdict::Sound => other_name(&self.names, &mut self.store, met),
             Verdict::Broken(damage) => Ok(damage),
         }
     }
@@ -468,13 +469,41 @@ fn keep<D: Disk>(store: &mut Store<'_, D>) -> Result<(), AllocError>
     store.keep()
 }
 
+// The record of a name that isn't the one in memory, or the names' meta record; or else the one
+// that was met.
+fn other_name<R: Reads>(names: &Names, space: &mut R, met: Damage) -> Result<Damage, SpaceFault>
+    ensures other { R.tells → IfOk result
+        (IsNameOrMet (R.state space.old).records names.now.names met) }
+    ensures onward { R.onward space.old space.new }
+    ensures cause { HasCause (R.faults space.old) (R.faults space.new) result }
+{
+    match names.test(space) {
+        Ok(()) => Ok(met),
+        Err(RowFault::Disk) => Err(SpaceFault::Disk),
+        Err(RowFault::Damaged(damage)) => Ok(damage),
+    }
+}
+
 // Whether the call that makes a change, where these are the names, blames such a record only if it
 // breaks a rule in what the call found.
 fn is_told_as_found(change: Change<'_>, names: &Names, damage: Damage) -> bool
-    ensures { IsTrue result
+    ensures told { IsTrue result
         → IsToldAsFound (change_command change.entry) names.now.names damage }
+    ensures meets { result ≡ false → MayMeetNames (change_command change.entry) }
 {
-    !is_of_index(damage) && tells_as_found(change, names)
+    !may_meet_names(change) || (!is_of_index(damage) && tells_as_found(change, names))
+}
+
+// Whether it may blame a record for its name.
+fn may_meet_names(change: Change<'_>) -> bool
+    ensures { IsTrue result ↔ MayMeetNames (change_command change.entry) }
+{
+    match change {
+        Change::Delete(Target::Edge(_)) => false,
+        Change::Delete(Target::Node(_)) => true,
+        Change::Node { .. } | Change::Edge { .. } | Change::Set { .. } => true,
+        Change::Unset { .. } | Change::Index { .. } | Change::Mutate { .. } => true,
+    }
 }
 
 // Whether it blames nothing else but records of the indexes.

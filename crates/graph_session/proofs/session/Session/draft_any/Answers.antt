@@ -123,13 +123,13 @@ returns-in-Node-clause-found g c =
     let s = state_of c.args.self.now.store in
     let t = state_of c.add_node.new.space in
     rw (c.in-Node.is, c.drafted_node.ensures)
-    (found-call (commands.Node c.in-Node.label.now c.in-Node.pairs.now) c.args.self.now (λ (added : Added). answers.NodeMade added.id)
+    (found-call (commands.Node c.in-Node.label.now c.in-Node.pairs.now) c.args.self.now tt (λ (added : Added). answers.NodeMade added.id)
     (λ (added : Added). added.weight) (BlamesEntries s t) c.add_node.result (λ told. c.add_node.ensures.damaged told)
     (λ fault at_once. entries-aside s t fault))
 
 pub returns-in-Edge-clause-found : goal.returns-in-Edge-clause-found
 returns-in-Edge-clause-found g c =
-    rw c.in-Edge.is (found-none (commands.Edge c.in-Edge.from c.in-Edge.label.now c.in-Edge.to c.in-Edge.pairs.now) c.args.self.now (λ none. none)
+    rw c.in-Edge.is (found-none (commands.Edge c.in-Edge.from c.in-Edge.label.now c.in-Edge.to c.in-Edge.pairs.now) c.args.self.now tt (λ none. none)
     c.drafted_edge.result)
 
 pub returns-in-Set-clause-found : goal.returns-in-Set-clause-found
@@ -138,7 +138,7 @@ returns-in-Set-clause-found g c =
     let s = state_of old.store in
     let t = state_of c.set.new.space in
     rw (c.in-Set.is, c.drafted_done.ensures)
-    (found-call (commands.Set c.in-Set.target c.in-Set.key.now c.in-Set.value.now) old (λ (weight : ℕ). answers.Done) (λ (weight : ℕ). weight)
+    (found-call (commands.Set c.in-Set.target c.in-Set.key.now c.in-Set.value.now) old tt (λ (weight : ℕ). answers.Done) (λ (weight : ℕ). weight)
     (BlamesGiven s (interned s old.names.names c.in-Set.key.now) t) c.set.result (λ told. c.set.ensures.damaged told)
     (λ fault known. given-aside s t old.names.names c.in-Set.key.now known fault))
 
@@ -147,7 +147,7 @@ returns-in-Unset-clause-found g c =
     let s = state_of c.args.self.now.store in
     let t = state_of c.unset.new.space in
     rw (c.in-Unset.is, c.drafted_done-in-Unset.ensures)
-    (found-call (commands.Unset c.in-Unset.target c.in-Unset.key.now) c.args.self.now (λ (weight : ℕ). answers.Done) (λ (weight : ℕ). weight)
+    (found-call (commands.Unset c.in-Unset.target c.in-Unset.key.now) c.args.self.now tt (λ (weight : ℕ). answers.Done) (λ (weight : ℕ). weight)
     (BlamesEntries s t) c.unset.result (λ told. c.unset.ensures.damaged told) (λ fault at_once. entries-aside s t fault))
 
 pub returns-in-Delete-clause-found : goal.returns-in-Delete-clause-found
@@ -155,8 +155,8 @@ returns-in-Delete-clause-found g c = rw c.in-Delete.is c.draft_deletion.ensures.
 
 pub returns-in-Index-clause-found : goal.returns-in-Index-clause-found
 returns-in-Index-clause-found g c =
-    rw c.in-Index.is (found-none (commands.Index c.in-Index.label.now c.in-Index.key.now) c.args.self.now (λ none. none) c.drafted_done-in-Index.result)
+    rw c.in-Index.is (found-none (commands.Index c.in-Index.label.now c.in-Index.key.now) c.args.self.now tt (λ none. none) c.drafted_done-in-Index.result)
 
 pub returns-in-Mutate-clause-found : goal.returns-in-Mutate-clause-found
 returns-in-Mutate-clause-found g c =
-    rw c.in-Mutate.is (found-none (commands.Mutate c.in-Mutate.reading.now c.in-Mutate.mutation.now) c.args.self.now (λ none. none) c.draft_mutation.result)
+    rw c.in-Mutate.is (found-none (commands.Mutate c.in-Mutate.reading.now c.in-Mutate.mutation.now) c.args.self.now tt (λ none. none) c.draft_mutation.result)

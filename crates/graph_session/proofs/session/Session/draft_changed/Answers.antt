@@ -1,3 +1,4 @@
+use Rattle.graph_session.specs.Jobs.{change_command}
 use Rattle.graph_session.proofs.ChangedDrafts.{drafts-changed, only-changed, unchanged-blames}
 use Rattle.graph_session.proofs.session.Session.draft_changed.Goals as goal
 
@@ -11,4 +12,5 @@ returns-else-drafted-clause-changed g c = only-changed c.drop_unchanged.ensures.
 
 pub returns-else-drafted-clause-blames : goal.returns-else-drafted-clause-blames
 returns-else-drafted-clause-blames g c =
-    unchanged-blames c.drop_unchanged.ensures.only c.args.self.now c.in-Ok.drafted c.drop_unchanged.result c.drop_unchanged.ensures.drops
+    unchanged-blames c.drop_unchanged.ensures.only (change_command c.args.change) c.args.self.now c.in-Ok.drafted c.drop_unchanged.result
+    c.drop_unchanged.ensures.drops

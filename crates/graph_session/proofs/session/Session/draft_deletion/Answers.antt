@@ -4,12 +4,11 @@ use Rattle.plain_graph.specs.declared.command.Command.TheVariants as commands
 use Rattle.plain_graph.specs.declared.command.Target.TheVariants as targets
 use Rattle.rel_store.specs.Loading as rels
 use Rattle.txn_core.specs.Store.{drafted, state_of}
-use Rattle.change_parts.specs.Damage.{BlamesBroken}
 use Rattle.change_parts.specs.Degrees.{HasDegree}
 use Rattle.edge_changes.specs.EdgeDeleting.{IsUnusedEdge}
 use Rattle.node_changes.specs.NodeDeleting.{IsDeleteCause, IsUnused}
 use Rattle.graph_session.specs.declared.answer.Answer.TheVariants as answers
-use Rattle.graph_session.proofs.FoundDamage.{broken-aside, deletion-aside, found-call}
+use Rattle.graph_session.proofs.FoundDamage.{deletion-aside, found-all, found-call}
 use Rattle.graph_session.proofs.LineDrafts.{deletion-left, drafts-call}
 use Rattle.graph_session.proofs.session.Session.draft_deletion.Goals as goal
 
@@ -64,13 +63,12 @@ returns-in-Node-clause-found g c =
     let s = state_of c.args.self.now.store in
     let t = state_of c.delete_node.new.space in
     rw (c.in-Node.is, c.drafted_done.ensures)
-    (found-call (commands.Delete (targets.Node c.in-Node.id)) c.args.self.now (λ (weight : ℕ). answers.Done) (λ (weight : ℕ). weight)
+    (found-call (commands.Delete (targets.Node c.in-Node.id)) c.args.self.now tt (λ (weight : ℕ). answers.Done) (λ (weight : ℕ). weight)
     (IsDeleteCause s t c.in-Node.id) c.delete_node.result (λ told. c.delete_node.ensures.found told)
     (λ fault at_once. deletion-aside s t c.in-Node.id fault))
 
 pub returns-in-Edge-clause-found : goal.returns-in-Edge-clause-found
 returns-in-Edge-clause-found g c =
-    let s = state_of c.args.self.now.store in
     rw (c.in-Edge.is, c.drafted_done-in-Edge.ensures)
-    (found-call (commands.Delete (targets.Edge c.in-Edge.id)) c.args.self.now (λ (weight : ℕ). answers.Done) (λ (weight : ℕ). weight)
-    (BlamesBroken s) c.delete_edge.result (λ told. c.delete_edge.ensures.damaged told) (λ fault at_once. broken-aside s fault))
+    (found-all (commands.Delete (targets.Edge c.in-Edge.id)) c.args.self.now (λ (weight : ℕ). answers.Done) (λ (weight : ℕ). weight)
+    c.delete_edge.result (λ told. c.delete_edge.ensures.damaged told))
