@@ -107,12 +107,17 @@ module _ (s : State) (a b : List (List ℕ)) (label : List ℕ) (pairs : List Pa
         let m = blocks-assigned c pairs xs are in
         ⊎_elim
         (λ (k : LacksRoom u format.properties_file (length xs) fault). subst (IsRefusedBy line_reasons s.shape.limit (graph_in s) (commands.Node label pairs))
-        (sym k.is)
-        (properties_refused s.shape.limit (graph_in s) label pairs (line_fits c later names_few) few_properties (let lt = k.lacks in omega arith)))
+        (sym k.is) (
+          λ e. omega arith,
+          properties_refused s.shape.limit (graph_in s) label pairs (line_fits c later names_few) few_properties
+              (let lt = k.lacks in omega arith),
+        ))
         (λ (k : HasRoom u format.properties_file (length xs) × LacksRoom u format.strings_file (assigned_blocks pairs xs) fault). subst
-        (IsRefusedBy line_reasons s.shape.limit (graph_in s) (commands.Node label pairs)) (sym k.1.is)
-        (strings_refused s.shape.limit (graph_in s) label pairs (line_fits c later names_few) few_properties (let le = k.0 in omega arith)
-        (let lt = k.1.lacks in omega arith))) why
+        (IsRefusedBy line_reasons s.shape.limit (graph_in s) (commands.Node label pairs)) (sym k.1.is) (
+          λ e. omega arith,
+          strings_refused s.shape.limit (graph_in s) label pairs (line_fits c later names_few) few_properties
+              (let le = k.0 in omega arith) (let lt = k.1.lacks in omega arith),
+        )) why
 
     pub prepared_is : (prepared : Prepared) → prepared.assigned.items ≡ xs → slice_get b prepared.label ≡ Some label
         → HasPropertyRoom u (length xs) (assigned_blocks pairs xs)

@@ -88,7 +88,7 @@ refused_more some all limit graph command other more (HasRelationships id degree
 refused_more some all limit graph command other more IndexThere why = more refusals.IndexThere why
 refused_more some all limit graph command other more TooManyIndexes why = more refusals.TooManyIndexes why
 refused_more some all limit graph command other more (IndexTooLarge count) why = more (refusals.IndexTooLarge count) why
-refused_more some all limit graph command other more (Full file live) why = more _ why
+refused_more some all limit graph command other more (Full file live) why = (why.0, more _ why.1)
 refused_more some all limit graph command other more (NamesFull count) why = more refusals.FullNames why
 refused_more some all limit graph command other more (PropsFull count) why = more refusals.TooManyProperties why
 refused_more some all limit graph command other more Memory why = tt

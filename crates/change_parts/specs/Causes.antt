@@ -23,7 +23,7 @@ use Rattle.store_rules.specs.Views.{Records, kind_at}
 use Rattle.node_store.specs.Loading as nodes
 use Rattle.rel_store.specs.Loading as rels
 use Rattle.change_parts.specs.Assigning.{HasTooMany, LacksNames}
-use Rattle.change_parts.specs.Damage.{IfBlames, IsBroken, IsLinkingDamage}
+use Rattle.change_parts.specs.Damage.{IfBlames, IsBroken}
 use Rattle.change_parts.specs.Degrees.{HasDegree}
 use Rattle.change_parts.specs.Owners.{owner_of}
 use Rattle.change_parts.specs.Preparing.{NeedForPairs}
@@ -132,11 +132,12 @@ abbrev pub IsNodeTarget : Target → Type 0
 IsNodeTarget (targets.Node id) = Unit {0}
 IsNodeTarget (targets.Edge id) = ⊥
 
--- what the command gives an element needs a record of the file
+-- What the command gives an element needs a record of the file. A new edge may need groups, too.
 abbrev pub AsksRecord : Command → Records → List (List ℕ) → ℕ → Type 0
 AsksRecord (commands.Node label pairs) records names file =
     NeedsAny pairs file ⊎ ((file ≡ format.index_file) × (pairs ≢ []))
-AsksRecord (commands.Edge from label to pairs) records names file = NeedsAny pairs file
+AsksRecord (commands.Edge from label to pairs) records names file =
+    NeedsAny pairs file ⊎ (file ≡ format.groups_file)
 AsksRecord (commands.Set target key value) records names file =
     IsNeeded (LacksKey records names target key) (blocks_of value) file
     ⊎ ((file ≡ format.index_file) × IsNodeTarget target)
@@ -150,7 +151,7 @@ AsksTooMany (commands.Set target key value) records names = IsCrowdedFor records
 AsksTooMany _ records names = ⊥
 
 -- The file had no room for what a new element needs, as counted before its record is written. Or it
--- is told as values are given that need a record of it: by the space as it is left it is full.
+-- is told as what is given needs a record of it: by the space as it is left it is full.
 abbrev pub IsFull : Command → State → State → List (List ℕ) → ℕ → ℕ → Type 0
 IsFull command s t now file live =
     ((count : ℕ) × AsksRoom command s.records now file count
@@ -184,7 +185,7 @@ IsCaused command s t names now (Damaged damage) = Unit {0}
 -- that it tells may be gone by then.
 abbrev pub IsDamageAfter : Command → State → Damage → Type 0
 IsDamageAfter (commands.Node label pairs) t damage = IsBroken t damage
-IsDamageAfter (commands.Edge from label to pairs) t damage = IsLinkingDamage t damage
+IsDamageAfter (commands.Edge from label to pairs) t damage = IsBroken t damage
 IsDamageAfter (commands.Set target key value) t damage = IsBroken t damage
 IsDamageAfter (commands.Index label key) t damage = IsBroken t damage
 IsDamageAfter _ t damage = Unit {0}

@@ -1,5 +1,5 @@
 -- What a change of a command leaves of a store, and why one is refused.
-use Rattle.std.specs.Prelude.{◌≡◌, ℕ, nat_eq, if◌then◌else◌, List}
+use Rattle.std.specs.Prelude.{◌≡◌, ◌≢◌, ℕ, nat_eq, if◌then◌else◌, List}
 use Rattle.plain_graph.specs.Changes.{Changes, Weighs}
 use Rattle.plain_graph.specs.Graph.{Graph}
 use Rattle.plain_graph.specs.Refusals.{FirstReason, NoReason, Reason, change_reasons, most_names}
@@ -42,7 +42,7 @@ full_of file =
     else refusals.FullStrings
 
 -- The first of these reasons that holds refuses the command so. A failure of the machine is none of
--- them, and in a store no record is damaged.
+-- them. In a store no record is damaged, and the file of groups, which no graph shows, isn't full.
 abbrev pub IsRefusedBy : List Reason → ℕ → Graph → Command → ChangeFault → Type 0
 IsRefusedBy reasons limit graph command (NoNode id) =
     FirstReason reasons limit graph command (refusals.NoNode id)
@@ -57,7 +57,7 @@ IsRefusedBy reasons limit graph command TooManyIndexes =
 IsRefusedBy reasons limit graph command (IndexTooLarge count) =
     FirstReason reasons limit graph command (refusals.IndexTooLarge count)
 IsRefusedBy reasons limit graph command (Full file live) =
-    FirstReason reasons limit graph command (full_of file)
+    (file ≢ format.groups_file) × FirstReason reasons limit graph command (full_of file)
 IsRefusedBy reasons limit graph command (NamesFull count) =
     FirstReason reasons limit graph command refusals.FullNames
 IsRefusedBy reasons limit graph command (PropsFull count) =

@@ -1,5 +1,5 @@
 -- What a list of changes leaves of a store, and why one is refused.
-use Rattle.std.specs.Prelude.{◌≡◌, ◌⊎◌, ℕ, ◌≤◌, min, List, ◌∷◌, ◌++◌}
+use Rattle.std.specs.Prelude.{◌≡◌, ◌≢◌, ◌⊎◌, ℕ, ◌≤◌, min, List, ◌∷◌, ◌++◌}
 use Rattle.plain_graph.specs.Graph.{Graph}
 use Rattle.plain_graph.specs.Reply.{Reply}
 use Rattle.plain_graph.specs.declared.command.Command.{Command}
@@ -7,6 +7,7 @@ use Rattle.plain_graph.specs.declared.command.Command.TheVariants as commands
 use Rattle.plain_graph.specs.declared.item.Item.{Item}
 use Rattle.plain_graph.specs.declared.refusal.Refusal.{Refusal}
 use Rattle.plain_graph.specs.declared.refusal.Refusal.TheVariants as refusals
+use Rattle.rec_bytes.specs.Format as format
 use Rattle.rec_bytes.specs.Space.{State}
 use Rattle.store_rules.specs.Writes.{WritesAtMost}
 use Rattle.change_parts.specs.Causes.{IsCausedAfter}
@@ -56,7 +57,7 @@ MakesMutation mutation items shown weight old new names =
     × MakesChanges (changes_of mutation items) replies weight old new names
 
 -- The first change of the list that is refused is refused so. A failure of the machine is no
--- refusal, and in a store no record is damaged.
+-- refusal. In a store no record is damaged, and the file of groups isn't full.
 abbrev pub IsListRefusal : ℕ → Graph → List Command → ChangeFault → Type 0
 IsListRefusal limit graph commands (NoNode id) =
     RefusesEach limit graph commands (refusals.NoNode id)
@@ -70,7 +71,7 @@ IsListRefusal limit graph commands TooManyIndexes =
 IsListRefusal limit graph commands (IndexTooLarge count) =
     RefusesEach limit graph commands (refusals.IndexTooLarge count)
 IsListRefusal limit graph commands (Full file live) =
-    RefusesEach limit graph commands (full_of file)
+    (file ≢ format.groups_file) × RefusesEach limit graph commands (full_of file)
 IsListRefusal limit graph commands (NamesFull count) =
     RefusesEach limit graph commands refusals.FullNames
 IsListRefusal limit graph commands (PropsFull count) =

@@ -258,25 +258,27 @@ module _ (old s a b : State) (names first last : List (List ℕ)) (label key : L
           let room = limit_same in
           let past = ⊎_elim (λ (lt : room_of b.shape format.index_file < (meta_of b format.index_file).live + (13 + count_of b.records l k)). lt)
           (λ (fits : (meta_of b format.index_file).live + (13 + count_of b.records l k) ≤ room_of b.shape format.index_file). absurd (why.3 fits))
-          (cases_lt (room_of b.shape format.index_file) ((meta_of b format.index_file).live + (13 + count_of b.records l k))) in
-          rest_first s label key may refusals.FullIndex
-          (inr (
-            names_free,
-            inr (
-              none_of,
-              inr (
-                none_of,
-                inr (
-                  none_of,
+          (cases_lt (room_of b.shape format.index_file) ((meta_of b format.index_file).live + (13 + count_of b.records l k))) in (
+            λ e. omega arith,
+            rest_first s label key may refusals.FullIndex
+                (inr (
+                  names_free,
                   inr (
-                    (λ other large. let lt = large.0 in absurd (omega (arith, n, few, lt))),
-                    inl
-                        (omega (arith, n, taken, room, past), refl),
+                    none_of,
+                    inr (
+                      none_of,
+                      inr (
+                        none_of,
+                        inr (
+                          (λ other large. let lt = large.0 in absurd (omega (arith, n, few, lt))),
+                          inl
+                              (omega (arith, n, taken, room, past), refl),
+                        ),
+                      ),
+                    ),
                   ),
-                ),
-              ),
-            ),
-          ))
+                )),
+          )
       refused_here makes.Memory why = tt
       refused_here makes.Disk why = tt
       refused_here (makes.Damaged damage) why = why

@@ -55,7 +55,8 @@ none_of other h = h
 pub full_refused : (s : State) (names : List (List ℕ)) (label : List ℕ) (pairs : List Pair) → IsMidway s names → (fault : ChangeFault)
     → LacksRoom s format.nodes_file 1 fault → IsRefusedBy change_reasons s.shape.limit (graph_in s) (commands.Node label pairs) fault
 full_refused s names label pairs store fault why =
-    subst (IsRefusedBy change_reasons s.shape.limit (graph_in s) (commands.Node label pairs)) (sym why.is) (inl (lacks_full s names store fault why, refl))
+    subst (IsRefusedBy change_reasons s.shape.limit (graph_in s) (commands.Node label pairs)) (sym why.is)
+    (λ e. omega arith, inl (lacks_full s names store fault why, refl))
 
 -- the reasons before those of the line aren't a node's, but for want of a node's room
 module _ (s : State) (label : List ℕ) (pairs : List Pair) (room : ¬ IsFullOfNodes s) where

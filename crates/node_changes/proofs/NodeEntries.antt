@@ -116,9 +116,12 @@ module _ (s u : State) (names c : List (List ℕ)) (label : List ℕ) (pairs : L
   -- and where there is none, they are the first
   pub entries_refused : ¬ IsFullOfNodes s → (fault : ChangeFault) → LacksRoom u format.index_file entries fault
       → IsRefusedBy change_reasons s.shape.limit (graph_in s) (commands.Node label pairs) fault
-  entries_refused room fault why = subst (IsRefusedBy change_reasons s.shape.limit (graph_in s) (commands.Node label pairs)) (sym why.is)
-      (inr (
-        no_full s label pairs room,
+  entries_refused room fault why = subst (IsRefusedBy change_reasons s.shape.limit (graph_in s) (commands.Node label pairs)) (sym why.is) (
+    λ e. omega arith,
+    inr (
+      no_full s label pairs room,
+      inr (
+        none_of,
         inr (
           none_of,
           inr (
@@ -135,11 +138,8 @@ module _ (s u : State) (names c : List (List ℕ)) (label : List ℕ) (pairs : L
                       none_of,
                       inr (
                         none_of,
-                        inr (
-                          none_of,
-                          first_after line_reasons index_reasons s.shape.limit (graph_in s) (commands.Node label pairs) refusals.FullIndex at_hand.free
-                              (inr (none_of, inl (lacks, refl))),
-                        ),
+                        first_after line_reasons index_reasons s.shape.limit (graph_in s) (commands.Node label pairs) refusals.FullIndex at_hand.free
+                            (inr (none_of, inl (lacks, refl))),
                       ),
                     ),
                   ),
@@ -148,7 +148,9 @@ module _ (s u : State) (names c : List (List ℕ)) (label : List ℕ) (pairs : L
             ),
           ),
         ),
-      ))
+      ),
+    ),
+  )
     where
       none_of : (other : Refusal) → ⊥ → ⊥
       none_of other h = h

@@ -513,36 +513,40 @@ module _ (s : State) (old : List (List ℕ)) (target : Target) (key : List ℕ) 
         (inr (names_free, inl (let e = ap maps.len element_with in let more = h.1 in omega arith, refl)))
     set_refused (sets.Full file live) h = ⊎_elim
         (λ (k : (file ≡ format.properties_file) × (t.shape.limit < properties_with t owner number value)). subst (λ f. IsRefusal s.shape.limit (graph_in s)
-        (commands.Set target key value) (Full f live)) (sym k.0)
-        (set_first s.shape.limit (graph_in s) target key value refusals.FullProperties there
-        (inr (
-          names_free,
-          inr (
-            few_free h.0,
-            inl (
-              subst (λ n. n < property_count (with_value (graph_in s) target key value)) limit_same
-                  (subst (λ n. t.shape.limit < n) (ap property_count graph_with) k.1),
-              refl,
-            ),
-          ),
-        ))))
+        (commands.Set target key value) (Full f live)) (sym k.0) (
+          λ e. omega arith,
+          set_first s.shape.limit (graph_in s) target key value refusals.FullProperties there
+              (inr (
+                names_free,
+                inr (
+                  few_free h.0,
+                  inl (
+                    subst (λ n. n < property_count (with_value (graph_in s) target key value)) limit_same
+                        (subst (λ n. t.shape.limit < n) (ap property_count graph_with) k.1),
+                    refl,
+                  ),
+                ),
+              )),
+        ))
         (λ (k : (file ≡ format.strings_file) × (properties_with t owner number value ≤ t.shape.limit) × (t.shape.limit < blocks_with t owner number value)).
-        subst (λ f. IsRefusal s.shape.limit (graph_in s) (commands.Set target key value) (Full f live)) (sym k.0)
-        (set_first s.shape.limit (graph_in s) target key value refusals.FullStrings there
-        (inr (
-          names_free,
-          inr (
-            few_free h.0,
-            inr (
-              room_free k.1,
-              inl (
-                subst (λ n. n < block_count (with_value (graph_in s) target key value)) limit_same
-                    (subst (λ n. t.shape.limit < n) (ap block_count graph_with) k.2),
-                refl,
-              ),
-            ),
-          ),
-        ))))
+        subst (λ f. IsRefusal s.shape.limit (graph_in s) (commands.Set target key value) (Full f live)) (sym k.0) (
+          λ e. omega arith,
+          set_first s.shape.limit (graph_in s) target key value refusals.FullStrings there
+              (inr (
+                names_free,
+                inr (
+                  few_free h.0,
+                  inr (
+                    room_free k.1,
+                    inl (
+                      subst (λ n. n < block_count (with_value (graph_in s) target key value)) limit_same
+                          (subst (λ n. t.shape.limit < n) (ap block_count graph_with) k.2),
+                      refl,
+                    ),
+                  ),
+                ),
+              )),
+        ))
         h.1
       where
         limit_same : t.shape.limit ≡ s.shape.limit
@@ -568,17 +572,19 @@ module _ (s : State) (old : List (List ℕ)) (target : Target) (key : List ℕ) 
         let put : graph_in u ≡ record (with_value (graph_in s) target key value) { names = (graph_in t).names } = h.graph ∙ graph_with in
         let limit : u.shape.limit ≡ s.shape.limit = ap (λ (z : Shape). z.limit) (shape ∙ kept.shape) in
         let properties = property_count-limit u.records u.shape h.changes.store in
-        let blocks = block_count-limit u.records u.shape h.changes.store in
-        set_full s.shape.limit (graph_in s) target key value there (
-          names_free,
-          (
-            few_free h.few,
+        let blocks = block_count-limit u.records u.shape h.changes.store in (
+          λ e. omega arith,
+          set_full s.shape.limit (graph_in s) target key value there (
+            names_free,
             (
-              λ o z. let e = ap property_count put in let more = z.0 in absurd (omega arith),
-              (λ o z. let e = ap block_count put in let more = z.0 in absurd (omega arith), tt),
+              few_free h.few,
+              (
+                λ o z. let e = ap property_count put in let more = z.0 in absurd (omega arith),
+                (λ o z. let e = ap block_count put in let more = z.0 in absurd (omega arith), tt),
+              ),
             ),
-          ),
-        ) full
+          ) full,
+        )
 
     pub set_value : (u v : State) (released entries weight : ℕ) → SetsValue t u owner number value released → u.shape ≡ t.shape
         → weight ≡ 2 + blocks_of value + released + (length new - length old) + entries
