@@ -121,7 +121,8 @@ module _ (limit : ℕ) (graph : Graph) (from : ℕ) (label : List ℕ) (to : ℕ
 
       pub edges_refused : (fault : ChangeFault) (live : ℕ) → fault ≡ Full format.relationships_file live → length graph.edges ≡ limit
           → IsRefusedBy change_reasons limit graph (commands.Edge from label to pairs) fault
-      edges_refused fault live is full = subst (IsRefusedBy change_reasons limit graph (commands.Edge from label to pairs)) (sym is) (edges_first full)
+      edges_refused fault live is full = subst (IsRefusedBy change_reasons limit graph (commands.Edge from label to pairs)) (sym is)
+          (λ e. omega arith, edges_first full)
 
       module _ (room : length graph.edges ≢ limit) where
         has_room : Never (edges_full limit graph (commands.Edge from label to pairs))

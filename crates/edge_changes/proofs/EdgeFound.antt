@@ -36,14 +36,14 @@ use Rattle.chain_edit.proofs.LinkLaws.{key_cases}
 use Rattle.group_store.specs.Counting.{one_more, tallied}
 use Rattle.group_store.specs.Faults.{full_damage}
 use Rattle.group_store.specs.Leaving.{IsLowLink, LeavesBeside}
-use Rattle.group_store.specs.Opening.{GrowsAtMost, IsShortDamage}
+use Rattle.group_store.specs.Opening.{GrowsAtMost}
 use Rattle.group_store.specs.Naming.{IsNamedAt, IsOfMarks, NamesAt, NamesFound, NamesMeta}
 use Rattle.change_parts.specs.ChangeFault.{of_fault}
-use Rattle.change_parts.specs.Damage.{BlamesBroken, BlamesLinking, IfBlames, IsAsFound, IsBroken, IsLinkingDamage, IsOfLists, KeepsButNames}
+use Rattle.change_parts.specs.Damage.{BlamesBroken, IfBlames, IsAsFound, IsBroken, IsOfLists, KeepsButNames}
 use Rattle.change_parts.specs.declared.change_fault.ChangeFault.{ChangeFault}
 use Rattle.change_parts.proofs.Adding.{lists_before, lists_broken}
 use Rattle.change_parts.proofs.Broken.{blames_both, blames_more}
-use Rattle.edge_changes.specs.EdgeAdding.{BlamesAdded, BlamesChains, BlamesEnd, HarmsNoFiles, IsAddDamage, IsChainDamage, IsOfChains, IsOfEnd, IsOfEnds}
+use Rattle.edge_changes.specs.EdgeAdding.{BlamesAdded, BlamesChains, BlamesEnd, BlamesPut, HarmsNoFiles, IsAddDamage, IsChainDamage, IsOfChains, IsOfEnd, IsOfEnds, IsPutDamage}
 use Rattle.edge_changes.specs.EdgeAdding.{IsOfNodes, KeepsButChains, groups_needed}
 use Rattle.edge_changes.specs.EdgeEnds.{AtEach, AtSome, HasHead, joined, source_of, target_of}
 use Rattle.edge_changes.specs.EdgeJoining.{BlamesEndJoined, IsJoinDamage, IsLostEnd, IsOfLost, KeepsBesideEnd}
@@ -445,7 +445,7 @@ pub broken_added : (s t : State) (fault : ChangeFault) → BlamesBroken s fault 
 broken_added s t fault told = blames_more (IsBroken s) (IsAddDamage s t) (λ damage broken. inl broken) fault told
 
 -- none of these is the meta record of the groups
-no_group_meta : (from to : ℕ) (damage : Damage) → damage ≡ full_damage → IsOfMarks damage ⊎ IsOfEnds from to damage → ⊥
+pub no_group_meta : (from to : ℕ) (damage : Damage) → damage ≡ full_damage → IsOfMarks damage ⊎ IsOfEnds from to damage → ⊥
 no_group_meta from to damage is of = by of
   where
     file : damage.file ≡ format.meta_file
@@ -460,34 +460,27 @@ no_group_meta from to damage is of = by of
     by (inr (inl group)) = let f = file in omega arith
     by (inr (inr node)) = let f = file in let n = node.0 in omega arith
 
--- the file of groups had the same room before names were made
-short_before : (k : ℕ) (s u t : State) → k ≡ groups_needed s.shape.threshold → u.shape ≡ s.shape → KeepsButNames s u → (damage : Damage)
-    → IsShortDamage u t k damage → IsShortDamage s t (groups_needed s.shape.threshold) damage
-short_before k s u t is shape keeps damage short = record {
-  full = short.full;
-  lacks =
-      let lacks = short.lacks in
-      let room = ap (λ (h : Shape). room_of h format.groups_file) shape in
-      let live = ap (λ (r : Rec). (metas.meta_of r).live) (keeps (meta_key_of format.groups_file) (λ e. omega arith)
-      (λ e. let i = ap (λ (q : Key). q.id) e in omega arith)) in
-      omega (arith, lacks, room, live, is);
-}
-
 -- in the chains
-chain_added : (k : ℕ) (s u t : State) (from to : ℕ) → k ≡ groups_needed s.shape.threshold → u.shape ≡ s.shape → KeepsButNames s u → (damage : Damage)
-    → IsLinkingDamage t damage → IsChainDamage u t k (IsOfEnds from to) damage → IsAddDamage s t damage
-chain_added k s u t from to is shape keeps damage told (inl rel) = inl (files_broken s damage (files_beyond s u shape keeps damage rel))
-chain_added k s u t from to is shape keeps damage (inl broken) (inr (inl found)) =
-    inr (inl (broken, found.1 ∙ these_beyond s u from to keeps damage found.0))
-chain_added k s u t from to is shape keeps damage (inr full) (inr (inl found)) = absurd (no_group_meta from to damage full.0 found.0)
-chain_added k s u t from to is shape keeps damage told (inr (inr short)) = inr (inr (short_before k s u t is shape keeps damage short))
+chain_added : (s u t : State) (from to : ℕ) → u.shape ≡ s.shape → KeepsButNames s u → (damage : Damage) → IsBroken t damage → IsPutDamage u t from to damage
+    → IsAddDamage s t damage
+chain_added s u t from to shape keeps damage broken (inl file) = inl (files_broken s damage (files_beyond s u shape keeps damage file))
+chain_added s u t from to shape keeps damage broken (inr found) = inr (broken, found.1 ∙ these_beyond s u from to keeps damage found.0)
 
-pub chains_added : (k : ℕ) (s u t : State) (from to : ℕ) → k ≡ groups_needed s.shape.threshold → u.shape ≡ s.shape → KeepsButNames s u
-    → (fault : ChangeFault) → BlamesLinking t fault → BlamesChains u t k from to fault → BlamesAdded s t fault
-chains_added k s u t from to is shape keeps fault told found =
-    blames_more (λ damage. IsLinkingDamage t damage × IsChainDamage u t k (IsOfEnds from to) damage) (IsAddDamage s t)
-    (λ damage both. chain_added k s u t from to is shape keeps damage both.0 both.1) fault
-    (blames_both (IsLinkingDamage t) (IsChainDamage u t k (IsOfEnds from to)) fault told found)
+pub chains_added : (s u t : State) (from to : ℕ) → u.shape ≡ s.shape → KeepsButNames s u → (fault : ChangeFault) → BlamesBroken t fault
+    → BlamesPut u t from to fault → BlamesAdded s t fault
+chains_added s u t from to shape keeps fault told found =
+    blames_more (λ damage. IsBroken t damage × IsPutDamage u t from to damage) (IsAddDamage s t)
+    (λ damage both. chain_added s u t from to shape keeps damage both.0 both.1) fault (blames_both (IsBroken t) (IsPutDamage u t from to) fault told found)
+
+-- the file of groups had the same room before names were made
+pub few_before : (k : ℕ) (s u : State) → k ≡ groups_needed s.shape.threshold → u.shape ≡ s.shape → KeepsButNames s u
+    → room_of u.shape format.groups_file < (meta_of u format.groups_file).live + k
+    → room_of s.shape format.groups_file < (meta_of s format.groups_file).live + groups_needed s.shape.threshold
+few_before k s u is shape keeps lacks =
+    let room = ap (λ (h : Shape). room_of h format.groups_file) shape in
+    let live = ap (λ (r : Rec). (metas.meta_of r).live) (keeps (meta_key_of format.groups_file) (λ e. omega arith)
+    (λ e. let i = ap (λ (q : Key). q.id) e in omega arith)) in
+    omega (arith, lacks, room, live, is)
 
 -- in the free lists of properties and blocks
 pub lists_added : (s v t : State) → HarmsNoLists s v → (fault : ChangeFault) → IfBlames (IsOfLists v) fault → BlamesAdded s t fault

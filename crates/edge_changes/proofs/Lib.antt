@@ -23,6 +23,7 @@ pub mod EndWrites
 pub mod EndsFound
 pub mod FileDamages
 pub mod FreeEdges
+pub mod FullGroups
 pub mod HeadsFound
 pub mod JoinBlames
 pub mod JoinWrites

@@ -121,13 +121,19 @@ BlamesEnd s t needed node fault = IfBlames (IsChainDamage s t needed (IsOfEnd s 
 abbrev pub groups_needed : ℕ → ℕ
 groups_needed threshold = 2 * (threshold + 1)
 
+-- What is called damaged where an edge is put: what was wrong with the files before; or one of the
+-- nodes, a group, or the meta record of the nodes or of the relationships, which is as it was found.
+abbrev pub IsPutDamage : State → State → ℕ → ℕ → Damage → Type 0
+IsPutDamage s t from to damage = IsFileDamage s damage
+    ⊎ ((IsOfMarks damage ⊎ IsOfEnds from to damage) × IsAsFound s t damage)
+
+abbrev pub BlamesPut : State → State → ℕ → ℕ → ChangeFault → Type 0
+BlamesPut s t from to fault = IfBlames (IsPutDamage s t from to) fault
+
 -- A record that is blamed where an edge is added breaks a rule in the space as it was. Or it does
--- so in the space as it is left, and is as it was found. Or the file of groups is full then, and in
--- the space as it was it had room for fewer than an edge may need.
+-- so in the space as it is left, and is as it was found.
 abbrev pub IsAddDamage : State → State → Damage → Type 0
-IsAddDamage s t damage = IsBroken s damage
-    ⊎ ((IsBroken t damage × IsAsFound s t damage)
-    ⊎ IsShortDamage s t (groups_needed s.shape.threshold) damage)
+IsAddDamage s t damage = IsBroken s damage ⊎ (IsBroken t damage × IsAsFound s t damage)
 
 abbrev pub BlamesAdded : State → State → ChangeFault → Type 0
 BlamesAdded s t fault = IfBlames (IsAddDamage s t) fault

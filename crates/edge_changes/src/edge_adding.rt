@@ -17,11 +17,12 @@ ghost use Rattle.change_parts.specs.Causes.{IsCaused, IsCausedAfter};
 ghost use Rattle.change_parts.specs.Change.{IsCounted, IsRefusal, MakesChange};
 ghost use Rattle.change_parts.specs.ChangeFault.{HasChangeCause, LeavesSpace};
 ghost use Rattle.edge_changes.specs.EdgeAdding.{BlamesAdded, IsFullOfEdges};
-ghost use Rattle.edge_changes.specs.EdgeAdding.{degree_weight, degrees_weight};
+ghost use Rattle.edge_changes.specs.EdgeAdding.{degree_weight, degrees_weight, groups_needed};
 ghost use Rattle.edge_changes.specs.EdgeAdding.{HasEndDegree, IsNodeEnd, IsUsedEnd, LeadFrom};
 ghost use Rattle.edge_changes.specs.EdgeEnds.{AtEach};
 ghost use Rattle.edge_changes.specs.EdgeOpening.{ends_moved};
-ghost use Rattle.edge_changes.specs.EdgePlacing.{IsEdgeBetween, IsFirst, TakesFirst};
+ghost use Rattle.edge_changes.specs.EdgePlacing.{HadFewGroups, IsEdgeBetween, IsFirst};
+ghost use Rattle.edge_changes.specs.EdgePlacing.{TakesFirst};
 ghost use Rattle.change_parts.specs.Degrees.{HasDegree};
 ghost use Rattle.change_parts.specs.Owners.{IsAbsent};
 ghost use Rattle.change_parts.specs.Store.{IsMidway, IsStore, graph_in};
@@ -67,6 +68,9 @@ pub fn add_edge<S: Space>(
         names.old.names names.new.names) }
     ensures damaged { S.tells → IfErr result
         (BlamesAdded (S.state space.old) (S.state space.new)) }
+    // where the file of groups is full, it had room for fewer than an edge may need
+    ensures short { S.tells → IfErr result (HadFewGroups (S.state space.old)
+        (groups_needed (S.state space.old).shape.threshold)) }
     ensures counts { S.tells → IsStore (S.state space.old) names.old.names
         → IfErr result (IsCounted (S.state space.old)) }
     ensures full { IsStore (S.state space.old) names.old.names

@@ -15,10 +15,10 @@ use Rattle.prop_store.specs.declared.owner.Owner.{Owner}
 use Rattle.change_parts.specs.Assigning.{CanPut, HasPropertyRoom, IsPutCause, PutsPairs, assigned_blocks, pairs_of}
 use Rattle.change_parts.specs.Change.{IsCounted, IsRefusal, MakesChange}
 use Rattle.change_parts.specs.ChangeFault.{IsOutside, LeavesSpace}
-use Rattle.change_parts.specs.Damage.{BlamesLinking, IsLinkingDamage, KeepsButNames}
-use Rattle.edge_changes.specs.EdgeAdding.{BlamesAdded, BlamesChains, HasEndDegree, IsFullOfEdges, IsUsedEnd, KeepsButChains, degrees_weight, groups_needed}
+use Rattle.change_parts.specs.Damage.{BlamesBroken, KeepsButNames}
+use Rattle.edge_changes.specs.EdgeAdding.{BlamesAdded, BlamesPut, HasEndDegree, IsFullOfEdges, IsUsedEnd, KeepsButChains, degrees_weight, groups_needed}
 use Rattle.edge_changes.specs.EdgeEnds.{AtEach, source_of, target_of}
-use Rattle.edge_changes.specs.EdgePlacing.{IsEdgeBetween, PutsEdge}
+use Rattle.edge_changes.specs.EdgePlacing.{HadFewGroups, IsEdgeBetween, PutsEdge}
 use Rattle.change_parts.specs.Degrees.{HasDegree}
 use Rattle.change_parts.specs.Preparing.{IsPrepared}
 use Rattle.change_parts.specs.Store.{IsMidway, graph_in}
@@ -30,7 +30,7 @@ use Rattle.change_parts.proofs.KeptIndexes.{midway}
 use Rattle.edge_changes.proofs.EdgeStands.{owner_stands}
 use Rattle.prop_store.specs.Touching.{LeavesElement}
 use Rattle.edge_changes.proofs.EndLaws.{at_more, at_nodes, at_source, at_target}
-use Rattle.change_parts.proofs.Exits.{failure_late, fault_exit, late_leaves}
+use Rattle.change_parts.proofs.Exits.{fault_exit, late_leaves}
 use Rattle.change_parts.proofs.Readings.{made_read, refused_read, store_read}
 use Rattle.edge_changes.proofs.KeptFirst.{first_kept}
 use Rattle.change_parts.proofs.Reasons.{outside_refused}
@@ -38,12 +38,11 @@ use Rattle.edge_changes.proofs.OpenWrites.{ends_weigh, most_threshold}
 use Rattle.store_rules.proofs.WriteLaws.{beside_then, beside_written, more_written, none_written, then_written}
 use Rattle.change_parts.proofs.Writes.{on_any_err}
 use Rattle.change_parts.specs.Causes.{IsCaused, IsCausedAfter}
-use Rattle.change_parts.proofs.Causes.{absent_caused, broken_left, caused_left, caused_read, failure_caused, line_edge, no_edge, node_of, put_caused}
+use Rattle.change_parts.proofs.Causes.{absent_caused, broken_left, caused_left, caused_read, line_edge, no_edge, node_of, put_caused}
 use Rattle.change_parts.proofs.Causes.{room_caused}
 use Rattle.change_parts.proofs.DiskCauses.{change_cause_passed, later_on, room_refusal_cause}
-use Rattle.change_parts.specs.Damage.{IsBroken}
 use Rattle.change_parts.proofs.Adding.{line_blamed, names_harm_no_lists, no_lists_then, room_blamed}
-use Rattle.change_parts.proofs.Broken.{blames_more}
+use Rattle.edge_changes.proofs.FullGroups.{absent_few, edge_caused, few_named, line_few, put_late, room_few, values_few}
 use Rattle.edge_changes.proofs.EdgeFound.{broken_added, chains_added, chains_harm_no_lists, lists_added, read_names}
 use Rattle.edge_changes.proofs.JoinBlames.{absent_blamed, room_beyond, used_beyond, used_read}
 use Rattle.rec_bytes.proofs.Causes.{never_ok, ok_cause}
@@ -181,7 +180,7 @@ returns-in_err-id-clause-leaves g c tells =
     let s = g.S.Reads.state c.args.space.now in
     let v = g.S.Reads.state c.put_edge.new.space in
     fault_exit (λ f. f) (LeavesSpace s v) c.in_err-id.field-0.0 c.from_residual-in_err-id.result c.from_residual-in_err-id.ensures.1
-    (late_leaves s v c.in_err-id.field-0.0 (failure_late c.in_err-id.field-0.0 c.in_err-id.ensures.failure))
+    (late_leaves s v c.in_err-id.field-0.0 (put_late v c.in_err-id.field-0.0 c.in_err-id.ensures.failure))
 
 pub returns-in_err-id-clause-refused_writes : goal.returns-in_err-id-clause-refused_writes
 returns-in_err-id-clause-refused_writes g c =
@@ -451,7 +450,7 @@ returns-in_err-id-clause-caused g c tells =
     let now = c.prepare.new.names.names in
     let command = commands.Edge c.args.from c.args.label.now c.args.to c.args.pairs.now in
     fault_exit (λ f. f) (IsCaused command s t names now) c.in_err-id.field-0.0 c.from_residual-in_err-id.result c.from_residual-in_err-id.ensures.1
-    (failure_caused command s t names now c.in_err-id.field-0.0 c.in_err-id.ensures.failure)
+    (edge_caused s t names now c.args.from c.args.label.now c.args.to c.args.pairs.now c.in_err-id.field-0.0 c.in_err-id.ensures.failure)
 
 pub returns-in_err-put_properties-clause-caused : goal.returns-in_err-put_properties-clause-caused
 returns-in_err-put_properties-clause-caused g c tells =
@@ -469,7 +468,7 @@ returns-in_err-put_properties-clause-caused g c tells =
     c.as_slice-pairs.ensures
     (fault_exit (λ f. f) (IsCaused command s t names now) c.in_err-put_properties.field-0.0 c.from_residual-in_err-put_properties.result
     c.from_residual-in_err-put_properties.ensures.1
-    (put_caused command s t names now pairs (length items) (assigned_blocks pairs items) needs.0 needs.1 (λ file any. any) c.in_err-put_properties.field-0.0
+    (put_caused command s t names now pairs (length items) (assigned_blocks pairs items) needs.0 needs.1 (λ file any. inl any) c.in_err-put_properties.field-0.0
     told))
 
 pub returns-in_err-test_room-clause-cause : goal.returns-in_err-test_room-clause-cause
@@ -494,14 +493,13 @@ returns-in_err-put_properties-clause-cause g c =
     c.in_err-put_properties.ensures.cause c.from_residual-in_err-put_properties.ensures.1
 
 -- ---- which record is blamed
-ends_blamed : (g : Over) (c : In_err-ends g) → g.S.Reads.tells → BlamesLinking (g.S.Reads.state c.end_degrees.new.space) c.in_err-ends.field-0.0
+ends_blamed : (g : Over) (c : In_err-ends g) → g.S.Reads.tells → BlamesBroken (g.S.Reads.state c.end_degrees.new.space) c.in_err-ends.field-0.0
 ends_blamed g c tells =
     let s = g.S.Reads.state c.args.space.now in
     let n = g.S.Reads.state c.end_degrees.new.space in
     let fault = c.in_err-ends.field-0.0 in
-    blames_more (IsBroken n) (IsLinkingDamage n) (λ damage broken. inl broken) fault
-    (broken_left s n c.end_degrees.ensures.state fault (⊎_elim (absent_blamed s (targets.Node c.args.from) fault) (absent_blamed s (targets.Node c.args.to)
-    fault) (c.in_err-ends.ensures.absent tells)))
+    broken_left s n c.end_degrees.ensures.state fault (⊎_elim (absent_blamed s (targets.Node c.args.from) fault) (absent_blamed s (targets.Node c.args.to)
+    fault) (c.in_err-ends.ensures.absent tells))
 
 pub returns-in_err-ends-clause-damaged : goal.returns-in_err-ends-clause-damaged
 returns-in_err-ends-clause-damaged g c tells =
@@ -530,7 +528,7 @@ returns-in_err-prepared-clause-damaged g c tells =
     (line_blamed _ n c.args.names.now.names c.args.label.now c.as_slice-pairs.result.now c.in_err-prepared.field-0.0 (c.in_err-prepared.ensures.caused tells))
 
 -- in the chains
-put_blamed : (g : Over) (c : In_err-id g) → g.S.Reads.tells → BlamesLinking (g.S.Reads.state c.put_edge.new.space) c.in_err-id.field-0.0
+put_blamed : (g : Over) (c : In_err-id g) → g.S.Reads.tells → BlamesBroken (g.S.Reads.state c.put_edge.new.space) c.in_err-id.field-0.0
 put_blamed g c tells =
     let s = g.S.Reads.state c.args.space.now in
     let n = g.S.Reads.state c.end_degrees.new.space in
@@ -568,14 +566,11 @@ returns-in_err-id-clause-damaged g c tells =
     let u = g.S.Reads.state c.prepare.new.space in
     let v = g.S.Reads.state c.put_edge.new.space in
     let fault = c.in_err-id.field-0.0 in
-    let most = groups_needed c.shape-threshold.result.threshold in
-    let found = at_nodes (λ from to. BlamesChains u v most from to fault) c.in_ok-ends.ends c.args.from c.args.to c.in_ok-ends.ensures.ends
+    let found = at_nodes (λ from to. BlamesPut u v from to fault) c.in_ok-ends.ends c.args.from c.args.to c.in_ok-ends.ensures.ends
     (c.in_err-id.ensures.found tells (used_then g at.In_ok-prepared tells)) in
     let named = g.met.S.Reads.onward_shape _ _ c.prepare.ensures.onward ∙ ap (λ (z : State). z.shape) c.end_degrees.ensures.state in
     fault_exit (λ f. f) (BlamesAdded s v) fault c.from_residual-in_err-id.result c.from_residual-in_err-id.ensures.1
-    (chains_added most s u v c.args.from c.args.to
-    (ap groups_needed (ap (λ (h : Shape). h.threshold) (c.shape-threshold.ensures.is ∙ sym (g.met.S.Reads.onward_shape _ _ c.prepare.ensures.onward) ∙ named)))
-    named (names_then g at.In_ok-prepared tells) fault (put_blamed g at.In_err-id tells) found)
+    (chains_added s u v c.args.from c.args.to named (names_then g at.In_ok-prepared tells) fault (put_blamed g at.In_err-id tells) found)
 
 pub returns-in_err-put_properties-clause-damaged : goal.returns-in_err-put_properties-clause-damaged
 returns-in_err-put_properties-clause-damaged g c tells =
@@ -647,7 +642,7 @@ returns-in_err-id-clause-caused_after g c tells =
     let fault = c.in_err-id.field-0.0 in
     fault_exit (λ f. f) (IsCausedAfter command t names now) fault c.from_residual-in_err-id.result c.from_residual-in_err-id.ensures.1
     (record {
-      caused = failure_caused command t t names now fault c.in_err-id.ensures.failure;
+      caused = edge_caused t t names now c.args.from c.args.label.now c.args.to c.args.pairs.now fault c.in_err-id.ensures.failure;
       damaged = put_blamed g (goal.at.returns-in_err-id-clause-caused_after g c).In_err-id tells;
     })
 
@@ -666,8 +661,8 @@ returns-in_err-put_properties-clause-caused_after g c tells =
     c.as_slice-pairs.ensures
     (fault_exit (λ f. f) (IsCausedAfter command t names now) fault c.from_residual-in_err-put_properties.result c.from_residual-in_err-put_properties.ensures.1
     (record {
-      caused = put_caused command t t names now pairs (length items) (assigned_blocks pairs items) needs.0 needs.1 (λ file any. any) fault told;
-      damaged = blames_more (IsBroken t) (IsLinkingDamage t) (λ damage broken. inl broken) fault (c.in_err-put_properties.ensures.damaged_after tells);
+      caused = put_caused command t t names now pairs (length items) (assigned_blocks pairs items) needs.0 needs.1 (λ file any. inl any) fault told;
+      damaged = c.in_err-put_properties.ensures.damaged_after tells;
     }))
 
 pub returns-in_err-ends-clause-made : goal.returns-in_err-ends-clause-made
@@ -821,3 +816,53 @@ returns-in_err-id-clause-free g c _ = never_ok c.from_residual-in_err-id.result 
 
 pub returns-in_err-put_properties-clause-free : goal.returns-in_err-put_properties-clause-free
 returns-in_err-put_properties-clause-free g c _ = never_ok c.from_residual-in_err-put_properties.result _ _ c.from_residual-in_err-put_properties.ensures.1
+
+-- ---- where the file of groups is full
+pub returns-in_err-ends-clause-short : goal.returns-in_err-ends-clause-short
+returns-in_err-ends-clause-short g c tells =
+    let s = g.S.Reads.state c.args.space.now in
+    let most = groups_needed s.shape.threshold in
+    let fault = c.in_err-ends.field-0.0 in
+    fault_exit (λ f. f) (HadFewGroups s most) fault c.from_residual.result c.from_residual.ensures.1
+    (⊎_elim (absent_few s most fault s (targets.Node c.args.from)) (absent_few s most fault s (targets.Node c.args.to)) (c.in_err-ends.ensures.absent tells))
+
+pub returns-in_err-test_room-clause-short : goal.returns-in_err-test_room-clause-short
+returns-in_err-test_room-clause-short g c tells =
+    let s = g.S.Reads.state c.args.space.now in
+    let n = g.S.Reads.state c.end_degrees.new.space in
+    let most = groups_needed s.shape.threshold in
+    let fault = c.in_err-test_room.field-0.0 in
+    fault_exit (λ f. f) (HadFewGroups s most) fault c.from_residual-in_err-test_room.result c.from_residual-in_err-test_room.ensures.1
+    (room_few s most fault n 1 c.in_err-test_room.ensures.full)
+
+pub returns-in_err-prepared-clause-short : goal.returns-in_err-prepared-clause-short
+returns-in_err-prepared-clause-short g c tells =
+    let s = g.S.Reads.state c.args.space.now in
+    let n = g.S.Reads.state c.end_degrees.new.space in
+    let most = groups_needed s.shape.threshold in
+    let fault = c.in_err-prepared.field-0.0 in
+    fault_exit (λ f. f) (HadFewGroups s most) fault c.from_residual-in_err-prepared.result c.from_residual-in_err-prepared.ensures.1
+    (line_few s most fault n c.args.names.now.names c.args.label.now c.as_slice-pairs.result.now (c.in_err-prepared.ensures.caused tells))
+
+pub returns-in_err-id-clause-short : goal.returns-in_err-id-clause-short
+returns-in_err-id-clause-short g c tells =
+    let at = goal.at.returns-in_err-id-clause-short g c in
+    let s = g.S.Reads.state c.args.space.now in
+    let u = g.S.Reads.state c.prepare.new.space in
+    let most = groups_needed s.shape.threshold in
+    let fault = c.in_err-id.field-0.0 in
+    let limit = ap groups_needed (ap (λ (h : Shape). h.threshold) (c.shape-threshold.ensures.is
+    ∙ ap (λ (z : State). z.shape) c.end_degrees.ensures.state)) in
+    let named = g.met.S.Reads.onward_shape _ _ c.prepare.ensures.onward ∙ ap (λ (z : State). z.shape) c.end_degrees.ensures.state in
+    fault_exit (λ f. f) (HadFewGroups s most) fault c.from_residual-in_err-id.result c.from_residual-in_err-id.ensures.1
+    (few_named s most fault u (groups_needed c.shape-threshold.result.threshold) limit refl named (names_then g at.In_ok-prepared tells)
+    (c.in_err-id.ensures.short tells (used_then g at.In_ok-prepared tells)))
+
+pub returns-in_err-put_properties-clause-short : goal.returns-in_err-put_properties-clause-short
+returns-in_err-put_properties-clause-short g c tells =
+    let s = g.S.Reads.state c.args.space.now in
+    let t = g.S.Reads.state c.put_properties.new.space in
+    let most = groups_needed s.shape.threshold in
+    let fault = c.in_err-put_properties.field-0.0 in
+    fault_exit (λ f. f) (HadFewGroups s most) fault c.from_residual-in_err-put_properties.result c.from_residual-in_err-put_properties.ensures.1
+    (values_few s most fault t _ _ (c.in_err-put_properties.ensures.caused tells))
