@@ -40,7 +40,7 @@ pub fn chain_length<R: Reads>(
         (group_at (R.state space.old).records) head x
         → stands (R.state space.old).records chain.now.node members x ≡ true)
         → IfErr result (IsBreakFault (R.state space.old)) }
-    ensures sound { R.tells → rel_mark (R.state space.old) ≤ rel_room (R.state space.old)
+    ensures not_damaged { R.tells → rel_mark (R.state space.old) ≤ rel_room (R.state space.old)
         → (xs : List ℕ)
         → IsMemberChain (R.state space.old) chain.now.first chain.now.node members xs
         → NotDamaged result }

@@ -35,7 +35,7 @@ pub(crate) fn reach_of<R: Reads>(space: &R) -> Reach
 pub(crate) fn test_link<R: Reads>(space: &R, link: u32, named: Damage) -> Result<(), Damage>
     ensures key { OnOk result (link ≢ NIL → IsKey (rel_key link)) }
     ensures known { OnOk result (IsKnownLink (R.state space.now) link) }
-    ensures sound { IsRightLink (R.state space.now) link → IsOk result }
+    ensures not_damaged { IsRightLink (R.state space.now) link → IsOk result }
     ensures damaged { IfErr result (IsLinkDamage (R.state space.now) link named) }
 {
     test_within(space, reach_of(space), link, named)
@@ -51,7 +51,7 @@ pub(crate) fn test_within<R: Reads>(
     requires { IsReach (R.state space.now) reach }
     ensures key { OnOk result (link ≢ NIL → IsKey (rel_key link)) }
     ensures known { OnOk result (IsKnownLink (R.state space.now) link) }
-    ensures sound { IsRightLink (R.state space.now) link → IsOk result }
+    ensures not_damaged { IsRightLink (R.state space.now) link → IsOk result }
     ensures damaged { IfErr result (IsLinkDamage (R.state space.now) link named) }
 {
     if link == NIL {

@@ -32,7 +32,7 @@ pub fn push_front<S: Space>(space: &mut S, head: Head, node: u32, rel: u32) -> R
     ensures breaks { S.tells → (n : ℕ)
         → IsHeadOf (S.state space.old).records (head_of head) n
         → IfErr result (IsBreakFault (S.state space.old)) }
-    ensures sound { S.tells
+    ensures not_damaged { S.tells
         → IsRightLink (S.state space.old) (first_of (S.state space.old).records (head_of head))
         → NotDamaged result }
     ensures known { S.tells → OnOk result

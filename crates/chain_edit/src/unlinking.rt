@@ -44,7 +44,7 @@ pub fn unlink<S: Space>(space: &mut S, head: Head, node: u32, rel: u32) -> Resul
     ensures breaks { S.tells → (row : RelRow) → rel_at (S.state space.old).records rel ≡ Some row
         → IsLoneHead (S.state space.old).records (head_of head) node rel row
         → IfErr result (IsBreakFault (S.state space.old)) }
-    ensures sound { S.tells
+    ensures not_damaged { S.tells
         → IsRightLink (S.state space.old) (prev_of (S.state space.old).records node rel)
         → IsRightLink (S.state space.old) (next_of (S.state space.old).records node rel)
         → (xs : List ℕ) → CanUnlink (S.state space.old).records (head_of head) node rel xs

@@ -44,7 +44,7 @@ pub fn walk<R: Reads>(
         → IsChainHead (R.state space.old).records head chain.now.node
         → rel_mark (R.state space.old) ≤ budget
         → IfErr result (IsBreakFault (R.state space.old)) }
-    ensures sound { R.tells → rel_mark (R.state space.old) ≤ rel_room (R.state space.old)
+    ensures not_damaged { R.tells → rel_mark (R.state space.old) ≤ rel_room (R.state space.old)
         → (xs : List ℕ)
         → IsSoundWalk (R.state space.old) chain.now.first chain.now.node budget xs
         → NotDamaged result }

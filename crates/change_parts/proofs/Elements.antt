@@ -18,8 +18,9 @@ use Rattle.rel_store.specs.RelRecord.{row_of}
 use Rattle.rel_store.proofs.Rows as rel_rows
 use Rattle.change_parts.specs.Degrees.{HasDegree}
 use Rattle.change_parts.specs.Owners.{owner_of}
-use Rattle.change_parts.specs.Store.{IsMidway, graph_in}
+use Rattle.change_parts.specs.Store.{IsMidway}
 use Rattle.prop_store.specs.Changing.{HasElement}
+use Rattle.store_rules.specs.Graph.{graph_in}
 
 -- ---- a load changes nothing but the count of reads
 same_or_not : (s : State) (b : Bool) → SameButReads s (cond b (after_get s) s)

@@ -32,7 +32,7 @@ use Rattle.prop_store.specs.Setting.{HarmsNoLists}
 use Rattle.change_parts.specs.Damage.{LeavesIndexes}
 use Rattle.change_parts.specs.Owners.{owner_of}
 use Rattle.change_parts.specs.GivenValues.{with_assigned}
-use Rattle.change_parts.specs.Store.{IsMidway, KeepsIndexes, graph_in}
+use Rattle.change_parts.specs.Store.{IsMidway, KeepsIndexes}
 use Rattle.prop_store.proofs.ElementGraphs.{lacks_key, listed_at}
 use Rattle.prop_store.proofs.ValueSteps.{sets_value}
 use Rattle.prop_store.specs.Finding.{property_of}
@@ -52,6 +52,7 @@ use Rattle.change_parts.proofs.ElementChanges.{with_properties_twice}
 use Rattle.change_parts.proofs.LastPairs.{blocks_in-with_pairs, len-with_pairs, new_at, new_take, with_pairs-push}
 use Rattle.change_parts.proofs.NameNumbers.{number_in}
 use Rattle.change_parts.proofs.Elements.{element_used}
+use Rattle.store_rules.specs.Graph.{graph_in}
 
 -- ---- elements as owners
 

@@ -21,7 +21,7 @@ use Rattle.change_parts.specs.Change.{IsRefusedBy}
 use Rattle.change_parts.specs.ChangeFault.{of_intern}
 use Rattle.change_parts.specs.Preparing.{IsPrepared, line_reasons}
 use Rattle.change_parts.specs.Rooms.{HasRoom, LacksRoom}
-use Rattle.change_parts.specs.Store.{IsMidway, KeepsElements, graph_in}
+use Rattle.change_parts.specs.Store.{IsMidway, KeepsElements}
 use Rattle.change_parts.specs.declared.assigning.Assignment.{Assignment}
 use Rattle.change_parts.specs.declared.change_fault.ChangeFault.{ChangeFault}
 use Rattle.change_parts.specs.declared.change_fault.ChangeFault.TheVariants.{NoNode, NoEdge, HasRelationships, IndexThere}
@@ -31,6 +31,7 @@ use Rattle.change_parts.specs.declared.preparing.Prepared.{Prepared}
 use Rattle.change_parts.proofs.Assigned.{blocks-assigned, length-assigned}
 use Rattle.change_parts.proofs.LineNames.{first_lacks, uses_prefix}
 use Rattle.change_parts.proofs.Reasons.{None, few_fit, line_free, many_refused, names_fit, names_refused, properties_refused, room_fits, strings_refused}
+use Rattle.store_rules.specs.Graph.{graph_in}
 
 -- a name keeps its number where others come
 pub slice_get-more : (names rest : List (List ℕ)) (id : ℕ) (text : List ℕ) → slice_get names id ≡ Some text → slice_get (names ++ rest) id ≡ Some text

@@ -9,7 +9,7 @@ use Rattle.plain_graph.specs.declared.command.Target.{Target}
 use Rattle.rec_bytes.specs.Space.{SameButReads, State}
 use Rattle.change_parts.specs.Change.{IsRefusedBy, MakesChange, IsRefusal}
 use Rattle.change_parts.specs.ChangeFault.{LeavesSpace, is_element_file, of_fault}
-use Rattle.change_parts.specs.Store.{IsMidway, graph_in}
+use Rattle.change_parts.specs.Store.{IsMidway}
 use Rattle.change_parts.specs.declared.change_fault.ChangeFault.{ChangeFault}
 use Rattle.change_parts.specs.declared.change_fault.ChangeFault.TheVariants.{NoNode, NoEdge, HasRelationships, IndexThere, TooManyIndexes, IndexTooLarge, Full}
 use Rattle.change_parts.specs.declared.change_fault.ChangeFault.TheVariants.{NamesFull, PropsFull, Memory, Disk, Damaged}
@@ -18,6 +18,7 @@ use Rattle.std.specs.Prelude.{Err}
 use Rattle.rec_bytes.specs.Fault.{NotDamaged}
 use Rattle.rec_bytes.specs.declared.fault.Fault.{Fault}
 use Rattle.rec_bytes.specs.declared.fault.Fault.TheVariants as prop
+use Rattle.store_rules.specs.Graph.{graph_in}
 
 -- it is the same store
 pub store_read : (s m : State) (names : List (List ℕ)) → SameButReads s m → IsMidway s names → IsMidway m names

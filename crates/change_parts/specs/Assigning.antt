@@ -21,7 +21,7 @@ use Rattle.store_rules.specs.PropertyChange.{Apart, property_place}
 use Rattle.store_rules.specs.Views.{Records, key_in, rec_at}
 use Rattle.change_parts.specs.Owners.{owner_of}
 use Rattle.change_parts.specs.Rooms.{HasRoom, LacksRoom}
-use Rattle.change_parts.specs.Store.{IsMidway, graph_in}
+use Rattle.change_parts.specs.Store.{IsMidway}
 use Rattle.change_parts.specs.declared.assigning.Assignment.{Assignment}
 use Rattle.change_parts.specs.declared.change_fault.ChangeFault.{ChangeFault}
 use Rattle.change_parts.specs.declared.change_fault.ChangeFault.TheVariants.{NoNode, NoEdge}
@@ -31,6 +31,7 @@ use Rattle.change_parts.specs.declared.change_fault.ChangeFault.TheVariants.{Too
 use Rattle.change_parts.specs.declared.change_fault.ChangeFault.TheVariants.{IndexTooLarge}
 use Rattle.change_parts.specs.declared.change_fault.ChangeFault.TheVariants.{NamesFull, PropsFull}
 use Rattle.change_parts.specs.declared.change_fault.ChangeFault.TheVariants.{Memory, Disk, Damaged}
+use Rattle.store_rules.specs.Graph.{graph_in}
 
 -- the pair at a place
 abbrev pub pair_at : List Pair → ℕ → Pair

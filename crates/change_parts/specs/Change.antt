@@ -13,7 +13,7 @@ use Rattle.rec_bytes.specs.RecordFiles.{room_of}
 use Rattle.rec_bytes.specs.declared.shape.Shape.{Shape}
 use Rattle.rec_bytes.specs.Space.{State, meta_of}
 use Rattle.change_parts.specs.Degrees.{HasDegree}
-use Rattle.change_parts.specs.Store.{IsStore, graph_in}
+use Rattle.change_parts.specs.Store.{IsStore}
 use Rattle.change_parts.specs.declared.change_fault.ChangeFault.{ChangeFault}
 use Rattle.change_parts.specs.declared.change_fault.ChangeFault.TheVariants.{NoNode, NoEdge}
 use Rattle.change_parts.specs.declared.change_fault.ChangeFault.TheVariants.{HasRelationships, Full}
@@ -22,6 +22,7 @@ use Rattle.change_parts.specs.declared.change_fault.ChangeFault.TheVariants.{Too
 use Rattle.change_parts.specs.declared.change_fault.ChangeFault.TheVariants.{IndexTooLarge}
 use Rattle.change_parts.specs.declared.change_fault.ChangeFault.TheVariants.{NamesFull, PropsFull}
 use Rattle.change_parts.specs.declared.change_fault.ChangeFault.TheVariants.{Memory, Disk, Damaged}
+use Rattle.store_rules.specs.Graph.{graph_in}
 
 -- The store has the change of the command, with this reply and this weight, and no reason refused
 -- it.

@@ -13,7 +13,7 @@ use Rattle.rec_bytes.specs.Space.{State}
 use Rattle.change_parts.specs.Assigning.{AreAssigned, HasPropertyRoom, HasTooMany, LacksNames}
 use Rattle.change_parts.specs.Assigning.{assigned_blocks}
 use Rattle.change_parts.specs.Rooms.{LacksRoom}
-use Rattle.change_parts.specs.Store.{KeepsElements, graph_in}
+use Rattle.change_parts.specs.Store.{KeepsElements}
 use Rattle.change_parts.specs.declared.change_fault.ChangeFault.{ChangeFault}
 use Rattle.change_parts.specs.declared.change_fault.ChangeFault.TheVariants.{NoNode, NoEdge}
 use Rattle.change_parts.specs.declared.change_fault.ChangeFault.TheVariants.{HasRelationships, Full}
@@ -23,6 +23,7 @@ use Rattle.change_parts.specs.declared.change_fault.ChangeFault.TheVariants.{Ind
 use Rattle.change_parts.specs.declared.change_fault.ChangeFault.TheVariants.{NamesFull, PropsFull}
 use Rattle.change_parts.specs.declared.change_fault.ChangeFault.TheVariants.{Memory, Disk, Damaged}
 use Rattle.change_parts.specs.declared.preparing.Prepared.{Prepared}
+use Rattle.store_rules.specs.Graph.{graph_in}
 
 -- the reasons that the names and the properties of a new element give, for a node and an edge alike
 abbrev pub line_reasons : List Reason

@@ -2,7 +2,7 @@
 use Rattle.std.specs.Prelude.{◌≡◌, ℕ, List}
 use Rattle.plain_graph.specs.Graph.{Graph}
 use Rattle.rec_bytes.specs.Space.{State}
-use Rattle.store_rules.specs.Graph.{graph_of, names_of}
+use Rattle.store_rules.specs.Graph.{graph_in, graph_of, names_of}
 use Rattle.store_rules.specs.Indexes.{AreIndexed, IsIndexed, wanted_in}
 use Rattle.store_rules.specs.Rules.{IsWellFormed}
 
@@ -20,10 +20,6 @@ pub record IsMidway (s : State) (kept : List (List ℕ)) : Type 0 where
 abbrev pub KeepsIndexes : State → State → Type 0
 KeepsIndexes s t = AreIndexed s.records (wanted_in s.records)
     → AreIndexed t.records (wanted_in t.records)
-
--- the graph that a space stands for
-abbrev pub graph_in : State → Graph
-graph_in s = graph_of s.records
 
 -- The store has these names now, and the nodes, the edges and the indexes that it had.
 pub record KeepsElements (s t : State) (kept : List (List ℕ)) : Type 0 where

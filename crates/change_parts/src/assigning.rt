@@ -224,7 +224,7 @@ pub fn put_properties<S: Space>(
         → owner ≡ owner_of (targets.Edge id)
         → CanPut (S.state space.old) names (targets.Edge id) pairs.now assigned.now
         → KeepsIndexes (S.state space.old) (S.state space.new)) }
-    ensures sound { S.tells → (names : List (List ℕ)) (target : Target)
+    ensures not_damaged { S.tells → (names : List (List ℕ)) (target : Target)
         → owner ≡ owner_of target → CanPut (S.state space.old) names target pairs.now assigned.now
         → HasPropertyRoom (S.state space.old) (length assigned.now)
         (assigned_blocks pairs.now assigned.now) → IfErr result IsOutside }

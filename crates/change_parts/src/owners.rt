@@ -7,7 +7,8 @@ ghost use Rattle.rec_bytes.specs.Space.{SameButReads};
 ghost use Rattle.change_parts.specs.ChangeFault.{HasChangeCause};
 ghost use Rattle.change_parts.specs.Damage.{BlamesBroken};
 ghost use Rattle.change_parts.specs.Owners.{IsAbsent, IsMissing, MayMiss, owner_of};
-ghost use Rattle.change_parts.specs.Store.{IsMidway, graph_in};
+ghost use Rattle.change_parts.specs.Store.{IsMidway};
+ghost use Rattle.store_rules.specs.Graph.{graph_in};
 
 use crate::ChangeFault;
 use plain_graph::Target;

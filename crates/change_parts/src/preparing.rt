@@ -17,7 +17,8 @@ ghost use Rattle.change_parts.specs.ChangeFault.{HasChangeCause, LeavesSpace};
 ghost use Rattle.change_parts.specs.Damage.{KeepsButNames};
 ghost use Rattle.change_parts.specs.Preparing.{IsLineCause, IsPrepared, NeedForPairs, line_reasons};
 ghost use Rattle.change_parts.specs.Rooms.{KeepsElementMetas};
-ghost use Rattle.change_parts.specs.Store.{IsMidway, graph_in};
+ghost use Rattle.change_parts.specs.Store.{IsMidway};
+ghost use Rattle.store_rules.specs.Graph.{graph_in};
 
 use crate::ChangeFault;
 use crate::assigning::{Assignment, assign_pairs, reserve_properties};

@@ -23,13 +23,14 @@ use Rattle.rel_store.proofs.Rows as rel_rows
 use Rattle.change_parts.specs.Change.{IsRefusal, MakesChange}
 use Rattle.edge_changes.specs.EdgeDeleting.{HasBareRow, TakesEdge}
 use Rattle.change_parts.specs.Owners.{owner_of}
-use Rattle.change_parts.specs.Store.{IsMidway, graph_in}
+use Rattle.change_parts.specs.Store.{IsMidway}
 use Rattle.change_parts.specs.declared.change_fault.ChangeFault.TheVariants.{NoEdge}
 use Rattle.change_parts.proofs.Elements.{edge_loaded, has_owner}
 use Rattle.change_parts.proofs.Readings.{made_read, store_read}
 use Rattle.store_rules.specs.Indexes.{AreIndexed, wanted_in}
 use Rattle.change_parts.proofs.KeptIndexes.{properties_keep, store_now}
 use Rattle.change_parts.proofs.ElementChanges.{without_changed}
+use Rattle.store_rules.specs.Graph.{graph_in}
 
 -- ---- why an edge isn't deleted
 

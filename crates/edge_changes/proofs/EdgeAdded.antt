@@ -28,7 +28,7 @@ use Rattle.change_parts.specs.Owners.{IsMissing}
 use Rattle.change_parts.specs.Preparing.{IsPrepared, line_reasons}
 use Rattle.change_parts.specs.Rooms.{HasRoom, LacksRoom}
 use Rattle.store_rules.specs.Indexes.{AreIndexed, wanted_in}
-use Rattle.change_parts.specs.Store.{IsMidway, KeepsElements, KeepsIndexes, graph_in}
+use Rattle.change_parts.specs.Store.{IsMidway, KeepsElements, KeepsIndexes}
 use Rattle.change_parts.specs.declared.change_fault.ChangeFault.{ChangeFault}
 use Rattle.change_parts.specs.declared.change_fault.ChangeFault.TheVariants.{NoNode, NoEdge, HasRelationships, IndexThere}
 use Rattle.change_parts.specs.declared.change_fault.ChangeFault.TheVariants.{TooManyIndexes, IndexTooLarge, Full}
@@ -42,6 +42,7 @@ use Rattle.change_parts.proofs.Reasons.{None as Never, refused_more}
 use Rattle.change_parts.proofs.KeptIndexes.{store_now}
 use Rattle.change_parts.proofs.Reasons.{index_reasons}
 use Rattle.plain_graph.proofs.LineLaws.{first_front, none_both}
+use Rattle.store_rules.specs.Graph.{graph_in}
 
 -- ---- room for an edge
 module _ (s : State) (names : List (List ℕ)) (store : IsMidway s names) where

@@ -4,7 +4,7 @@ use Rattle.plain_graph.specs.Graph.{Graph, RemovesEdge}
 use Rattle.rec_bytes.specs.Format as format
 use Rattle.rec_bytes.specs.Space.{State}
 use Rattle.store_rules.specs.Ends.{group_of_head}
-use Rattle.store_rules.specs.Graph.{graph_of}
+use Rattle.store_rules.specs.Graph.{graph_in, graph_of}
 use Rattle.store_rules.specs.Rules as rules
 use Rattle.store_rules.specs.Rules.{KeepsRules, Owns}
 use Rattle.store_rules.specs.Views.{group_at, kind_at}
@@ -13,7 +13,7 @@ use Rattle.chain_edit.specs.Heads.{head_of}
 use Rattle.group_store.specs.Closing.{CanClose, HasClosed}
 use Rattle.edge_changes.specs.EdgeDeleting.{IsBareEdge, KeepsKinds, PartsEdge, StandsAtEnd, TakesEdge}
 use Rattle.edge_changes.specs.EdgeEnds.{end_groups, source_of, target_of}
-use Rattle.change_parts.specs.Store.{KeepsIndexes, graph_in}
+use Rattle.change_parts.specs.Store.{KeepsIndexes}
 use Rattle.edge_changes.specs.declared.edge_end.EdgeEnd.{EdgeEnd}
 use Rattle.edge_changes.specs.declared.edge_end.Ends.{Ends}
 use Rattle.edge_changes.specs.declared.edge_end.Ends.TheVariants.{Loop, Two}

@@ -43,7 +43,8 @@ use Rattle.change_parts.specs.Damage.{BlamesBroken, IfBlames, IsAsFound, IsBroke
 use Rattle.change_parts.specs.declared.change_fault.ChangeFault.{ChangeFault}
 use Rattle.change_parts.proofs.Adding.{lists_before, lists_broken}
 use Rattle.change_parts.proofs.Broken.{blames_both, blames_more}
-use Rattle.edge_changes.specs.EdgeAdding.{BlamesAdded, BlamesChains, BlamesEnd, BlamesPut, HarmsNoFiles, IsAddDamage, IsChainDamage, IsOfChains, IsOfEnd, IsOfEnds, IsPutDamage}
+use Rattle.edge_changes.specs.EdgeAdding.{BlamesAdded, BlamesChains, BlamesEnd, BlamesPut, HarmsNoFiles, IsAddDamage, IsChainDamage, IsOfChains, IsOfEnd}
+use Rattle.edge_changes.specs.EdgeAdding.{IsOfEnds, IsPutDamage}
 use Rattle.edge_changes.specs.EdgeAdding.{IsOfNodes, KeepsButChains, groups_needed}
 use Rattle.edge_changes.specs.EdgeEnds.{AtEach, AtSome, HasHead, joined, source_of, target_of}
 use Rattle.edge_changes.specs.EdgeJoining.{BlamesEndJoined, IsJoinDamage, IsLostEnd, IsOfLost, KeepsBesideEnd}

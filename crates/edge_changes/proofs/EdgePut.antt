@@ -39,12 +39,12 @@ use Rattle.edge_changes.specs.declared.edge_end.Ends.TheVariants.{Loop, Two}
 use Rattle.edge_changes.specs.EdgeEnds.{AreApart, joined, source_of, target_of}
 use Rattle.edge_changes.specs.EdgeJoining.{AreRightFirsts, CanJoin, HasPlaced, IsRightFirst, MayStandAt, edge_row, end_joined, ends_joined, new_row, one_more}
 use Rattle.edge_changes.specs.EdgePlacing.{IsFirst, PutsEdge}
-use Rattle.change_parts.specs.Store.{graph_in}
 use Rattle.edge_changes.proofs.EdgeJoined.{IsLoneEdge, at_new, both_joined, edge_joined, first_source, first_target, loop_target, made_right, one_right}
 use Rattle.edge_changes.proofs.EndLaws.{at_source, at_target}
 use Rattle.change_parts.proofs.NameNumbers.{number_in}
 use Rattle.change_parts.proofs.KeptIndexes.{edge_graph_indexes}
 use Rattle.store_rules.proofs.IndexKept.{edge_indexed}
+use Rattle.store_rules.specs.Graph.{graph_in}
 
 -- ---- the record of a new relationship
 module _ (id label from to : ℕ) (label_small : label < 2 ^ 32) (from_small : from < 2 ^ 32) (to_small : to < 2 ^ 32) where

@@ -19,7 +19,7 @@ use Rattle.group_store.specs.Sides.{side_at}
 use Rattle.group_store.specs.declared.side.Side.{Side}
 use Rattle.edge_changes.specs.EdgeDeleting.{FindsEnd, FindsEnds, HasBareRow, StandsAtEnd, TakesEdge}
 use Rattle.change_parts.specs.Degrees.{HasDegree}
-use Rattle.change_parts.specs.Store.{IsMidway, graph_in}
+use Rattle.change_parts.specs.Store.{IsMidway}
 use Rattle.edge_changes.specs.declared.edge_end.EdgeEnd.{EdgeEnd}
 use Rattle.edge_changes.specs.declared.edge_end.Ends.{Ends}
 use Rattle.edge_changes.specs.declared.edge_end.Ends.TheVariants.{Loop, Two}
@@ -27,6 +27,7 @@ use Rattle.edge_changes.proofs.EdgeOpened.{end_stays}
 use Rattle.change_parts.proofs.Elements.{degree_found, node_readable, used_of}
 use Rattle.change_parts.proofs.KeptIndexes.{regroups_keep}
 use Rattle.change_parts.proofs.Readings.{store_read}
+use Rattle.store_rules.specs.Graph.{graph_in}
 
 -- the row of an edge without properties
 abbrev pub bare_of : ℕ → RelRow → views.RelRow

@@ -13,10 +13,10 @@ use Rattle.group_store.specs.Opening.{IsShortDamage}
 use Rattle.change_parts.specs.Damage.{IfBlames, IsAsFound, IsBroken}
 use Rattle.edge_changes.specs.EdgeEnds.{AreApart, source_of, target_of}
 use Rattle.change_parts.specs.Degrees.{HasDegree}
-use Rattle.change_parts.specs.Store.{graph_in}
 use Rattle.change_parts.specs.declared.change_fault.ChangeFault.{ChangeFault}
 use Rattle.edge_changes.specs.declared.edge_end.EndDegree.{EndDegree}
 use Rattle.edge_changes.specs.declared.edge_end.Ends.{Ends}
+use Rattle.store_rules.specs.Graph.{graph_in}
 
 -- as many edges as the store has room for
 abbrev pub IsFullOfEdges : State → Type 0

@@ -13,7 +13,7 @@ use Rattle.rel_store.specs.declared.rel_row.RelRow.{RelRow}
 use Rattle.store_rules.specs.Breaking.{HasChains, IsInChain, IsOnChain}
 use Rattle.store_rules.specs.Chains.{In}
 use Rattle.store_rules.specs.Ends.{Regroups}
-use Rattle.store_rules.specs.Graph.{names_of}
+use Rattle.store_rules.specs.Graph.{graph_in, names_of}
 use Rattle.store_rules.specs.PropertyChange.{Apart}
 use Rattle.store_rules.specs.Rules.{Head, KeepsRules, Owns, StandsAt}
 use Rattle.store_rules.specs.Views as views
@@ -36,7 +36,7 @@ use Rattle.group_store.specs.Walking.{chain_damage}
 use Rattle.change_parts.specs.Damage.{IfBlames, IsBroken}
 use Rattle.edge_changes.specs.EdgeEnds.{AtEach, end_groups, end_keys, source_of, target_of}
 use Rattle.change_parts.specs.Degrees.{HasDegree}
-use Rattle.change_parts.specs.Store.{IsMidway, KeepsIndexes, graph_in}
+use Rattle.change_parts.specs.Store.{IsMidway, KeepsIndexes}
 use Rattle.change_parts.specs.declared.change_fault.ChangeFault.{ChangeFault}
 use Rattle.edge_changes.specs.declared.edge_end.EdgeEnd.{EdgeEnd}
 use Rattle.edge_changes.specs.declared.edge_end.Ends.{Ends}

@@ -15,9 +15,10 @@ use Rattle.store_rules.specs.Rules.{Head, first_of, next_free}
 use Rattle.store_rules.specs.Views.{Records, RelRow, high, kind_at, rec_at, rel_at}
 use Rattle.group_store.specs.Opening.{IsCountedHead, IsFullDamage}
 use Rattle.change_parts.specs.ChangeFault.{IsFailure}
-use Rattle.change_parts.specs.Store.{IsMidway, KeepsIndexes, graph_in}
+use Rattle.change_parts.specs.Store.{IsMidway, KeepsIndexes}
 use Rattle.change_parts.specs.declared.change_fault.ChangeFault.{ChangeFault}
 use Rattle.change_parts.specs.declared.change_fault.ChangeFault.TheVariants.{Full, Damaged}
+use Rattle.store_rules.specs.Graph.{graph_in}
 
 -- Groups of nodes are other ones at most, which no graph shows.
 pub record KeepsGraph (s t : State) : Type 0 where

@@ -25,7 +25,8 @@ ghost use Rattle.edge_changes.specs.EdgePlacing.{HadFewGroups, IsEdgeBetween, Is
 ghost use Rattle.edge_changes.specs.EdgePlacing.{TakesFirst};
 ghost use Rattle.change_parts.specs.Degrees.{HasDegree};
 ghost use Rattle.change_parts.specs.Owners.{IsAbsent};
-ghost use Rattle.change_parts.specs.Store.{IsMidway, IsStore, graph_in};
+ghost use Rattle.change_parts.specs.Store.{IsMidway, IsStore};
+ghost use Rattle.store_rules.specs.Graph.{graph_in};
 
 use crate::edge_end::{EndDegree, Ends, Joint};
 use crate::edge_placing::{node_degree, put_edge};

@@ -31,7 +31,8 @@ ghost use Rattle.edge_changes.specs.EdgeDeleting.{TakesEdge, WritesTaken, with_p
 ghost use Rattle.edge_changes.specs.EdgeEnds.{AreEdgeEnds, AtEach, HasHead, IsEdgeEnd, source_of};
 ghost use Rattle.edge_changes.specs.EdgeEnds.{target_of};
 ghost use Rattle.change_parts.specs.Degrees.{HasDegree};
-ghost use Rattle.change_parts.specs.Store.{IsMidway, IsStore, graph_in};
+ghost use Rattle.change_parts.specs.Store.{IsMidway, IsStore};
+ghost use Rattle.store_rules.specs.Graph.{graph_in};
 
 use crate::edge_end::{EdgeEnd, Ends};
 use crate::edge_parting::part_edge;
@@ -88,7 +89,7 @@ fn take_edge<S: Space>(space: &mut S, id: u32, rel: RelRow) -> Result<(), Change
         → OnOk result ((names : List (List ℕ)) → IsMidway (S.state space.old) names
         → HasBareRow (S.state space.old).records id rel
         → TakesEdge (S.state space.old) (S.state space.new) names id) }
-    ensures sound { S.tells → (names : List (List ℕ)) → IsMidway (S.state space.old) names
+    ensures not_damaged { S.tells → (names : List (List ℕ)) → IsMidway (S.state space.old) names
         → HasBareRow (S.state space.old).records id rel → IfErr result IsOutside }
     ensures damaged { S.tells → HasRow (S.state space.old).records id rel → IfErr result
         (IfBlames (IsTakenDamage (S.state space.old) id rel)) }
@@ -110,7 +111,7 @@ fn edge_ends<S: Space>(space: &mut S, id: u32, rel: RelRow) -> Result<Ends<EdgeE
         → IsMidway (S.state space.old) names
         → HasBareRow (S.state space.old).records id rel
         → FindsEnds (S.state space.old) (S.state space.new) names id ends) }
-    ensures sound { S.tells → (names : List (List ℕ)) → IsMidway (S.state space.old) names
+    ensures not_damaged { S.tells → (names : List (List ℕ)) → IsMidway (S.state space.old) names
         → HasBareRow (S.state space.old).records id rel → IfErr result IsOutside }
     ensures damaged { S.tells → IfErr result
         (IfBlames (IsTakenDamage (S.state space.old) id rel)) }
@@ -151,7 +152,7 @@ fn edge_end<S: Space>(
         → IsMidway (S.state space.old) names
         → HasBareRow (S.state space.old).records id rel → (node ≡ rel.from) ⊎ (node ≡ rel.to)
         → FindsEnd (S.state space.old) (S.state space.new) names id end) }
-    ensures sound { S.tells → (names : List (List ℕ)) → IsMidway (S.state space.old) names
+    ensures not_damaged { S.tells → (names : List (List ℕ)) → IsMidway (S.state space.old) names
         → HasBareRow (S.state space.old).records id rel
         → (node ≡ rel.from) ⊎ (node ≡ rel.to) → IfErr result IsOutside }
     ensures damaged { S.tells → IfErr result
@@ -185,7 +186,7 @@ fn edge_end<S: Space>(
 fn end_degree<R: Reads>(space: &mut R, rel: u32, node: u32) -> Result<u32, ChangeFault>
     ensures found { R.tells
         → IfOk result (λ degree. HasDegree (R.state space.old).records node degree) }
-    ensures sound { R.tells → IsReadable (R.state space.old) node
+    ensures not_damaged { R.tells → IsReadable (R.state space.old) node
         → (row_at (R.state space.old).records node ≢ None) → IfErr result IsOutside }
     ensures damaged { R.tells → (label : ℕ)
         → IfErr result (BlamesEnd (R.state space.old) rel node label) }
@@ -215,7 +216,7 @@ fn unlink_edge<S: Space>(space: &mut S, id: u32, ends: Ends<EdgeEnd>) -> Result<
         → OnOk result ((names : List (List ℕ)) → IsMidway (S.state space.old) names
         → IsBareEdge (S.state space.old) id ends
         → TakesEdge (S.state space.old) (S.state space.new) names id) }
-    ensures sound { S.tells → (names : List (List ℕ)) → IsMidway (S.state space.old) names
+    ensures not_damaged { S.tells → (names : List (List ℕ)) → IsMidway (S.state space.old) names
         → IsBareEdge (S.state space.old) id ends → IfErr result IsOutside }
     ensures damaged { S.tells → (row : views.RelRow)
         → IsPlacedEdge (S.state space.old).records id row ends → IfErr result

@@ -59,7 +59,7 @@ pub(crate) fn join_edge<S: Space>(
         (target_of ends).node id) }
     ensures is { IfOk result
         (λ id. id ≡ taken_id (meta_of (S.state space.old) relationships_file)) }
-    ensures sound { S.tells → (names : List (List ℕ)) (text : List ℕ)
+    ensures not_damaged { S.tells → (names : List (List ℕ)) (text : List ℕ)
         → CanJoin (S.state space.old) names label ends → slice_get names label ≡ Some text
         → HasRoom (S.state space.old) relationships_file 1 → IfErr result IsOutside }
     ensures damaged { S.tells → AtEach (HasHead (S.state space.old).records) ends
@@ -96,7 +96,7 @@ fn place<S: Space>(space: &mut S, label: u32, from: u32, to: u32) -> Result<u32,
         HasPlaced (S.state space.old) (S.state space.new) label from to id) }
     ensures is { IfOk result
         (λ id. id ≡ taken_id (meta_of (S.state space.old) relationships_file)) }
-    ensures sound { S.tells → (most : ℕ) (empty : List ℕ)
+    ensures not_damaged { S.tells → (most : ℕ) (empty : List ℕ)
         → KeepsRules (S.state space.old).records (S.state space.old).shape most empty
         → HasRoom (S.state space.old) relationships_file 1 → IfErr result IsOutside }
     ensures damaged { S.tells → HasRoom (S.state space.old) relationships_file 1
@@ -140,7 +140,7 @@ fn take_id<S: Space>(space: &mut S) -> Result<u32, ChangeFault>
         relationships_file id free) }
     ensures is { IfOk result
         (λ id. id ≡ taken_id (meta_of (S.state space.old) relationships_file)) }
-    ensures sound { S.tells → (most : ℕ) (empty : List ℕ)
+    ensures not_damaged { S.tells → (most : ℕ) (empty : List ℕ)
         → KeepsRules (S.state space.old).records (S.state space.old).shape most empty
         → HasRoom (S.state space.old) relationships_file 1 → IfErr result IsOutside }
     ensures damaged { S.tells → HasRoom (S.state space.old) relationships_file 1
@@ -208,7 +208,7 @@ fn join_ends<S: Space>(space: &mut S, rel: u32, ends: Ends<EdgeEnd>) -> Result<(
     requires ends { AtEach IsEdgeEnd ends }
     ensures ok { S.tells
         → OnOk result (S.state space.new ≡ ends_joined (S.state space.old) ends rel) }
-    ensures sound { S.tells
+    ensures not_damaged { S.tells
         → AreRightFirsts (S.state space.old) ends rel → IfErr result IsOutside }
     ensures damaged { S.tells → AtEach (HasHead (S.state space.old).records) ends
         → IfErr result (BlamesBroken (S.state space.new)) }
@@ -239,7 +239,7 @@ fn join_end<S: Space>(space: &mut S, rel: u32, end: EdgeEnd) -> Result<(), Chang
     requires end { IsEdgeEnd end }
     ensures ok { S.tells
         → OnOk result (S.state space.new ≡ end_joined (S.state space.old) end rel) }
-    ensures sound { S.tells
+    ensures not_damaged { S.tells
         → IsRightLink (S.state space.old) (first_of (S.state space.old).records (head_of end.head))
         → IfErr result IsOutside }
     ensures damaged { S.tells → HasHead (S.state space.old).records end

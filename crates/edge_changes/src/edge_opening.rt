@@ -36,7 +36,7 @@ pub(crate) fn open_ends<S: Space>(space: &mut S, joint: Joint) -> Result<Ends<Ed
     ensures opened { S.tells → IfOk result (λ ends. (names : List (List ℕ))
         → CanLink (S.state space.old) names joint
         → OpensEnds (S.state space.old) (S.state space.new) names joint.label ends) }
-    ensures sound { S.tells → (names : List (List ℕ))
+    ensures not_damaged { S.tells → (names : List (List ℕ))
         → CanLink (S.state space.old) names joint
         → HasRoom (S.state space.old) relationships_file 1 → IfErr result IsOutside }
     ensures damaged { S.tells → AtEach (IsUsedEnd (S.state space.old)) joint.ends
@@ -102,7 +102,7 @@ fn open_end<S: Space>(
         → CanOpen (S.state space.old) end.node end.degree joint.threshold joint.label side row
         empty → OpensChain (S.state space.old) (S.state space.new) (head_of opened.head) end.node
         row empty) }
-    ensures sound { S.tells → (row : RelRow) (empty : List ℕ)
+    ensures not_damaged { S.tells → (row : RelRow) (empty : List ℕ)
         → CanOpen (S.state space.old) end.node end.degree joint.threshold joint.label side row
         empty → HasGroupRoom (S.state space.old) empty → IfErr result IsOutside }
     ensures damaged { S.tells → IsUsedNode (S.state space.old) end.node

@@ -38,7 +38,7 @@ pub(crate) fn part_edge<S: Space>(
         → OnOk result ((names : List (List ℕ)) → IsMidway (S.state space.old) names
         → IsBareEdge (S.state space.old) id ends
         → PartsEdge (S.state space.old) (S.state space.new) names id ends) }
-    ensures sound { S.tells → (names : List (List ℕ)) → IsMidway (S.state space.old) names
+    ensures not_damaged { S.tells → (names : List (List ℕ)) → IsMidway (S.state space.old) names
         → IsBareEdge (S.state space.old) id ends → IfErr result IsOutside }
     ensures damaged { S.tells → (row : RelRow)
         → IsPlacedEdge (S.state space.old).records id row ends
@@ -68,7 +68,7 @@ fn part_ends<S: Space>(space: &mut S, rel: u32, ends: Ends<EdgeEnd>) -> Result<(
     requires ends { AreEdgeEnds ends }
     ensures ok { S.tells
         → OnOk result (S.state space.new ≡ ends_parted (S.state space.old) ends rel) }
-    ensures sound { S.tells
+    ensures not_damaged { S.tells
         → HaveRightLinks (S.state space.old) ends rel → IfErr result IsOutside }
     ensures damaged { S.tells → (row : RelRow)
         → IsPlacedEdge (S.state space.old).records rel row ends
@@ -101,7 +101,7 @@ fn part_end<S: Space>(space: &mut S, rel: u32, end: EdgeEnd) -> Result<(), Chang
     requires end { IsEdgeEnd end }
     ensures ok { S.tells
         → OnOk result (S.state space.new ≡ end_parted (S.state space.old) end rel) }
-    ensures sound { S.tells
+    ensures not_damaged { S.tells
         → HasRightLinks (S.state space.old) end rel → IfErr result IsOutside }
     ensures damaged { S.tells → IfErr result (IfBlames (IsCutDamage (S.state space.old)
         (head_of end.head) end.node rel)) }

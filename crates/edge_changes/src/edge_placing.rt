@@ -23,7 +23,8 @@ ghost use Rattle.edge_changes.specs.EdgePlacing.{PutsEdge, TakesFirst, TellsFull
 ghost use Rattle.change_parts.specs.Degrees.{HasDegree};
 ghost use Rattle.change_parts.specs.Owners.{IsAbsent, IsMissing};
 ghost use Rattle.change_parts.specs.Rooms.{HasRoom};
-ghost use Rattle.change_parts.specs.Store.{IsMidway, graph_in};
+ghost use Rattle.change_parts.specs.Store.{IsMidway};
+ghost use Rattle.store_rules.specs.Graph.{graph_in};
 
 use crate::edge_end::Joint;
 use crate::edge_joining::join_edge;
@@ -63,7 +64,7 @@ pub(crate) fn put_edge<S: Space>(space: &mut S, joint: Joint) -> Result<u32, Cha
         (to_of joint) id) }
     ensures is { S.tells → IfOk result
         (λ id. id ≡ taken_id (meta_of (S.state space.old) relationships_file)) }
-    ensures sound { S.tells → joint.threshold ≡ (S.state space.old).shape.threshold
+    ensures not_damaged { S.tells → joint.threshold ≡ (S.state space.old).shape.threshold
         → (names : List (List ℕ)) (text : List ℕ)
         → IsMidway (S.state space.old) names → slice_get names joint.label ≡ Some text
         → AtEach (HasEndDegree (S.state space.old).records) joint.ends
@@ -110,7 +111,7 @@ fn link_edge<S: Space>(space: &mut S, joint: Joint) -> Result<u32, ChangeFault>
         (to_of joint) id) }
     ensures is { S.tells → IfOk result
         (λ id. id ≡ taken_id (meta_of (S.state space.old) relationships_file)) }
-    ensures sound { S.tells → joint.threshold ≡ (S.state space.old).shape.threshold
+    ensures not_damaged { S.tells → joint.threshold ≡ (S.state space.old).shape.threshold
         → (names : List (List ℕ)) (text : List ℕ)
         → IsMidway (S.state space.old) names → slice_get names joint.label ≡ Some text
         → AtEach (HasEndDegree (S.state space.old).records) joint.ends

@@ -6,7 +6,7 @@ use Rattle.plain_graph.specs.declared.direction.Direction.{Direction}
 use Rattle.rec_bytes.specs.Format as format
 use Rattle.rec_bytes.specs.Space.{State}
 use Rattle.store_rules.specs.Chains.{In, IsWalk}
-use Rattle.store_rules.specs.Graph.{graph_of}
+use Rattle.store_rules.specs.Graph.{graph_in, graph_of}
 use Rattle.store_rules.specs.Views.{Records, first_link, group_in, high, kind_at, rec_at}
 use Rattle.store_rules.proofs.ChainLaws.{walk_of_chain}
 use Rattle.store_rules.proofs.NumberLaws.{eq_true}
@@ -26,7 +26,7 @@ use Rattle.group_store.proofs.GroupRules.{row_of_group}
 use Rattle.expand.specs.declared.expand_fault.ExpandFault.{ExpandFault}
 use Rattle.expand.specs.Costs.{type_count}
 use Rattle.expand.specs.Degrees.{IsDenseDegree, as_number, counted_sum, lacks_counts, rows_count}
-use Rattle.expand.specs.Expanding.{IsStore, graph_in, rows_of}
+use Rattle.expand.specs.Expanding.{rows_of}
 use Rattle.expand.specs.Matching.{is_wanted}
 use Rattle.expand.proofs.DenseRows as dense_rows
 use Rattle.expand.proofs.GroupHeads as heads
@@ -34,9 +34,10 @@ use Rattle.expand.proofs.GroupSums.{sum_rows}
 use Rattle.expand.proofs.LoadedRows as loaded_rows
 use Rattle.expand.proofs.ReadCounts.{reads_then}
 use Rattle.expand.proofs.RowCounts.{count_small, part_count}
+use Rattle.store_rules.specs.Rules.{IsWhole}
 
 -- the number of rows of a store is small enough
-pub number_is : (s : State) → IsStore s → (direction : Direction) (labels : List ℕ) (n : ℕ)
+pub number_is : (s : State) → IsWhole s → (direction : Direction) (labels : List ℕ) (n : ℕ)
     → as_number (rows_count direction labels n (rows_of s.records)) ≡ rows_count direction labels n (rows_of s.records)
 number_is s store direction labels n =
     let few = count_small s.records direction labels n in
@@ -46,7 +47,7 @@ number_is s store direction labels n =
     small : (k mark : ℕ) → k ≤ mark + mark → mark ≤ 2 ^ 25 → as_number k ≡ k
     small k mark few low = omega arith
 
-module _ (s : State) (store : IsStore s) (row : NodeRow) (dense : kind_at s.records format.nodes_file row.id ≡ format.dense)
+module _ (s : State) (store : IsWhole s) (row : NodeRow) (dense : kind_at s.records format.nodes_file row.id ≡ format.dense)
     (first : row.first ≡ first_link s.records row.id) (direction : Direction) (labels : List ℕ) where
   abbrev n : ℕ
   n = row.id
@@ -100,11 +101,11 @@ one_read k s t r = record { count = r.count; within = let le = r.within in omega
 -- ---- after the node was loaded
 
 module _ (s : State) (n : ℕ) (row : NodeRow) (found : Some row ≡ row_at s.records n) (mid : State) (loaded : mid ≡ after_load s n) (thick : row.dense ≡ true)
-    (store : IsStore s) (direction : Direction) (labels : List ℕ) (new : State) where
+    (store : IsWhole s) (direction : Direction) (labels : List ℕ) (new : State) where
   records_are : mid.records ≡ s.records
   records_are = loaded_rows.records_stay s n row found mid loaded
 
-  abbrev mid_store : IsStore mid
+  abbrev mid_store : IsWhole mid
   mid_store = loaded_rows.store_stays s n row found mid loaded store
 
   abbrev mid_dense : kind_at mid.records format.nodes_file row.id ≡ format.dense

@@ -17,7 +17,7 @@ use Rattle.chain_edit.proofs.Walks.{walk_is}
 use Rattle.group_store.specs.GroupChain.{next_group}
 use Rattle.group_store.specs.Walking.{group_row_at}
 use Rattle.expand.specs.Costs.{met_count, type_count}
-use Rattle.expand.specs.Expanding.{CanWalkGroups, HasDenseRows, IsStore, graph_in, name_of, rows_of}
+use Rattle.expand.specs.Expanding.{CanWalkGroups, HasDenseRows, name_of, rows_of}
 use Rattle.expand.specs.FirstLinks.{first_numbers}
 use Rattle.expand.specs.Matching.{IsPart, is_met}
 use Rattle.expand.specs.Walking.{AreWalks}
@@ -27,8 +27,10 @@ use Rattle.expand.proofs.GroupHeads.{all_met, chain, firsts_are, groups, heads_d
 use Rattle.expand.proofs.HeadChains.{HaveChains, have_chains}
 use Rattle.store_rules.proofs.Members.{contains_map, length-once_below}
 use Rattle.expand.proofs.TypeCounts.{groups_count, met_le}
+use Rattle.store_rules.specs.Rules.{IsWhole}
+use Rattle.store_rules.specs.Graph.{graph_in}
 
-module _ (s : State) (store : IsStore s) (row : NodeRow) (dense : kind_at s.records format.nodes_file row.id ≡ format.dense)
+module _ (s : State) (store : IsWhole s) (row : NodeRow) (dense : kind_at s.records format.nodes_file row.id ≡ format.dense)
     (first : row.first ≡ first_link s.records row.id) (direction : Direction) (labels : List ℕ) where
   abbrev n : ℕ
   n = row.id

@@ -17,8 +17,8 @@ use Rattle.rec_bytes.specs.Space.{State}
 use Rattle.store_rules.specs.Breaking.{Breaks, NodeKeeps}
 use Rattle.store_rules.specs.Breaking.Breaks.{NodeChain, RecordRange, WrongMeta}
 use Rattle.store_rules.specs.Chains.{IsWalk}
-use Rattle.store_rules.specs.Graph.{graph_of}
-use Rattle.store_rules.specs.Rules.{IsWellFormed}
+use Rattle.store_rules.specs.Graph.{graph_in, graph_of}
+use Rattle.store_rules.specs.Rules.{IsWellFormed, IsWhole}
 use Rattle.store_rules.specs.Views.{Records, first_link, high, kind_at, rec_at, rel_in}
 use Rattle.store_rules.proofs.GraphRows.{no_node, node_there}
 use Rattle.store_rules.proofs.ChainLaws.{walk_of_chain}
@@ -44,7 +44,7 @@ use Rattle.expand.specs.declared.expand_fault.ExpandFault.{ExpandFault}
 use Rattle.expand.specs.declared.expand_fault.ExpandFault.TheVariants.{Damaged, Disk, Memory, NoNode}
 use Rattle.expand.specs.Costs.{dense_reads, met_count, most_reads, type_count}
 use Rattle.expand.specs.ExpandFault.{of_fault, of_row}
-use Rattle.expand.specs.Expanding.{Blames, CanWalkGroups, HasDenseRows, IsDenseRow, IsExpandFault, IsStore, TellsNode, graph_in, name_of, rows_of}
+use Rattle.expand.specs.Expanding.{Blames, CanWalkGroups, HasDenseRows, IsDenseRow, IsExpandFault, TellsNode, name_of, rows_of}
 use Rattle.expand.specs.Matching.{IsPart, is_at, is_met}
 use Rattle.expand.proofs.ChainRows as chain_rows
 use Rattle.expand.proofs.ChainRows.{length-part, part_met}
@@ -99,7 +99,7 @@ module _ (s : State) (n : ℕ) (row : NodeRow) (found : Some row ≡ row_at s.re
       ) refl)))
       (nat_cases kind format.sparse)
 
-  is_sparse : IsStore s → row.dense ≡ false → kind_at s.records format.nodes_file n ≡ format.sparse
+  is_sparse : IsWhole s → row.dense ≡ false → kind_at s.records format.nodes_file n ≡ format.sparse
   is_sparse store thin = sparse_unless s.records s.shape n store.ranges used (λ e. true≢false (sym (eq_true _ _ e) ∙ sym dense_test ∙ thin))
 
   -- the bound on reads
@@ -120,7 +120,7 @@ module _ (s : State) (n : ℕ) (row : NodeRow) (found : Some row ≡ row_at s.re
     mark_stays : rel_mark mid ≡ rel_mark s
     mark_stays = ap (λ (r : Records). high r format.relationships_file) records_stay
 
-    pub store_stays : IsStore s → IsStore mid
+    pub store_stays : IsWhole s → IsWhole mid
     store_stays store = subst (λ (r : Records). IsWellFormed r mid.shape) (sym records_stay) (subst (IsWellFormed s.records) (sym shape_stays) store)
 
     -- ---- of a sparse node
@@ -156,7 +156,7 @@ module _ (s : State) (n : ℕ) (row : NodeRow) (found : Some row ≡ row_at s.re
               (λ meta. let right = meta.high in let mark = mark_stays in let room = ap (λ (shape : Shape). room_of shape format.relationships_file)
               shape_stays in omega arith)
 
-      module _ (store : IsStore s) where
+      module _ (store : IsWhole s) where
         pub sparse : kind_at s.records format.nodes_file n ≡ format.sparse
         sparse = is_sparse store thin
 
@@ -241,7 +241,7 @@ module _ (s : State) (n : ℕ) (row : NodeRow) (found : Some row ≡ row_at s.re
       pub mid_row : IsDenseRow mid row
       mid_row = record { dense = mid_dense; first = mid_first }
 
-      module _ (store : IsStore s) where
+      module _ (store : IsWhole s) where
         -- the walks have an end
         pub can_walk : (direction : Direction) (labels : List ℕ) → CanWalkGroups mid row direction labels
             (dense_rows.members mid (store_stays store) row mid_dense mid_first direction labels)
@@ -270,7 +270,7 @@ module _ (s : State) (n : ℕ) (row : NodeRow) (found : Some row ≡ row_at s.re
 pub dense_parts : (s : State) (n : ℕ) (row : NodeRow) (found : Some row ≡ row_at s.records n) (mid : State) (loaded : mid ≡ after_load s n)
     (thick : row.dense ≡ true) (direction : Direction) (labels : List ℕ) (new : State)
     (result : Result Rows ExpandFault) → IfOk result (λ (rows : Rows). HasDenseRows mid new row direction labels rows.items)
-    → IfOk result (λ (rows : Rows). IsStore s → IsPart (is_met direction labels n) rows.items (rows_of s.records))
+    → IfOk result (λ (rows : Rows). IsWhole s → IsPart (is_met direction labels n) rows.items (rows_of s.records))
 dense_parts s n row found mid loaded thick direction labels new (Ok rows) has = λ store.
     dense_part s n row found mid loaded thick store direction labels new rows.items has
 dense_parts s n row found mid loaded thick direction labels new (Err fault) has = tt

@@ -14,13 +14,15 @@ use Rattle.rel_store.specs.declared.edge_row.EdgeRow.{EdgeRow}
 use Rattle.chain_edit.specs.Walking.{edge_at}
 use Rattle.group_store.proofs.ChainHeads.{sparse_unless}
 use Rattle.expand.specs.Costs.{dense_reads, most_reads}
-use Rattle.expand.specs.Expanding.{IsStore, edge_row_at, graph_in, rows_of}
+use Rattle.expand.specs.Expanding.{edge_row_at, rows_of}
 use Rattle.expand.specs.Matching.{is_at}
 use Rattle.expand.proofs.GroupHeads.{end_at}
 use Rattle.store_rules.proofs.Members.{contains_collect, contains_filter}
 use Rattle.expand.proofs.ModelEdges.{length-at_node}
+use Rattle.store_rules.specs.Rules.{IsWhole}
+use Rattle.store_rules.specs.Graph.{graph_in}
 
-module _ (s : State) (store : IsStore s) (n : ℕ) (many : s.shape.threshold < degree_in (graph_in s) n) where
+module _ (s : State) (store : IsWhole s) (n : ℕ) (many : s.shape.threshold < degree_in (graph_in s) n) where
   -- it has an edge, whose ends are nodes
   used : kind_at s.records format.nodes_file n ≢ 0
   used =

@@ -14,7 +14,7 @@ use Rattle.rec_bytes.specs.Format.{names_file}
 use Rattle.rec_bytes.specs.Space.{State}
 use Rattle.rec_bytes.specs.declared.shape.Shape.{Shape}
 use Rattle.rel_store.specs.declared.edge_row.EdgeRow.{EdgeRow}
-use Rattle.store_rules.specs.Graph.{graph_of, names_of}
+use Rattle.store_rules.specs.Graph.{graph_in, graph_of, names_of}
 use Rattle.store_rules.proofs.NameRows.{length-rows, row_at}
 use Rattle.store_rules.proofs.NumberLaws.{eq_false}
 use Rattle.store_rules.specs.Rules.{IsWellFormed}
@@ -22,7 +22,7 @@ use Rattle.store_rules.specs.Views.{Records, high, kind_at}
 use Rattle.chain_edit.specs.Walking.{ReadsAtMost}
 use Rattle.expand.specs.Costs.{are_no_names, are_unknown, dense_reads, is_below, met_count, most_reads, type_count}
 use Rattle.expand.specs.Degrees.{rows_count}
-use Rattle.expand.specs.Expanding.{AreRowsOf, graph_in, name_of, rows_of}
+use Rattle.expand.specs.Expanding.{AreRowsOf, name_of, rows_of}
 use Rattle.expand.specs.Matching.{end_of, is_met_at, is_wanted, rows_at}
 use Rattle.expand.specs.declared.matching.End.{End}
 use Rattle.expand.specs.declared.matching.End.TheVariants as ends

@@ -10,9 +10,9 @@ use Rattle.plain_graph.specs.declared.direction.Direction.{Direction}
 use Rattle.plain_graph.specs.declared.direction.Direction.TheVariants as directions
 use Rattle.rec_bytes.specs.Format as format
 use Rattle.rec_bytes.specs.Space.{State}
-use Rattle.store_rules.specs.Graph.{names_of}
+use Rattle.store_rules.specs.Graph.{graph_in, names_of}
 use Rattle.store_rules.specs.Views.{Records, high, kind_at}
-use Rattle.expand.specs.Expanding.{graph_in, name_of}
+use Rattle.expand.specs.Expanding.{name_of}
 
 -- how many types the edges at a node have
 abbrev pub type_count : Graph → ℕ → ℕ

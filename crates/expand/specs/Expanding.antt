@@ -26,14 +26,6 @@ use Rattle.expand.specs.declared.expand_fault.ExpandFault.TheVariants.{Damaged}
 use Rattle.expand.specs.FirstLinks.{first_numbers}
 use Rattle.expand.specs.Walking.{AreSoundWalks, HaveWalked}
 
--- the records are those of a well-formed store
-abbrev pub IsStore : State → Type 0
-IsStore s = IsWellFormed s.records s.shape
-
--- the graph of the records
-abbrev pub graph_in : State → Graph
-graph_in s = graph_of s.records
-
 -- ---- rows and edges
 
 -- the row of a relationship in use, and none where the identifier isn't live

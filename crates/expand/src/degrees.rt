@@ -27,13 +27,13 @@ ghost use Rattle.expand.specs.Expanding.{
   CanWalkGroups,
   IsDenseRow,
   IsExpandFault,
-  IsStore,
   TellsNode,
-  graph_in,
   name_of,
   rows_of,
 };
 ghost use Rattle.expand.specs.Matching.{is_met_at, rows_at};
+ghost use Rattle.store_rules.specs.Rules.{IsWhole};
+ghost use Rattle.store_rules.specs.Graph.{graph_in};
 
 use crate::ExpandFault;
 use crate::first_links::first_links;
@@ -62,22 +62,22 @@ pub fn degree<R: Reads>(
     direction: Direction,
     label: Option<u32>,
 ) -> Result<u64, ExpandFault>
-    ensures edges { R.tells → IfOk result (λ count. IsStore (R.state space.old)
+    ensures edges { R.tells → IfOk result (λ count. IsWhole (R.state space.old)
         → AreNameNumbers (R.state space.old).records (option_list label)
         → count ≡ length (edges_at (graph_in (R.state space.old)) direction
         (map (name_of (R.state space.old).records) (option_list label)) node)) }
     // so for any number
-    ensures rows { R.tells → IfOk result (λ count. IsStore (R.state space.old)
+    ensures rows { R.tells → IfOk result (λ count. IsWhole (R.state space.old)
         → count ≡ length (rows_at direction (option_list label) node
         (rows_of (R.state space.old).records))) }
-    ensures missing { R.tells → IsStore (R.state space.old)
+    ensures missing { R.tells → IsWhole (R.state space.old)
         → TellsNode result node (has_node (graph_in (R.state space.old)) node) }
     ensures damaged { R.tells → IfErr result (IsExpandFault (R.state space.old) node) }
-    ensures reads { R.tells → IsStore (R.state space.old)
+    ensures reads { R.tells → IsWhole (R.state space.old)
         → ReadsAtMost (most_reads (R.state space.old) direction (option_list label) node)
         (R.state space.old) (R.state space.new) }
     // a dense node's groups, where they are counted
-    ensures counted_reads { R.tells → IsStore (R.state space.old)
+    ensures counted_reads { R.tells → IsWhole (R.state space.old)
         → IsDense (R.state space.old).records node
         → HasCountedGroups (R.state space.old).records node
         → ReadsAtMost (1 + type_count (graph_in (R.state space.old)) node)
@@ -105,15 +105,15 @@ fn degree_of<R: Reads>(
     direction: Direction,
     labels: &[u32],
 ) -> Result<u64, ExpandFault>
-    ensures rows { R.tells → IfOk result (λ count. IsStore (R.state space.old)
+    ensures rows { R.tells → IfOk result (λ count. IsWhole (R.state space.old)
         → count ≡ rows_count direction labels.now node (rows_of (R.state space.old).records)) }
-    ensures missing { R.tells → IsStore (R.state space.old)
+    ensures missing { R.tells → IsWhole (R.state space.old)
         → TellsNode result node (has_node (graph_in (R.state space.old)) node) }
     ensures damaged { R.tells → IfErr result (IsExpandFault (R.state space.old) node) }
-    ensures reads { R.tells → IsStore (R.state space.old)
+    ensures reads { R.tells → IsWhole (R.state space.old)
         → ReadsAtMost (most_reads (R.state space.old) direction labels.now node)
         (R.state space.old) (R.state space.new) }
-    ensures counted_reads { R.tells → IsStore (R.state space.old)
+    ensures counted_reads { R.tells → IsWhole (R.state space.old)
         → IsDense (R.state space.old).records node
         → HasCountedGroups (R.state space.old).records node
         → ReadsAtMost (1 + type_count (graph_in (R.state space.old)) node)
@@ -141,15 +141,15 @@ fn met_count<R: Reads>(
     direction: Direction,
     labels: &[u32],
 ) -> Result<u64, ExpandFault>
-    ensures rows { R.tells → IfOk result (λ count. IsStore (R.state space.old)
+    ensures rows { R.tells → IfOk result (λ count. IsWhole (R.state space.old)
         → count ≡ rows_count direction labels.now node (rows_of (R.state space.old).records)) }
-    ensures missing { R.tells → IsStore (R.state space.old)
+    ensures missing { R.tells → IsWhole (R.state space.old)
         → TellsNode result node (has_node (graph_in (R.state space.old)) node) }
     ensures damaged { R.tells → IfErr result (IsExpandFault (R.state space.old) node) }
-    ensures reads { R.tells → IsStore (R.state space.old)
+    ensures reads { R.tells → IsWhole (R.state space.old)
         → ReadsAtMost (most_reads (R.state space.old) direction labels.now node)
         (R.state space.old) (R.state space.new) }
-    ensures counted_reads { R.tells → IsStore (R.state space.old)
+    ensures counted_reads { R.tells → IsWhole (R.state space.old)
         → IsDense (R.state space.old).records node
         → HasCountedGroups (R.state space.old).records node
         → ReadsAtMost (1 + type_count (graph_in (R.state space.old)) node)

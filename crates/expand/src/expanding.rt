@@ -10,13 +10,13 @@ ghost use Rattle.expand.specs.Expanding.{
   AreNameNumbers,
   AreRowsOf,
   IsExpandFault,
-  IsStore,
   TellsNode,
-  graph_in,
   name_of,
   rows_of,
 };
 ghost use Rattle.expand.specs.Matching.{rows_at};
+ghost use Rattle.store_rules.specs.Rules.{IsWhole};
+ghost use Rattle.store_rules.specs.Graph.{graph_in};
 
 use crate::ExpandFault;
 use crate::loading::load_rows;
@@ -41,23 +41,23 @@ pub fn expand<R: Reads>(
     direction: Direction,
     labels: &[u32],
 ) -> Result<Vec<EdgeRow>, ExpandFault>
-    ensures edges { R.tells → IfOk result (λ rows. IsStore (R.state space.old)
+    ensures edges { R.tells → IfOk result (λ rows. IsWhole (R.state space.old)
         → AreNameNumbers (R.state space.old).records labels.now
         → AreRowsOf (R.state space.old).records rows.items
         (edges_at (graph_in (R.state space.old)) direction
         (map (name_of (R.state space.old).records) labels.now) node)) }
     // so for any numbers
-    ensures rows { R.tells → IfOk result (λ rows. IsStore (R.state space.old)
+    ensures rows { R.tells → IfOk result (λ rows. IsWhole (R.state space.old)
         → rows.items ≡ rows_at direction labels.now node (rows_of (R.state space.old).records)) }
-    ensures missing { R.tells → IsStore (R.state space.old)
+    ensures missing { R.tells → IsWhole (R.state space.old)
         → TellsNode result node (has_node (graph_in (R.state space.old)) node) }
     ensures damaged { R.tells → IfErr result (IsExpandFault (R.state space.old) node) }
     // whatever is answered
-    ensures reads { R.tells → IsStore (R.state space.old)
+    ensures reads { R.tells → IsWhole (R.state space.old)
         → ReadsAtMost (most_reads (R.state space.old) direction labels.now node)
         (R.state space.old) (R.state space.new) }
     // so where a node has more edges than a sparse one may have
-    ensures dense_reads { R.tells → IsStore (R.state space.old)
+    ensures dense_reads { R.tells → IsWhole (R.state space.old)
         → (R.state space.old).shape.threshold < degree_in (graph_in (R.state space.old)) node
         → ReadsAtMost (dense_reads (R.state space.old) direction labels.now node)
         (R.state space.old) (R.state space.new) }
@@ -85,12 +85,12 @@ fn rows_met<R: Reads>(
     direction: Direction,
     labels: &[u32],
 ) -> Result<Vec<EdgeRow>, ExpandFault>
-    ensures rows { R.tells → IfOk result (λ rows. IsStore (R.state space.old)
+    ensures rows { R.tells → IfOk result (λ rows. IsWhole (R.state space.old)
         → rows.items ≡ rows_at direction labels.now node (rows_of (R.state space.old).records)) }
-    ensures missing { R.tells → IsStore (R.state space.old)
+    ensures missing { R.tells → IsWhole (R.state space.old)
         → TellsNode result node (has_node (graph_in (R.state space.old)) node) }
     ensures damaged { R.tells → IfErr result (IsExpandFault (R.state space.old) node) }
-    ensures reads { R.tells → IsStore (R.state space.old)
+    ensures reads { R.tells → IsWhole (R.state space.old)
         → ReadsAtMost (most_reads (R.state space.old) direction labels.now node)
         (R.state space.old) (R.state space.new) }
     ensures at_most { ReadsAtMost

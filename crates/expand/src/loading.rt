@@ -13,12 +13,12 @@ ghost use Rattle.expand.specs.Expanding.{
   HasDenseRows,
   IsDenseRow,
   IsExpandFault,
-  IsStore,
   TellsNode,
-  graph_in,
   rows_of,
 };
 ghost use Rattle.expand.specs.Matching.{IsPart, is_met};
+ghost use Rattle.store_rules.specs.Rules.{IsWhole};
+ghost use Rattle.store_rules.specs.Graph.{graph_in};
 
 use crate::ExpandFault;
 use crate::first_links::first_links;
@@ -40,13 +40,13 @@ pub(crate) fn load_rows<R: Reads>(
     direction: Direction,
     labels: &[u32],
 ) -> Result<Vec<EdgeRow>, ExpandFault>
-    ensures part { R.tells → IfOk result (λ rows. IsStore (R.state space.old)
+    ensures part { R.tells → IfOk result (λ rows. IsWhole (R.state space.old)
         → IsPart (is_met direction labels.now node) rows.items
         (rows_of (R.state space.old).records)) }
-    ensures missing { R.tells → IsStore (R.state space.old)
+    ensures missing { R.tells → IsWhole (R.state space.old)
         → TellsNode result node (has_node (graph_in (R.state space.old)) node) }
     ensures damaged { R.tells → IfErr result (IsExpandFault (R.state space.old) node) }
-    ensures reads { R.tells → IsStore (R.state space.old)
+    ensures reads { R.tells → IsWhole (R.state space.old)
         → ReadsAtMost (most_reads (R.state space.old) direction labels.now node)
         (R.state space.old) (R.state space.new) }
     ensures at_most { ReadsAtMost

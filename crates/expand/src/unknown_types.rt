@@ -6,7 +6,8 @@ ghost use Rattle.plain_graph.specs.Graph.{has_node};
 ghost use Rattle.chain_edit.specs.Walking.{ReadsAtMost};
 ghost use Rattle.expand.specs.Costs.{are_no_names, is_below};
 ghost use Rattle.expand.specs.ExpandFault.{HasExpandCause};
-ghost use Rattle.expand.specs.Expanding.{IsExpandFault, TellsNode, graph_in};
+ghost use Rattle.expand.specs.Expanding.{IsExpandFault, TellsNode};
+ghost use Rattle.store_rules.specs.Graph.{graph_in};
 
 use crate::ExpandFault;
 use node_store::load;

@@ -19,10 +19,10 @@ use Rattle.txn_core.specs.Opening.{
   HasOpeningEntry,
   IsAskedOther,
   IsClean,
+  HoldsStore,
   IsOldOrNew,
   IsOldOrRaised,
   IsRefusal,
-  IsStore,
   IsWant,
   OnlyDiffers,
   Opens,
@@ -150,7 +150,7 @@ module _ {D : Type 0} (g : Ghosts D) where
   pub record IsAgain (old new : View D) : Type 0 where
     pub records : g.tells_reads → (space : Key → Rec) → Redoes (g.reads old.disk) space
         → new.records ≡ space
-    pub store : g.tells_reads → IsStore (g.reads old.disk) old.shape
+    pub store : g.tells_reads → HoldsStore (g.reads old.disk) old.shape
     pub newest : g.tells_reads → ¬ IsOld new.records
     pub have : g.tells_reads → new.have ≡ number_in new.records
     pub stored : IsOnDisk g new.disk (λ left. Redoes left new.records)

@@ -9,7 +9,7 @@ use Rattle.plain_graph.specs.Reply.{Fault, Reply}
 use Rattle.plain_graph.specs.declared.command.Command.{Command}
 use Rattle.plain_graph.specs.declared.command.Command.TheVariants as commands
 use Rattle.console_words.specs.declared.run_options.RunOptions.{RunOptions}
-use Rattle.graph_session.specs.Exchange.{CarriesKind, CarriesOut, ConsoleStep, Exchange, KeepsStore, MakesChange, MovesBound, Stops, told_fault, told_in}
+use Rattle.graph_session.specs.Exchange.{CarriesKind, CarriesOut, ConsoleStep, DoesUpkeep, Exchange, MakesChange, MovesBound, Stops, told_fault, told_in}
 use Rattle.graph_session.specs.SharedExchange.{SharedStep}
 use Rattle.graph_session.specs.Snapshots.{SharedState}
 use Rattle.graph_session.specs.State.{Failed, Live, Standing, State, health_of}
@@ -34,7 +34,7 @@ module _ (old new : State) (live : old.standing ≡ Live) where
   bound_live commands.Rollback reply done = ap (λ (s : State). s.standing) done.1 ∙ live
   bound_live command reply never = absurd never
 
-  kept_live : (command : Command) (reply : Reply) → KeepsStore old command reply new → new.standing ≡ Live
+  kept_live : (command : Command) (reply : Reply) → DoesUpkeep old command reply new → new.standing ≡ Live
   kept_live commands.Checkpoint reply done = stays_live done.1
   kept_live commands.Reopen reply done = ap (λ (s : State). s.standing) done.3
   kept_live command reply never = absurd never

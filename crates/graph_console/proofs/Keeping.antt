@@ -10,7 +10,7 @@ use Rattle.record_file.specs.Records.{IsUnmade}
 use Rattle.stored_graph.specs.Stands.{Stands}
 use Rattle.stored_graph.proofs.Stands.{Stands-only, stands-recoverable}
 use Rattle.txn_core.specs.Config.{shape_of}
-use Rattle.txn_core.specs.Opening.{IsOldOrRaised, IsStore}
+use Rattle.txn_core.specs.Opening.{HoldsStore, IsOldOrRaised}
 use Rattle.txn_core.specs.declared.config.Config.{Config}
 use Rattle.console_words.specs.declared.run_options.RunOptions.{RunOptions}
 use Rattle.graph_session.specs.Opening.{LeavesOldOrSame}
@@ -31,7 +31,8 @@ pub record Laws {D : Type 0} (g : Ghosts D) : Type 0 where
 
 -- what an opening leaves stands for the graph that the content stands for
 left_same : (content left : Files) (config : Config) (shape : Shape) (graph : Graph) (P : Graph → Type 0) → Stands content shape graph → P graph
-    → (IsUnmade content × Stands left (shape_of config) empty_graph) ⊎ ((¬ IsUnmade content) × (other : Shape) × (store : IsStore content other) × IsOldOrRaised
+    → (IsUnmade content × Stands left (shape_of config) empty_graph) ⊎ ((¬ IsUnmade content) × (other : Shape) ×
+        (store : HoldsStore content other) × IsOldOrRaised
     other store.space left)
     → (other : Shape) × (found : Graph) × Stands left other found × P found
 left_same content left config shape graph P stands has (inl (unmade, new)) =

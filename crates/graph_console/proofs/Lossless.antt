@@ -20,7 +20,7 @@ use Rattle.rec_bytes.specs.declared.shape.Shape.{Shape}
 use Rattle.record_file.specs.Redone.{Redoes}
 use Rattle.record_file.specs.Unique.{Redoes-unique}
 use Rattle.record_file.proofs.Redone.{Redoes-kept}
-use Rattle.txn_core.specs.Opening.{IsOldOrRaised, IsStore, StaysAsItWas}
+use Rattle.txn_core.specs.Opening.{HoldsStore, IsOldOrRaised, StaysAsItWas}
 use Rattle.txn_core.specs.Opening as store
 use Rattle.txn_core.specs.declared.config.Config.{Config}
 use Rattle.txn_core.proofs.Finding.{none_made, one_shape}
@@ -304,7 +304,7 @@ module _ {D : Type 0} (disk : Ghosts D) where
           subst (λ (now : D). StaysAsItWas disk view.session.disk now space) left
           (quiet-records view by.later last quiet space (same-has space at.0 view.session at.1 redoes))
 
-      module _ (shape : Shape) (made : IsStore (disk.reads old) shape) where
+      module _ (shape : Shape) (made : HoldsStore (disk.reads old) shape) where
         -- what opening committed are the store's records in the newest version
         opened-records : store.Opens (disk.reads old) config first.session.console.shape first.session.console.committed
             → first.session.console.committed ≡ raised shape made.space

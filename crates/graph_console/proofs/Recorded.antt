@@ -11,7 +11,7 @@ use Rattle.plain_graph.specs.Reply.{Fault, Reply}
 use Rattle.plain_graph.specs.declared.command.Command.{Command}
 use Rattle.plain_graph.specs.declared.command.Command.TheVariants as commands
 use Rattle.plain_graph.specs.declared.refusal.Refusal.TheVariants as refusals
-use Rattle.graph_session.specs.Exchange.{CarriesKind, CarriesOut, ConsoleStep, Exchange, KeepsStore, LeavesBound}
+use Rattle.graph_session.specs.Exchange.{CarriesKind, CarriesOut, ConsoleStep, DoesUpkeep, Exchange, LeavesBound}
 use Rattle.graph_session.specs.Exchange.{LeavesChange, LeavesKind, LeavesOpen, LeavesStore, MakesChange, MovesBound}
 use Rattle.graph_session.specs.Exchange.{Stops}
 use Rattle.graph_session.specs.Refusals.{IsAccepted}
@@ -140,7 +140,7 @@ module _ (old : State) (well : IsWell old) (line : InputLine) (own : IsOfWriter 
   bound_goes command reply spelled accepted told never = absurd never
 
   -- `reopen` finds the committed graph, or the second that was left open
-  reopen_goes : (reply : Reply) → SpellsLine line commands.Reopen → Confirms reply → KeepsStore old commands.Reopen reply new → Goes old (replied reply) new
+  reopen_goes : (reply : Reply) → SpellsLine line commands.Reopen → Confirms reply → DoesUpkeep old commands.Reopen reply new → Goes old (replied reply) new
   reopen_goes reply spelled told (done, graph, admits, is) =
       let none : ¬ AcknowledgesFrom old (replied reply) = other commands.Reopen spelled reply (apart commands.Reopen spelled commands.Commit (λ e. cc))
       (λ closed change. change) in
@@ -153,7 +153,7 @@ module _ (old : State) (well : IsWell old) (line : InputLine) (own : IsOfWriter 
       goes)
       (first_or_second graph old.committed old.standing well admits)
 
-  upkeep_goes : (command : Command) (reply : Reply) → SpellsLine line command → Confirms reply → KeepsStore old command reply new → Goes old (replied reply) new
+  upkeep_goes : (command : Command) (reply : Reply) → SpellsLine line command → Confirms reply → DoesUpkeep old command reply new → Goes old (replied reply) new
   upkeep_goes commands.Checkpoint reply spelled told done =
       quiet reply (other commands.Checkpoint spelled reply (apart commands.Checkpoint spelled commands.Commit (λ e. cc)) (λ closed change. change)) done.1 refl
       well

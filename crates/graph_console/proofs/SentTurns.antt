@@ -15,7 +15,7 @@ use Rattle.rec_bytes.specs.Pairs.{Pairs}
 use Rattle.txn_core.specs.Config.{shape_of}
 use Rattle.follower.specs.Shipment.{most_shipped}
 use Rattle.follower.specs.Shipping.{shipment_bytes}
-use Rattle.graph_session.specs.Exchange.{CarriesKind, CarriesOut, ConsoleStep, KeepsStore, MakesChange, MovesBound}
+use Rattle.graph_session.specs.Exchange.{CarriesKind, CarriesOut, ConsoleStep, DoesUpkeep, MakesChange, MovesBound}
 use Rattle.graph_session.specs.SharedConsole.{IsSharedAt}
 use Rattle.graph_session.specs.SharedExchange.{step_of}
 use Rattle.graph_session.specs.SnapshotEffects.{Confirms, SharedView}
@@ -61,7 +61,7 @@ module _ (line : InputLine) (own : session_in line ≡ 0) (reply : Reply) (old n
   bound commands.Rollback spelled done = neither commands.Rollback spelled (λ change. change) (λ e. cc)
   bound command spelled never = absurd never
 
-  upkeep : (command : Command) → SpellsLine line command → KeepsStore old command reply new → ⊥
+  upkeep : (command : Command) → SpellsLine line command → DoesUpkeep old command reply new → ⊥
   upkeep commands.Checkpoint spelled done = neither commands.Checkpoint spelled (λ change. change) (λ e. cc)
   upkeep commands.Reopen spelled done = neither commands.Reopen spelled (λ change. change) (λ e. cc)
   upkeep command spelled never = absurd never

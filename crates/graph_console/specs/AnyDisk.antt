@@ -9,7 +9,7 @@ use Rattle.rec_bytes.specs.declared.key.Key.{Key}
 use Rattle.rec_bytes.specs.declared.record.Rec.{Rec}
 use Rattle.rec_bytes.specs.declared.shape.Shape.{Shape}
 use Rattle.record_file.specs.Redone.{Redoes}
-use Rattle.txn_core.specs.Opening.{IsOldOrRaised, IsStore, StaysAsItWas}
+use Rattle.txn_core.specs.Opening.{HoldsStore, IsOldOrRaised, StaysAsItWas}
 use Rattle.console_words.specs.declared.run_options.RunOptions.{RunOptions}
 use Rattle.graph_session.specs.Console.{Onward}
 use Rattle.graph_session.specs.Exchange.{Exchange, told_fault}
@@ -62,7 +62,7 @@ pub record EndsOver {D : Type 0} (disk : Ghosts D) (old new : D) (first : Shared
       → RunBy (StepsQuietly disk) view by.later last → (space : Key → Rec)
       → Redoes (disk.reads view.session.disk) space
       → StaysAsItWas disk view.session.disk new space
-  pub lossless : disk.tells_reads → (shape : Shape) → (store : IsStore (disk.reads old) shape)
+  pub lossless : disk.tells_reads → (shape : Shape) → (store : HoldsStore (disk.reads old) shape)
       → RunBy (StepsQuietly disk) first run last
       → IsOldOrRaised shape store.space (disk.reads new)
       × (disk.tells_images → AtEachMoment disk old new (λ content.

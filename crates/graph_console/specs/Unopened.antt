@@ -9,7 +9,7 @@ use Rattle.rec_bytes.specs.declared.record.Rec.{Rec}
 use Rattle.rec_bytes.specs.declared.shape.Shape.{Shape}
 use Rattle.record_file.specs.Redone.{Redoes}
 use Rattle.txn_core.specs.Config.{Suits}
-use Rattle.txn_core.specs.Opening.{IsStore, StaysAsItWas}
+use Rattle.txn_core.specs.Opening.{HoldsStore, StaysAsItWas}
 use Rattle.txn_core.specs.declared.config.Config.{Config}
 use Rattle.txn_core.specs.declared.open_fault.OpenFault.{OpenFault}
 use Rattle.txn_core.specs.declared.open_fault.OpenFault.TheVariants as faults
@@ -39,7 +39,7 @@ IsUnopenedExit exit =
 -- doesn't suit. The store keeps its records, of the version that it had.
 pub record HasOtherShape {D : Type 0} (g : Ghosts D) (config : Config) (old new : D)
     (stored : Shape) (asked : Config) : Type 0 where
-  pub store : IsStore (g.reads old) stored
+  pub store : HoldsStore (g.reads old) stored
   pub asked_is : asked ≡ config
   pub unsuited : ¬ Suits config stored
   pub kept : (space : Key → Rec) → Redoes (g.reads old) space → StaysAsItWas g old new space

@@ -17,7 +17,7 @@ use Rattle.store_rules.specs.Writes.{WritesAtMost}
 use Rattle.store_rules.proofs.RowLaws.{append_none}
 use Rattle.store_rules.proofs.WriteLaws.{more_written, none_written, then_written}
 use Rattle.change_parts.specs.Change.{IsRefusal, MakesChange}
-use Rattle.change_parts.specs.Store.{IsStore, graph_in}
+use Rattle.change_parts.specs.Store.{IsStore}
 use Rattle.change_parts.specs.declared.change_fault.ChangeFault.{ChangeFault}
 use Rattle.change_parts.specs.declared.change_fault.ChangeFault.TheVariants.{NoNode, NoEdge, HasRelationships, IndexThere}
 use Rattle.change_parts.specs.declared.change_fault.ChangeFault.TheVariants.{TooManyIndexes, IndexTooLarge, Full}
@@ -32,6 +32,7 @@ use Rattle.plain_graph.proofs.Alike.{AreAlike, IsNewEdge, IsOfElement, alike_sel
 use Rattle.plain_graph.proofs.Making.{AreAll, Carries, each_changes, each_then, each_weighs, never_refused}
 use Rattle.plain_graph.proofs.Making.{reasons_apart, reasons_same, refuses_more, refuses_then, weighs_once}
 use Rattle.graph_ops.proofs.Spreading.{IsSpread, all_split, deletions_all, edges_all, items_all, up_to_next}
+use Rattle.store_rules.specs.Graph.{graph_in}
 
 -- The changes so far, and what every exit says.
 pub record IsMaking (tells onward : Type 0) (commands : List Command) (Shown : List Reply → Type 0) (weight : ℕ) (s t : State) (before names : List (List ℕ))

@@ -12,7 +12,7 @@ use Rattle.rec_bytes.specs.Space.{State}
 use Rattle.store_rules.specs.Writes.{WritesAtMost}
 use Rattle.change_parts.specs.Causes.{IsCausedAfter}
 use Rattle.change_parts.specs.Change.{full_of}
-use Rattle.change_parts.specs.Store.{IsStore, graph_in}
+use Rattle.change_parts.specs.Store.{IsStore}
 use Rattle.change_parts.specs.declared.change_fault.ChangeFault.{ChangeFault}
 use Rattle.change_parts.specs.declared.change_fault.ChangeFault.TheVariants.{NoNode, NoEdge}
 use Rattle.change_parts.specs.declared.change_fault.ChangeFault.TheVariants.{HasRelationships, Full}
@@ -26,6 +26,7 @@ use Rattle.plain_graph.specs.Mutations.{results_of}
 use Rattle.plain_graph.specs.declared.mutation.Mutation.{Mutation}
 use Rattle.plain_graph.specs.declared.mutation.Mutation.TheVariants as mutations
 use Rattle.graph_ops.specs.declared.mutating.NewEdge.{NewEdge}
+use Rattle.store_rules.specs.Graph.{graph_in}
 
 -- the greatest weight that is told of a list of changes
 abbrev pub most_told : ℕ

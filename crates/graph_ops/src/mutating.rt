@@ -10,7 +10,7 @@ ghost use Rattle.store_rules.specs.Writes.{WritesAtMost};
 ghost use Rattle.id_freelist.specs.Taking.{taken_id};
 ghost use Rattle.change_parts.specs.Change.{IsRefusal};
 ghost use Rattle.change_parts.specs.ChangeFault.{HasChangeCause};
-ghost use Rattle.change_parts.specs.Store.{IsStore, graph_in};
+ghost use Rattle.change_parts.specs.Store.{IsStore};
 ghost use Rattle.change_parts.specs.Causes.{IsCausedAfter};
 ghost use Rattle.graph_ops.specs.MutateFault.{BlamesNone, HasMutateCause, IfRefused};
 ghost use Rattle.graph_ops.specs.MutateFault.{IsMutateRefusal};
@@ -21,6 +21,7 @@ ghost use Rattle.graph_ops.specs.Mutating.{steps_for};
 ghost use Rattle.graph_ops.specs.NewIds.{GetsFreeIds, ShowsIds};
 ghost use Rattle.plain_graph.specs.Mutations.{changes_of, deletions, new_elements, settings};
 ghost use Rattle.plain_graph.specs.declared.mutation.Mutation.TheVariants as mutations;
+ghost use Rattle.store_rules.specs.Graph.{graph_in};
 
 use crate::MutateFault;
 use crate::distinct::distinct_elements;

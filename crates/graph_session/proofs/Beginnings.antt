@@ -31,7 +31,7 @@ use Rattle.txn_core.specs.Base.{OnlyReadsBase}
 use Rattle.txn_core.specs.Config.{Suits, shape_of}
 use Rattle.txn_core.specs.Kept.{IsOnDisk}
 use Rattle.txn_core.specs.Opening as opening
-use Rattle.txn_core.specs.Opening.{IsAskedOther, IsClean, IsOldOrNew, IsOldOrRaised, IsRefusal, IsStore, IsWant, OnlyDiffers, made_over}
+use Rattle.txn_core.specs.Opening.{HoldsStore, IsAskedOther, IsClean, IsOldOrNew, IsOldOrRaised, IsRefusal, IsWant, OnlyDiffers, made_over}
 use Rattle.txn_core.specs.Store.{committed, content, drafted, state_of, working}
 use Rattle.txn_core.specs.declared.config.Config.{Config}
 use Rattle.txn_core.specs.declared.open_fault.OpenFault.{OpenFault}
@@ -116,7 +116,7 @@ opened-starts content config shape space (inr (before, redoes, found, suits, is)
 
 -- ---- what a crash leaves
 
-left-made : (content : Files) (images : Files → Type 0) (config : Config) (shape : Shape) (store : IsStore content shape)
+left-made : (content : Files) (images : Files → Type 0) (config : Config) (shape : Shape) (store : HoldsStore content shape)
     → (left : Files) → images left ⊎ IsOldOrRaised shape store.space left → LeavesOldOrSame content images config left
 left-made content images config shape store left (inl old) = inl old
 left-made content images config shape store left (inr redoes) = inr (inr (
@@ -310,7 +310,7 @@ module _ {D : Type 0} {g : Ghosts D} (counts : CountsNow g) (config : Config) (o
       (opens.opened (told_of known g told)) one.shape one.graph one.stands
 
   -- The records of a store whose names are damaged stay, but for the version.
-  refused-leaves : (found : IsStore (g.reads old) opened.base.shape) → committed opened ≡ raised opened.base.shape found.space → g.tells_reads
+  refused-leaves : (found : HoldsStore (g.reads old) opened.base.shape) → committed opened ≡ raised opened.base.shape found.space → g.tells_reads
       → LeavesRefused g old loaded.base.disk.now
   refused-leaves found is told =
       let shape = opened.base.shape in

@@ -10,7 +10,7 @@ use Rattle.rec_bytes.specs.declared.key.Key.{Key}
 use Rattle.rec_bytes.specs.declared.record.Rec.{Rec}
 use Rattle.rec_bytes.specs.declared.shape.Shape.{Shape}
 use Rattle.rec_bytes.proofs.Spaces.{laid_over-at, laid_over-other}
-use Rattle.store_rules.specs.Graph.{graph_of, names_of}
+use Rattle.store_rules.specs.Graph.{graph_in, graph_of, names_of}
 use Rattle.store_rules.specs.Indexes.{IsIndexed}
 use Rattle.store_rules.specs.Views.{Records}
 use Rattle.store_rules.specs.Writes.{WritesAtMost}
@@ -18,7 +18,6 @@ use Rattle.txn_core.specs.Changed.{AreChanged}
 use Rattle.txn_core.specs.Store as store
 use Rattle.txn_core.proofs.Shipped.{merged-none}
 use Rattle.txn_core.proofs.StoreRecords.{working-read}
-use Rattle.change_parts.specs.Store.{graph_in}
 use Rattle.graph_session.specs.Answering.{reply_of}
 use Rattle.graph_session.specs.ChangeLeft.{LeavesRecords}
 use Rattle.graph_session.specs.Drafting.{BlamesSeen, Drafts, DraftsChanged, DropsUnchanged, IsStopped, KeepsOnlyChanged, MakesLine, OnlyDrafts}

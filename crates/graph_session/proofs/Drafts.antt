@@ -18,12 +18,12 @@ use Rattle.txn_core.specs.Store as store
 use Rattle.txn_core.proofs.StoreRecords.{committed-beneath}
 use Rattle.snap_store.specs.Keeping.{EndsFor, KeepsHeld}
 use Rattle.snap_store.specs.Snaps.{Snapshots}
-use Rattle.change_parts.specs.Store.{graph_in}
 use Rattle.graph_session.specs.Drafting.{Closes, CommitsRecords, DoubtsRecords, DropsRecords, EndsCommit, TriesCommit}
 use Rattle.graph_session.specs.State.{State, seen}
 use Rattle.graph_session.specs.declared.answer.Answer.{Answer}
 use Rattle.graph_session.specs.declared.health.Health.TheVariants as healths
 use Rattle.graph_session.specs.declared.session.Session.{Session}
+use Rattle.store_rules.specs.Graph.{graph_in}
 
 crash-either : {D : Type 0} (g : Ghosts D) (disk other now : D) (a b c d : Key → Rec) → disk ≡ other → a ≡ c → b ≡ d
     → AtEachMoment g disk now (λ left. Redoes left a ⊎ Redoes left b) → AtEachMoment g other now (λ left. Redoes left c ⊎ Redoes left d)

@@ -28,7 +28,7 @@ use Rattle.graph_ops.specs.Mutating.{IsListRefusal, MakesMutation, most_told}
 use Rattle.graph_ops.specs.NewIds.{GetsFreeIds}
 use Rattle.graph_ops.specs.declared.mutate_fault.MutateFault.{MutateFault}
 use Rattle.graph_ops.specs.declared.mutate_fault.MutateFault.TheVariants as mutate_faults
-use Rattle.change_parts.specs.Store.{IsStore, graph_in}
+use Rattle.change_parts.specs.Store.{IsStore}
 use Rattle.change_parts.specs.declared.change_fault.ChangeFault.{ChangeFault}
 use Rattle.change_parts.specs.declared.change_fault.ChangeFault.TheVariants as faults
 use Rattle.graph_session.specs.Answering.{reply_of}
@@ -38,6 +38,7 @@ use Rattle.graph_session.specs.MayStep.{TellsMade}
 use Rattle.graph_session.specs.declared.answer.Answer.{Answer}
 use Rattle.graph_session.specs.declared.session.Session.{Session}
 use Rattle.graph_session.proofs.Weights.{Weighs-only}
+use Rattle.store_rules.specs.Graph.{graph_in}
 
 -- ---- single changes
 

@@ -15,7 +15,7 @@ use Rattle.record_file.specs.Unique.{Redoes-unique}
 use Rattle.stored_graph.specs.Stands.{IsMade, Stands}
 use Rattle.stored_graph.proofs.Stands.{stands-recoverable, unmade-not_made}
 use Rattle.stored_graph.proofs.Versions.{graph_of-raised, newest-indexed}
-use Rattle.txn_core.specs.Opening.{IsOldOrRaised, IsStore}
+use Rattle.txn_core.specs.Opening.{HoldsStore, IsOldOrRaised}
 use Rattle.txn_core.specs.declared.config.Config.{Config}
 use Rattle.graph_session.specs.Console.{TellsAll}
 use Rattle.graph_session.specs.Opening.{LeavesByOpening, LeavesOldOrSame, StandsForOne, Starts, StartsAs}
@@ -41,7 +41,7 @@ redone-made content left shape graph space made redoes (inr newest) = record {
 }
 
 -- a content has a store of one shape
-pub store-shape : (content : Files) (shape : Shape) (graph : Graph) → IsMade content shape graph → (other : Shape) (store : IsStore content other)
+pub store-shape : (content : Files) (shape : Shape) (graph : Graph) → IsMade content shape graph → (other : Shape) (store : HoldsStore content other)
     → other ≡ shape
 store-shape content shape graph made other store =
     let same : store.space ≡ made.space = Redoes-unique content store.space made.space store.redoes made.redoes in

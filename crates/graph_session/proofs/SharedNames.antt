@@ -16,7 +16,7 @@ use Rattle.plain_graph.specs.declared.command.Command.TheVariants as commands
 use Rattle.plain_graph.specs.declared.command.Target.TheVariants as targets
 use Rattle.change_parts.proofs.LineNames.{uses_prefix}
 use Rattle.graph_session.specs.Console.{BeginWith}
-use Rattle.graph_session.specs.Exchange.{CarriesKind, ConsoleStep, IsDone, KeepsStore, LeavesBound, LeavesChange}
+use Rattle.graph_session.specs.Exchange.{CarriesKind, ConsoleStep, DoesUpkeep, IsDone, LeavesBound, LeavesChange}
 use Rattle.graph_session.specs.Exchange.{LeavesKind, LeavesStore, MakesChange, MovesBound, Stops, failing}
 use Rattle.graph_session.specs.Refusals.{SpellsOnly}
 use Rattle.graph_session.specs.State.{Admits, Live, State, Transaction, admitted, graphs_from}
@@ -129,7 +129,7 @@ module _ (old : State) (line : List ℕ) (command : Command) (only : SpellsOnly 
       (record { shape = refl; names = λ graph admits. (graph, admits, begin-all graph.names graph.names refl) })
   bound-goes c reply is never = absurd never
 
-  kept-goes : (c : Command) (reply : Reply) → KeepsStore old c reply new → GoesOn old new
+  kept-goes : (c : Command) (reply : Reply) → DoesUpkeep old c reply new → GoesOn old new
   kept-goes commands.Checkpoint reply done = on-same old done.1
   kept-goes commands.Reopen reply (told, graph, admits, is) =
       on-graphs old (graph ∷ []) (ap (λ (s : State). s.shape) is) (ap admitted is) (one-graph old graph (graph, admits, begin-all graph.names graph.names refl))

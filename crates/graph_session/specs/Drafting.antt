@@ -32,7 +32,7 @@ use Rattle.change_parts.specs.Change.{full_of}
 use Rattle.graph_ops.specs.Mutating.{most_told}
 use Rattle.graph_ops.specs.declared.mutate_fault.MutateFault.{MutateFault}
 use Rattle.graph_ops.specs.declared.mutate_fault.MutateFault.TheVariants as mutate_faults
-use Rattle.change_parts.specs.Store.{IsStore, graph_in}
+use Rattle.change_parts.specs.Store.{IsStore}
 use Rattle.change_parts.specs.declared.added.Added.{Added}
 use Rattle.change_parts.specs.declared.change_fault.ChangeFault.{ChangeFault}
 use Rattle.change_parts.specs.declared.change_fault.ChangeFault.TheVariants as faults
@@ -49,6 +49,7 @@ use Rattle.graph_session.specs.declared.changing.Begun.{Begun}
 use Rattle.graph_session.specs.declared.changing.Drafted.{Drafted}
 use Rattle.graph_session.specs.declared.health.Health.TheVariants as healths
 use Rattle.graph_session.specs.declared.session.Session.{Session}
+use Rattle.store_rules.specs.Graph.{graph_in}
 
 -- the answer of a change that is refused
 abbrev pub answer_for : ChangeFault → Answer

@@ -48,12 +48,12 @@ MovesBound old commands.Rollback reply new = (reply ≡ Done) × (new ≡ openin
 MovesBound old _ reply new = ⊥
 
 -- the store is brought into its files, or found again, with this reply
-abbrev pub KeepsStore : State → Command → Reply → State → Type 0
-KeepsStore old commands.Checkpoint reply new = (reply ≡ Done) × (new ≡ old)
-KeepsStore old commands.Reopen reply new =
+abbrev pub DoesUpkeep : State → Command → Reply → State → Type 0
+DoesUpkeep old commands.Checkpoint reply new = (reply ≡ Done) × (new ≡ old)
+DoesUpkeep old commands.Reopen reply new =
     (reply ≡ Done) × (graph : Graph) × Admits old graph
     × (new ≡ record old { committed = graph; standing = Live })
-KeepsStore old _ reply new = ⊥
+DoesUpkeep old _ reply new = ⊥
 
 -- The reply tells a reading of the graph that the line sees, in which no count passes.
 abbrev pub TellsReading : State → Command → Reply → State → Type 0
@@ -66,7 +66,7 @@ abbrev pub CarriesKind : Kind → State → Command → Reply → State → Type
 CarriesKind Blanks old command reply new = ⊥
 CarriesKind Ending old command reply new = ⊥
 CarriesKind Bound old command reply new = MovesBound old command reply new
-CarriesKind Upkeep old command reply new = KeepsStore old command reply new
+CarriesKind Upkeep old command reply new = DoesUpkeep old command reply new
 CarriesKind Sight old command reply new = ⊥
 CarriesKind Change old command reply new = MakesChange old command reply new
 CarriesKind Question old command reply new = TellsReading old command reply new

@@ -19,7 +19,7 @@ use Rattle.txn_core.specs.Config.{Suits, shape_of}
 use Rattle.txn_core.specs.declared.config.Config.{Config}
 use Rattle.txn_core.specs.declared.open_fault.OpenFault.{OpenFault}
 use Rattle.txn_core.specs.declared.open_fault.OpenFault.TheVariants as faults
-use Rattle.txn_core.specs.Opening.{IsAskedOther, IsClean, IsOldOrRaised, IsRefusal, IsStore}
+use Rattle.txn_core.specs.Opening.{HoldsStore, IsAskedOther, IsClean, IsOldOrRaised, IsRefusal}
 use Rattle.txn_core.specs.Opening.{OnlyDiffers, RefusesOpening, StaysAsItWas}
 use Rattle.name_store.specs.Loading.{IsNameDamage}
 use Rattle.graph_session.specs.Console.{HasNoDraft, IsAt, SessionView, TellsAll}
@@ -51,7 +51,7 @@ abbrev pub LeavesOldOrSame : Files → (Files → Type 0) → Config → Files �
 LeavesOldOrSame content images config left =
     images left
     ⊎ ((IsUnmade content × Stands left (shape_of config) empty_graph)
-    ⊎ ((¬ IsUnmade content) × (shape : Shape) × (store : IsStore content shape)
+    ⊎ ((¬ IsUnmade content) × (shape : Shape) × (store : HoldsStore content shape)
     × IsOldOrRaised shape store.space left))
 
 -- what the disk reads stands for a graph, under some shape
@@ -95,7 +95,7 @@ RefusesContent content config why =
 abbrev pub LeavesRefused : {D : Type 0} → Ghosts D → D → D → Type 0
 LeavesRefused g old new =
     OnlyReads g old new
-    ⊎ ((shape : Shape) × (store : IsStore (g.reads old) shape)
+    ⊎ ((shape : Shape) × (store : HoldsStore (g.reads old) shape)
     × IsOldOrRaised shape store.space (g.reads new)
     × (g.tells_images → AtEachMoment g old new (λ left.
     g.may_leave old left ⊎ IsOldOrRaised shape store.space left)))

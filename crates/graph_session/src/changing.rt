@@ -13,7 +13,6 @@ ghost use Rattle.txn_core.specs.Base.{SameBeneath};
 ghost use Rattle.txn_core.specs.Shipped.{AllShip};
 ghost use Rattle.txn_core.specs.Store.{drafted, working};
 ghost use Rattle.change_parts.specs.Damage.{IsOfIndex};
-ghost use Rattle.change_parts.specs.Store.{graph_in};
 ghost use Rattle.graph_session.specs.Answering.{reply_of};
 ghost use Rattle.graph_session.specs.ChangeDamage.{IsNameOrMet, IsToldAsFound, MayMeetNames};
 ghost use Rattle.graph_session.specs.ChangeDamage.{TellsAsFound};
@@ -22,6 +21,7 @@ ghost use Rattle.graph_session.specs.Settling.{SettlesCommand};
 ghost use Rattle.graph_session.specs.SnapshotEffects.{KeepsOlds};
 ghost use Rattle.graph_session.specs.Tapping.{HasRoom, Takes, TapsCommand};
 ghost use Rattle.graph_session.specs.declared.health.Health.TheVariants as healths;
+ghost use Rattle.store_rules.specs.Graph.{graph_in};
 
 use crate::answer::Answer;
 use crate::change::Change;

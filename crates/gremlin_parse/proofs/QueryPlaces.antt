@@ -905,7 +905,8 @@ some (ValueOf into key) = (
           refl,
           inl (0, refl, (refl, refl)),
           loose_line
-              (ClosesFilter into (value_filter key (values.Int (pos 0)))) (41 ∷ rest_after into) (closes_filter_line into (value_filter key (values.Int (pos 0)))),
+              (ClosesFilter into (value_filter key (values.Int (pos 0)))) (41 ∷ rest_after into) (closes_filter_line into (value_filter key (values.Int
+                  (pos 0)))),
         ),
       ))),
 )

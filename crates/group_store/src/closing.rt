@@ -24,7 +24,7 @@ pub fn close_chain<S: Space>(space: &mut S, node: u32, head: Head) -> Result<(),
     ensures closed { S.tells → OnOk result ((most : ℕ) (empty : List ℕ)
         → CanClose (S.state space.old) (head_of head) node most empty
         → HasClosed (S.state space.old) (S.state space.new) node most empty) }
-    ensures sound { S.tells → (most : ℕ) (empty : List ℕ)
+    ensures not_damaged { S.tells → (most : ℕ) (empty : List ℕ)
         → CanClose (S.state space.old) (head_of head) node most empty → NotDamaged result }
     ensures damaged { S.tells
         → IfErr result (IsDropFault (S.state space.old) node head.key.id) }

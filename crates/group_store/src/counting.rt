@@ -48,7 +48,7 @@ pub fn push_counted<S: Space>(space: &mut S, head: Head, node: u32, rel: u32) ->
     ensures breaks { S.tells → (n : ℕ)
         → IsHeadOf (S.state space.old).records (head_of head) n
         → IfErr result (IsBreakFault (S.state space.old)) }
-    ensures sound { S.tells
+    ensures not_damaged { S.tells
         → IsRightLink (S.state space.old) (first_of (S.state space.old).records (head_of head))
         → NotDamaged result }
     ensures wrote { IfOk result (λ first. WritesOnly (S.state space.old) (S.state space.new)
@@ -81,7 +81,7 @@ pub fn unlink_counted<S: Space>(space: &mut S, head: Head, node: u32, rel: u32) 
     ensures breaks { S.tells → (row : RelRow) → rel_at (S.state space.old).records rel ≡ Some row
         → IsPlaced (S.state space.old).records (head_of head) node row
         → IfErr result (IsBreakFault (S.state space.old)) }
-    ensures sound { S.tells
+    ensures not_damaged { S.tells
         → IsRightLink (S.state space.old) (prev_of (S.state space.old).records node rel)
         → IsRightLink (S.state space.old) (next_of (S.state space.old).records node rel)
         → (xs : List ℕ) → CanUnlink (S.state space.old).records (head_of head) node rel xs
@@ -113,7 +113,7 @@ fn unlink_named<S: Space>(space: &mut S, head: Head, node: u32, rel: u32) -> Res
     ensures breaks { S.tells → (row : RelRow) → rel_at (S.state space.old).records rel ≡ Some row
         → IsPlaced (S.state space.old).records (head_of head) node row
         → IfErr result (IsBreakFault (S.state space.old)) }
-    ensures sound { S.tells
+    ensures not_damaged { S.tells
         → IsRightLink (S.state space.old) (prev_of (S.state space.old).records node rel)
         → IsRightLink (S.state space.old) (next_of (S.state space.old).records node rel)
         → (xs : List ℕ) → CanUnlink (S.state space.old).records (head_of head) node rel xs

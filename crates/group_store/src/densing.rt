@@ -61,7 +61,7 @@ pub fn make_dense<S: Space>(space: &mut S, node: u32, threshold: u32) -> Result<
     ensures made { S.tells → OnOk result ((most : ℕ) (empty : List ℕ)
         → CanBecomeDense (S.state space.old) node most empty
         → BecomesDense (S.state space.old) (S.state space.new) node most empty) }
-    ensures sound { S.tells → (most : ℕ) (empty : List ℕ)
+    ensures not_damaged { S.tells → (most : ℕ) (empty : List ℕ)
         → CanBecomeDense (S.state space.old) node most empty
         → HasDenseRoom (S.state space.old) node threshold empty → NotDamaged result }
     ensures spread { S.tells → OnOk result ((members free : List ℕ)
@@ -161,7 +161,7 @@ fn move_one<S: Space>(space: &mut S, node: u32, rel: u32) -> Result<Turn, Fault>
         → IsSpread (S.state space.new) node turn.next rest most empty
         × Regroups (S.state space.old) (S.state space.new) node
         × LeavesOthers (S.state space.old) (S.state space.new) node) }
-    ensures sound { S.tells → (rest : List ℕ) (most : ℕ) (empty : List ℕ)
+    ensures not_damaged { S.tells → (rest : List ℕ) (most : ℕ) (empty : List ℕ)
         → IsSpread (S.state space.old) node rel (rel ∷ rest) most empty
         → HasEndRoom (S.state space.old) empty → NotDamaged result }
     ensures own { S.tells → IfOk result (λ turn. (rest : List ℕ) (most : ℕ) (empty : List ℕ)
@@ -242,7 +242,7 @@ pub(crate) fn own_group<S: Space>(space: &mut S, node: u32, label: u32) -> Resul
         → KeepsBut (S.state space.new).records (S.state space.new).shape node rest most
         (own.row.id ∷ empty)
         × HasOpened (S.state space.old) (S.state space.new) node label own.row.id rest) }
-    ensures sound { S.tells → (rest : List ℕ) (most : ℕ) (empty : List ℕ)
+    ensures not_damaged { S.tells → (rest : List ℕ) (most : ℕ) (empty : List ℕ)
         → KeepsBut (S.state space.old).records (S.state space.old).shape node rest most empty
         → IsDense (S.state space.old).records node
         → (meta_of (S.state space.old) groups_file).live ≢ room (S.state space.old) groups_file

@@ -49,7 +49,7 @@ pub fn drop_if_empty<S: Space>(space: &mut S, node: u32, group: u32) -> Result<b
     ensures breaks { S.tells → (row : GroupRow)
         → group_at (S.state space.old).records group ≡ Some row → row.owner ≡ node
         → IfErr result (IsBreakFault (S.state space.old)) }
-    ensures sound { S.tells → (xs : List ℕ) → IsOnChain (S.state space.old) node group xs
+    ensures not_damaged { S.tells → (xs : List ℕ) → IsOnChain (S.state space.old) node group xs
         → NotDamaged result }
     ensures unwritten { OnDamage result (SameButReads (S.state space.old) (S.state space.new)) }
     ensures writes { (before after : ℕ) × WritesOnly (S.state space.old) (S.state space.new)

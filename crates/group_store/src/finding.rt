@@ -35,7 +35,7 @@ pub fn find_group<R: Reads>(space: &mut R, node: u32, label: u32) -> Result<Opti
     ensures at_most { ReadsAtMost (1 + group_mark (R.state space.old)) (R.state space.old)
         (R.state space.new) }
     ensures damaged { R.tells → IfErr result (IsFindFault (R.state space.old) node) }
-    ensures sound { R.tells → nodes.IsReadable (R.state space.old) node → (xs : List ℕ)
+    ensures not_damaged { R.tells → nodes.IsReadable (R.state space.old) node → (xs : List ℕ)
         → IsWalkable (R.state space.old) node (first_link (R.state space.old).records node) xs
         → NotDamaged result }
     ensures key { IfOk result (λ found. IfSome found (λ row. IsKey (group_key row.id))) }
@@ -66,7 +66,7 @@ fn seek<R: Reads>(
     ensures at_most { ReadsAtMost (group_mark (R.state space.old)) (R.state space.old)
         (R.state space.new) }
     ensures damaged { R.tells → IfErr result (IsWalkFault (R.state space.old) node first) }
-    ensures sound { R.tells → (xs : List ℕ) → IsWalkable (R.state space.old) node first xs
+    ensures not_damaged { R.tells → (xs : List ℕ) → IsWalkable (R.state space.old) node first xs
         → NotDamaged result }
     ensures key { IfOk result (λ found. IfSome found (λ row. IsKey (group_key row.id))) }
     ensures no_memory { TakesNoMemory result }

@@ -17,7 +17,7 @@ use rec_bytes::{
 pub(crate) fn test_link<R: Reads>(space: &R, link: u32, named: Damage) -> Result<(), Damage>
     ensures key { OnOk result (link ≢ NIL → IsKey (group_key link)) }
     ensures low { OnOk result (link ≢ NIL → link < group_mark (R.state space.now)) }
-    ensures sound { IsRightLink (R.state space.now) link → IsOk result }
+    ensures not_damaged { IsRightLink (R.state space.now) link → IsOk result }
     ensures damaged { IfErr result (IsLinkDamage (R.state space.now) link named) }
 {
     if link == NIL {

@@ -41,7 +41,7 @@ pub fn make_group<S: Space>(space: &mut S, node: u32, label: u32) -> Result<Grou
     ensures damaged { S.tells → IfErr result (IsMakeFault (S.state space.old) node) }
     ensures breaks { S.tells → IsDense (S.state space.old).records node
         → IfErr result (IsOpenFault (S.state space.old)) }
-    ensures sound { S.tells → IsReadable (S.state space.old) node → (free xs : List ℕ)
+    ensures not_damaged { S.tells → IsReadable (S.state space.old) node → (free xs : List ℕ)
         → CanMake (S.state space.old) node label free xs → IsDense (S.state space.old).records node
         → (meta_of (S.state space.old) groups_file).live ≢ room (S.state space.old) groups_file
         → NotDamaged result }
@@ -86,7 +86,7 @@ pub(crate) fn make_own<S: Space>(space: &mut S, node: u32, label: u32) -> Result
         xs) }
     ensures ok { S.tells → OnOk result (S.state space.new ≡ made (S.state space.old) node label) }
     ensures damaged { S.tells → IfErr result (IsMakeFault (S.state space.old) node) }
-    ensures sound { S.tells → IsReadable (S.state space.old) node → (free xs : List ℕ)
+    ensures not_damaged { S.tells → IsReadable (S.state space.old) node → (free xs : List ℕ)
         → CanMake (S.state space.old) node label free xs → IsDense (S.state space.old).records node
         → (meta_of (S.state space.old) groups_file).live ≢ room (S.state space.old) groups_file
         → NotDamaged result }

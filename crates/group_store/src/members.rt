@@ -41,7 +41,7 @@ pub(crate) fn first_group<R: Reads>(space: &mut R, node: u32) -> Result<Option<u
         (λ first. IfSome first (λ _. R.state space.new ≡ after_get (R.state space.old))) }
     ensures at_most { ReadsAtMost 1 (R.state space.old) (R.state space.new) }
     ensures damaged { R.tells → IfErr result (IsNodeFault (R.state space.old) node) }
-    ensures sound { R.tells → IsReadable (R.state space.old) node → NotDamaged result }
+    ensures not_damaged { R.tells → IsReadable (R.state space.old) node → NotDamaged result }
     ensures no_memory { TakesNoMemory result }
     ensures onward { R.onward space.old space.new }
     ensures cause { HasFaultCause (R.faults space.old) (R.faults space.new) result }

@@ -56,7 +56,7 @@ fn is_dense<R: Reads>(space: &mut R, node: u32) -> Result<bool, Fault>
     ensures is { R.tells
         → IfOk result (λ dense. Decides dense (IsDense (R.state space.old).records node)) }
     ensures damaged { R.tells → IfErr result (IsNodeFault (R.state space.old) node) }
-    ensures sound { R.tells → IsReadable (R.state space.old) node → NotDamaged result }
+    ensures not_damaged { R.tells → IsReadable (R.state space.old) node → NotDamaged result }
     ensures state { SameButReads (R.state space.old) (R.state space.new) }
     ensures onward { R.onward space.old space.new }
     ensures cause { HasFaultCause (R.faults space.old) (R.faults space.new) result }
@@ -80,7 +80,7 @@ pub fn open_head<S: Space>(
     ensures found { S.tells → IfOk result (λ head. (most : ℕ) (empty : List ℕ) (x : ℕ)
         (row : RelRow) → IsEndOf (S.state space.old) node label side most empty x row
         → FindsChain (S.state space.old) (S.state space.new) (head_of head) node row most empty) }
-    ensures sound { S.tells → (most : ℕ) (empty : List ℕ) (x : ℕ) (row : RelRow)
+    ensures not_damaged { S.tells → (most : ℕ) (empty : List ℕ) (x : ℕ) (row : RelRow)
         → IsEndOf (S.state space.old) node label side most empty x row → NotDamaged result }
     ensures damaged { S.tells → IfErr result (IsHeadFault (S.state space.old) node rel label) }
     ensures breaks { S.tells → (row : RelRow) → rel_at (S.state space.old).records rel ≡ Some row
@@ -134,7 +134,7 @@ fn open_group<S: Space>(space: &mut S, node: u32, label: u32, side: Side) -> Res
     ensures opened { S.tells → IfOk result (λ head. (row : RelRow) (empty : List ℕ)
         → CanOpenGroup (S.state space.old) node label side row empty
         → OpensChain (S.state space.old) (S.state space.new) (head_of head) node row empty) }
-    ensures sound { S.tells → (row : RelRow) (empty : List ℕ)
+    ensures not_damaged { S.tells → (row : RelRow) (empty : List ℕ)
         → CanOpenGroup (S.state space.old) node label side row empty
         → HasGroupRoom (S.state space.old) empty → NotDamaged result }
     ensures damaged { S.tells → IsDense (S.state space.old).records node
@@ -195,7 +195,7 @@ pub fn open_chain<S: Space>(
     ensures opened { S.tells → IfOk result (λ head. (row : RelRow) (empty : List ℕ)
         → CanOpen (S.state space.old) node degree threshold label side row empty
         → OpensChain (S.state space.old) (S.state space.new) (head_of head) node row empty) }
-    ensures sound { S.tells → (row : RelRow) (empty : List ℕ)
+    ensures not_damaged { S.tells → (row : RelRow) (empty : List ℕ)
         → CanOpen (S.state space.old) node degree threshold label side row empty
         → HasGroupRoom (S.state space.old) empty → NotDamaged result }
     ensures damaged { S.tells → IsDense (S.state space.old).records node ⊎ (degree ≢ threshold)

@@ -54,7 +54,7 @@ pub(crate) fn count_group<S: Space>(space: &mut S, node: u32, row: &GroupRow) ->
     ensures raised { S.tells → OnOk result ((most : ℕ) (empty : List ℕ)
         → CanRaise (S.state space.old) node row.now most empty
         → HasRaised (S.state space.old) (S.state space.new) node row.now.id most empty) }
-    ensures sound { S.tells → (most : ℕ) (empty : List ℕ)
+    ensures not_damaged { S.tells → (most : ℕ) (empty : List ℕ)
         → CanRaise (S.state space.old) node row.now most empty → NotDamaged result }
     ensures breaks { S.tells → IsGroupAt (S.state space.old) node row.now
         → IfErr result (IsBreakFault (S.state space.old)) }
@@ -104,7 +104,8 @@ fn count_chains<R: Reads>(
 ) -> Result<Counts, Fault>
     ensures counts { R.tells
         → IfOk result (λ counts. AreLengths (R.state space.old) node row.now counts) }
-    ensures sound { R.tells → node_degree ≡ degree (R.state space.old).records node → (most : ℕ)
+    ensures not_damaged { R.tells → node_degree ≡ degree (R.state space.old).records node
+        → (most : ℕ)
         (empty : List ℕ) → CanRaise (R.state space.old) node row.now most empty
         → NotDamaged result }
     ensures breaks { R.tells → node_degree ≡ degree (R.state space.old).records node
@@ -137,7 +138,7 @@ fn side_length<R: Reads>(
     ensures counted { R.tells → IfOk result (λ n. HasCounted (R.state space.old)
         (first_in row.now side) node (members_of row.now.label side) budget n) }
     ensures few { IfOk result (λ n. n ≤ budget) }
-    ensures sound { R.tells → rel_mark (R.state space.old) ≤ rel_room (R.state space.old)
+    ensures not_damaged { R.tells → rel_mark (R.state space.old) ≤ rel_room (R.state space.old)
         → (xs : List ℕ) → IsMemberChain (R.state space.old) (first_in row.now side) node
         (members_of row.now.label side) xs → NotDamaged result }
     ensures breaks { R.tells → IsGroupAt (R.state space.old) node row.now

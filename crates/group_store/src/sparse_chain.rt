@@ -25,7 +25,7 @@ pub(crate) fn test_chain<R: Reads>(
 ) -> Result<(), Fault>
     ensures damaged { R.tells → first ≡ first_link (R.state space.old).records node
         → IfErr result (IsSparseFault (R.state space.old) node degree) }
-    ensures sound { R.tells → first ≡ first_link (R.state space.old).records node
+    ensures not_damaged { R.tells → first ≡ first_link (R.state space.old).records node
         → (members : List ℕ)
         → IsHeadChain (R.state space.old).records (node_head node) node members
         → AreReadable (R.state space.old) members → length members ≤ degree → NotDamaged result }

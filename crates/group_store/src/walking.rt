@@ -26,7 +26,7 @@ pub fn groups<R: Reads>(alloc: Global, space: &mut R, row: &NodeRow) -> Result<V
         (R.state space.new) }
     ensures damaged { R.tells
         → IfErr result (IsWalkFault (R.state space.old) row.now.id row.now.first) }
-    ensures sound { R.tells → (xs : List ℕ)
+    ensures not_damaged { R.tells → (xs : List ℕ)
         → IsWalkable (R.state space.old) row.now.id row.now.first xs → NotDamaged result }
     ensures onward { R.onward space.old space.new }
     ensures cause { HasFaultCause (R.faults space.old) (R.faults space.new) result }

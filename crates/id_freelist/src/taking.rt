@@ -48,7 +48,7 @@ pub fn take<S: Space>(space: &mut S, file: u8) -> Result<u32, TakeFault>
     ensures refused { S.tells → IfErr result (IsTakeFault (S.state space.old) file) }
     ensures damaged { S.tells → IfErr result
         (BlamesBroken (S.state space.old).records (S.state space.old).shape) }
-    ensures sound { S.tells → (free : List ℕ) → CanTake (S.state space.old) file free
+    ensures not_damaged { S.tells → (free : List ℕ) → CanTake (S.state space.old) file free
         → NotDamaged result }
     ensures undamaged { S.tells → OnOk result (IsUndamaged (S.state space.old) file) }
     ensures err { OnErr result (SameButReads (S.state space.old) (S.state space.new)) }

@@ -149,7 +149,7 @@ fn check_each<R: Reads>(
         → In d (map (λ a. a.id) definitions.now) → IsRight (R.state space.old).records d)) }
     ensures broken { R.tells → IfOk result (λ found. IfSome found
         (BreaksIndexRule (R.state space.old).records)) }
-    ensures sound { R.tells → AreReadable (R.state space.old).records → NotDamaged result }
+    ensures not_damaged { R.tells → AreReadable (R.state space.old).records → NotDamaged result }
     ensures read { IsRead R.Reads space.old space.new }
     ensures cause { HasFaultCause (R.faults space.old) (R.faults space.new) result }
 {
@@ -176,7 +176,7 @@ fn check_definitions<R: Reads>(
     requires are { R.tells → definitions.now
         ≡ map (definition_at (R.state space.old).records) ids.now }
     ensures decided { R.tells → IfOk result (DecidesIndexRule (R.state space.old).records) }
-    ensures sound { R.tells → AreReadable (R.state space.old).records → NotDamaged result }
+    ensures not_damaged { R.tells → AreReadable (R.state space.old).records → NotDamaged result }
     ensures read { IsRead R.Reads space.old space.new }
     ensures cause { HasFaultCause (R.faults space.old) (R.faults space.new) result }
 {
@@ -196,7 +196,7 @@ fn check_definitions<R: Reads>(
 fn decide<R: Reads>(alloc: Global, space: &mut R) -> Result<Option<Damage>, Fault>
     requires { AreMarksLow (R.state space.old).records }
     ensures decided { R.tells → IfOk result (DecidesIndexRule (R.state space.old).records) }
-    ensures sound { R.tells → AreReadable (R.state space.old).records → NotDamaged result }
+    ensures not_damaged { R.tells → AreReadable (R.state space.old).records → NotDamaged result }
     ensures read { IsRead R.Reads space.old space.new }
     ensures cause { HasFaultCause (R.faults space.old) (R.faults space.new) result }
 {

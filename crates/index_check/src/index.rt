@@ -39,7 +39,7 @@ pub(crate) fn check_index<R: Reads>(
         (IsRight (R.state space.old).records definition.now.id)) }
     ensures broken { R.tells → IfOk result (λ found. IfSome found
         (BreaksIndexRule (R.state space.old).records)) }
-    ensures sound { R.tells → AreReadable (R.state space.old).records → NotDamaged result }
+    ensures not_damaged { R.tells → AreReadable (R.state space.old).records → NotDamaged result }
     ensures read { IsRead R.Reads space.old space.new }
     ensures cause { HasFaultCause (R.faults space.old) (R.faults space.new) result }
 {

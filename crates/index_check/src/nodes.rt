@@ -53,7 +53,7 @@ fn node_of<R: Reads>(
         (said_by (R.state space.old).records definition.now id) ≡ false)) }
     ensures low { IfOk result (λ found. IfSome found
         (λ node. node < high (R.state space.old).records nodes_file)) }
-    ensures sound { R.tells → AreReadable (R.state space.old).records → NotDamaged result }
+    ensures not_damaged { R.tells → AreReadable (R.state space.old).records → NotDamaged result }
     ensures read { IsRead R.Reads space.old space.new }
     ensures cause { HasFaultCause (R.faults space.old) (R.faults space.new) result }
 {
@@ -79,7 +79,7 @@ pub(crate) fn nodes_of<R: Reads>(
     ensures told { R.tells → IfOk result
         (AreNodesOf (R.state space.old).records definition.now entries.now) }
     ensures low { IfOk result (AreNodesLow (high (R.state space.old).records nodes_file)) }
-    ensures sound { R.tells → AreReadable (R.state space.old).records → NotDamaged result }
+    ensures not_damaged { R.tells → AreReadable (R.state space.old).records → NotDamaged result }
     ensures read { IsRead R.Reads space.old space.new }
     ensures cause { HasFaultCause (R.faults space.old) (R.faults space.new) result }
 {
@@ -122,7 +122,7 @@ fn is_missing<R: Reads>(
     requires { high (R.state space.old).records nodes_file ≤ most_ids }
     ensures told { R.tells → IfOk result (λ missing. Decides missing
         (IsMissing (R.state space.old).records definition.now node met)) }
-    ensures sound { R.tells → AreReadable (R.state space.old).records → NotDamaged result }
+    ensures not_damaged { R.tells → AreReadable (R.state space.old).records → NotDamaged result }
     ensures read { IsRead R.Reads space.old space.new }
     ensures cause { HasFaultCause (R.faults space.old) (R.faults space.new) result }
 {
@@ -147,7 +147,7 @@ fn find_missing<R: Reads>(
         → is_seen seen.now n ≡ true)) }
     ensures found { R.tells → IfOk result (λ found. IfSome found
         (λ n. IsMissing (R.state space.old).records definition.now n (is_seen seen.now n))) }
-    ensures sound { R.tells → AreReadable (R.state space.old).records → NotDamaged result }
+    ensures not_damaged { R.tells → AreReadable (R.state space.old).records → NotDamaged result }
     ensures read { IsRead R.Reads space.old space.new }
     ensures cause { HasFaultCause (R.faults space.old) (R.faults space.new) result }
 {
@@ -176,7 +176,7 @@ fn check_seen<R: Reads>(
         (AreNodesRight (R.state space.old).records definition.now nodes.now)) }
     ensures found { R.tells → IfOk result (λ found. IfSome found
         (IsWrongNode (R.state space.old).records definition.now nodes.now)) }
-    ensures sound { R.tells → AreReadable (R.state space.old).records → NotDamaged result }
+    ensures not_damaged { R.tells → AreReadable (R.state space.old).records → NotDamaged result }
     ensures read { IsRead R.Reads space.old space.new }
     ensures cause { HasFaultCause (R.faults space.old) (R.faults space.new) result }
 {
@@ -203,7 +203,7 @@ pub(crate) fn check_nodes<R: Reads>(
         (AreNodesRight (R.state space.old).records definition.now nodes.now)) }
     ensures found { R.tells → IfOk result (λ found. IfSome found
         (IsWrongNode (R.state space.old).records definition.now nodes.now)) }
-    ensures sound { R.tells → AreReadable (R.state space.old).records → NotDamaged result }
+    ensures not_damaged { R.tells → AreReadable (R.state space.old).records → NotDamaged result }
     ensures read { IsRead R.Reads space.old space.new }
     ensures cause { HasFaultCause (R.faults space.old) (R.faults space.new) result }
 {

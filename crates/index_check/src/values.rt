@@ -27,7 +27,7 @@ pub(crate) fn value_at<R: Reads>(
         (λ value. value ≡ node_value (R.state space.old).records label key node) }
     ensures low { IfOk result (λ value. IfSome value
         (λ _. node < high (R.state space.old).records nodes_file)) }
-    ensures sound { R.tells → AreReadable (R.state space.old).records → NotDamaged result }
+    ensures not_damaged { R.tells → AreReadable (R.state space.old).records → NotDamaged result }
     ensures read { IsRead R.Reads space.old space.new }
     ensures cause { HasFaultCause (R.faults space.old) (R.faults space.new) result }
 {

@@ -20,7 +20,7 @@ impl Names {
             (self.new.names ≡ take (name_mark (R.state space.old).records) self.old.names) }
         ensures damaged { R.tells
             → IfErr result (IsAgainFault (R.state space.old).records self.old.names) }
-        ensures sound { R.tells → (rest : List (List ℕ))
+        ensures not_damaged { R.tells → (rest : List (List ℕ))
             → self.old.names ≡ names_of (R.state space.old).records ++ rest → NotDamaged result }
         ensures err { OnErr result (self.new.names ≡ self.old.names) }
         ensures reads { OnOk result (R.state space.new ≡ after_names (R.state space.old)) }
@@ -42,7 +42,7 @@ impl Names {
             → OnOk result (self.now.names ≡ names_of (R.state space.old).records) }
         ensures damaged { R.tells
             → IfErr result (IsTestFault (R.state space.old).records self.now.names) }
-        ensures undamaged { R.tells
+        ensures not_damaged { R.tells
             → self.now.names ≡ names_of (R.state space.old).records → NotDamaged result }
         ensures reads { OnOk result (R.state space.new ≡ after_names (R.state space.old)) }
         ensures at_most { ReadsAtMost (length self.now.names)

@@ -22,7 +22,7 @@ pub fn load<R: Reads>(alloc: Global, space: &mut R) -> Result<Names, Fault>
     ensures damaged { R.tells → IfErr result (IsLoadFault (R.state space.old).records) }
     ensures first { R.tells → IfErr result (IsFirstDamage (R.state space.old).records) }
     ensures right { R.tells → OnOk result (AreLoadable (R.state space.old).records) }
-    ensures sound { R.tells → AreLoadable (R.state space.old).records → NotDamaged result }
+    ensures not_damaged { R.tells → AreLoadable (R.state space.old).records → NotDamaged result }
     ensures reads { OnOk result (R.state space.new ≡ after_names (R.state space.old)) }
     ensures at_most { ReadsAtMost (most_reads (R.state space.old))
         (R.state space.old) (R.state space.new) }

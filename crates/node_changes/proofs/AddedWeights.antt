@@ -18,7 +18,7 @@ use Rattle.plain_graph.specs.declared.pairs.Pair.{Pair}
 use Rattle.plain_graph.proofs.PropertyLaws.{order, same_key}
 use Rattle.rec_bytes.specs.Format as format
 use Rattle.store_rules.specs.Chains.{In}
-use Rattle.store_rules.specs.Graph.{indexes_of}
+use Rattle.store_rules.specs.Graph.{graph_in, indexes_of}
 use Rattle.store_rules.specs.Indexes.{indexed_key, indexed_label, wanted_in}
 use Rattle.store_rules.specs.Properties.{AreOnce}
 use Rattle.store_rules.specs.Views.{high, rec_at}
@@ -29,7 +29,7 @@ use Rattle.prop_index.specs.Listing.{pair_of}
 use Rattle.prop_store.specs.Changing.{text_at}
 use Rattle.change_parts.specs.Assigning.{AreAssigned, AreNew, pair_of as pair_in, pairs_of}
 use Rattle.node_changes.specs.Entries.{AreKeysOnce, indexed_of, is_listed}
-use Rattle.change_parts.specs.Store.{IsMidway, IsStore, graph_in}
+use Rattle.change_parts.specs.Store.{IsMidway, IsStore}
 use Rattle.change_parts.specs.declared.assigning.Assignment.{Assignment}
 use Rattle.change_parts.proofs.GraphPairs.{apart, has_pair, any_in, in_any, of_definition, pair_is, same_number, sum_indexes, text}
 use Rattle.node_changes.proofs.HeldWeights.{listed_among}

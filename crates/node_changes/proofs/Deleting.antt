@@ -24,13 +24,14 @@ use Rattle.prop_store.specs.declared.changing.Dropped.{Dropped}
 use Rattle.change_parts.specs.Change.{IsRefusal, MakesChange}
 use Rattle.node_changes.specs.NodeDeleting.{KeepsOtherKinds}
 use Rattle.change_parts.specs.Owners.{owner_of}
-use Rattle.change_parts.specs.Store.{IsMidway, IsStore, graph_in}
+use Rattle.change_parts.specs.Store.{IsMidway, IsStore}
 use Rattle.change_parts.specs.declared.change_fault.ChangeFault.TheVariants.{NoNode, HasRelationships}
 use Rattle.change_parts.proofs.KeptLinks.{drop_kinds}
 use Rattle.plain_graph.specs.Indexes.{element_weight}
 use Rattle.change_parts.proofs.KeptIndexes.{node_graph_indexes}
 use Rattle.store_rules.proofs.Shapes.{room_small}
 use Rattle.change_parts.proofs.ElementChanges.{without_changed}
+use Rattle.store_rules.specs.Graph.{graph_in}
 
 -- ---- why a node isn't deleted
 

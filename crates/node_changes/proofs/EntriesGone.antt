@@ -6,7 +6,6 @@ use Rattle.plain_graph.specs.declared.command.Target.TheVariants as targets
 use Rattle.plain_graph.specs.declared.value.Value.{Value}
 use Rattle.prop_index.proofs.Values.{value_in-is}
 use Rattle.prop_index.specs.Listing.{pair_of}
-use Rattle.prop_index.specs.Reading.{KeepsStore}
 use Rattle.prop_store.proofs.ElementChanges.{has_properties}
 use Rattle.prop_store.proofs.ElementGraphs.{listed_at, owns_listed}
 use Rattle.prop_store.specs.Changing.{HasElement}
@@ -26,6 +25,7 @@ use Rattle.store_rules.proofs.Shapes.{high_most}
 use Rattle.store_rules.proofs.ViewLaws.{kind_below, row_some}
 use Rattle.node_changes.specs.Entries.{is_listed, is_pair}
 use Rattle.change_parts.specs.Owners.{owner_of}
+use Rattle.store_rules.specs.Rules.{IsWhole}
 
 -- ---- numbers and truths
 
@@ -70,7 +70,7 @@ listed_in s (x ∷ ds) d label key (inr i) l k = rw (listed_in s ds d label key 
     or_true false = refl
 
 -- ---- a node in use can be read
-pub owner_known : (s : State) (node : ℕ) → KeepsStore s → kind_at s.records format.nodes_file node ≢ 0 → (es : List Property)
+pub owner_known : (s : State) (node : ℕ) → IsWhole s → kind_at s.records format.nodes_file node ≢ 0 → (es : List Property)
     × HasProperties s.records (owner_of (targets.Node node)) es
 owner_known s node store used =
     let low : node < high s.records format.nodes_file = kind_below (high s.records format.nodes_file) (rec_at s.records format.nodes_file node) node used in

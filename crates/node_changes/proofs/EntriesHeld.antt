@@ -8,7 +8,6 @@ use Rattle.plain_graph.specs.declared.value.Value.{Value}
 use Rattle.prop_index.specs.declared.listing.IndexPair.{IndexPair}
 use Rattle.prop_index.specs.Finding.{IsPair}
 use Rattle.prop_index.specs.Listing.{pair_of}
-use Rattle.prop_index.specs.Reading.{KeepsStore}
 use Rattle.prop_index.proofs.IndexCounts.{index_count}
 use Rattle.prop_index.proofs.LinkRules.{free_list, store_room}
 use Rattle.rec_bytes.specs.Format as format
@@ -24,6 +23,7 @@ use Rattle.store_rules.proofs.NumberLaws.{and_parts, eq_true}
 use Rattle.node_changes.specs.Entries.{held_at, held_of, is_held, is_listed, is_pair, without_held, without_old}
 use Rattle.node_changes.specs.declared.entries.IndexedValue.{IndexedValue}
 use Rattle.node_changes.proofs.EntriesGone.{eq_of, listed_in, met, own_met}
+use Rattle.store_rules.specs.Rules.{IsWhole}
 
 -- a test that passes or doesn't
 pub on_bool : {P : Type 0} (b : Bool) → (b ≡ true → P) → (b ≡ false → P) → P
@@ -101,7 +101,7 @@ without_more wanted held i d lt = ap (λ n. without_held wanted (take n held)) (
 
 -- ---- how many records are live
 
-pub store_live : (s : State) → KeepsStore s → (meta_of s format.index_file).live ≤ room_of s.shape format.index_file
+pub store_live : (s : State) → IsWhole s → (meta_of s format.index_file).live ≤ room_of s.shape format.index_file
 store_live s store =
     let exact = (free_list s store).1.exact in
     let few = length-ids (is_live s.records format.index_file) (high s.records format.index_file) in
@@ -124,7 +124,7 @@ pub no_definition : (s : Records) (ds : List ℕ) (label key : ℕ) → is_liste
 no_definition s ds label key none d i pair = true≢false (sym (listed_in s ds d label key i (sym pair.0) (sym pair.1)) ∙ none)
 
 -- where one is live, one less is less
-pub some_live : (s : State) (wanted : Entries) (ix : AreIndexed s.records wanted) → KeepsStore s → (d : ℕ) → In d ix.definitions → (now : ℕ)
+pub some_live : (s : State) (wanted : Entries) (ix : AreIndexed s.records wanted) → IsWhole s → (d : ℕ) → In d ix.definitions → (now : ℕ)
     → now ≡ (meta_of s format.index_file).live - 1 → now < (meta_of s format.index_file).live
 some_live s wanted ix store d i now is =
     let free = free_list s store in

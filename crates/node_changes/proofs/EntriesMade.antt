@@ -13,7 +13,6 @@ use Rattle.plain_graph.specs.declared.pairs.Pair.{Pair}
 use Rattle.plain_graph.specs.declared.value.Value.{Value}
 use Rattle.prop_index.specs.Entering.{entry_of}
 use Rattle.prop_index.specs.Listing.{pair_of}
-use Rattle.prop_index.specs.Reading.{KeepsStore}
 use Rattle.prop_index.specs.Sparing.{SparesDefinitions}
 use Rattle.prop_index.specs.Touching.{TouchesIndex}
 use Rattle.prop_index.specs.declared.listing.IndexPair.{IndexPair}
@@ -31,6 +30,7 @@ use Rattle.node_changes.specs.Entries.{AreKeysOnce, ArePairsOf, LacksEntries, in
 use Rattle.change_parts.specs.GivenValues.{gives_hash, with_assigned}
 use Rattle.change_parts.specs.declared.assigning.Assignment.{Assignment}
 use Rattle.node_changes.proofs.EntriesGone.{eq_of, listed_in}
+use Rattle.store_rules.specs.Rules.{IsWhole}
 
 -- ---- tests of lists
 
@@ -217,7 +217,7 @@ pub record IsEntering (tells onward : Type 0) (s t : State) (before now : ℕ) (
     (pairs : List Pair) (i : ℕ) : Type 0 where
   pub entered : tells → (wanted : Entries) → ArePairsOf s wanted listed → node < high s.records format.nodes_file → LacksEntries wanted node
       → AreKeysOnce assigned
-      → AreIndexed t.records (with_assigned wanted label node pairs (settled listed label assigned i)) × KeepsStore t
+      → AreIndexed t.records (with_assigned wanted label node pairs (settled listed label assigned i)) × IsWhole t
       × (indexes_of t.records ≡ indexes_of s.records)
   pub counted : tells → (meta_of t format.index_file).live ≤ (meta_of s format.index_file).live + length (indexed_of listed label (take i assigned))
   pub touched : TouchesIndex tells (3 * length (indexed_of listed label (take i assigned))) s t

@@ -19,7 +19,7 @@ use Rattle.plain_graph.specs.declared.command.Target.TheVariants as targets
 use Rattle.plain_graph.specs.declared.value.Value.{Value}
 use Rattle.rec_bytes.specs.Format as format
 use Rattle.rec_bytes.specs.Space.{SameButReads, State}
-use Rattle.store_rules.specs.Graph.{graph_of, indexes_of}
+use Rattle.store_rules.specs.Graph.{graph_in, graph_of, indexes_of}
 use Rattle.store_rules.specs.IndexChange.{ChangesValue}
 use Rattle.store_rules.specs.Indexes.{AreIndexed, Entries, has_hash, node_value, value_in, wanted_in}
 use Rattle.store_rules.specs.RuleList.{IsSameFile}
@@ -29,7 +29,6 @@ use Rattle.prop_index.specs.declared.listing.IndexPair.{IndexPair}
 use Rattle.store_rules.proofs.IndexKept.{properties_index}
 use Rattle.store_rules.proofs.IndexStays.{indexes_stay}
 use Rattle.prop_index.specs.Listing.{pair_of}
-use Rattle.prop_index.specs.Reading.{KeepsStore}
 use Rattle.prop_store.specs.Alone.{RemovesAlone, SetsAlone}
 use Rattle.prop_store.specs.Changing.{ChangesElement, HasElement, RemovesValue, SetsValue, target_of, text_at}
 use Rattle.prop_store.specs.declared.owner.Owner.{Owner}
@@ -39,7 +38,7 @@ use Rattle.prop_store.proofs.ValueSteps.{removes_value, sets_value}
 use Rattle.change_parts.specs.Change.{MakesChange}
 use Rattle.node_changes.specs.Entries.{IsIndexedValue, WantsHeld, new_weight, old_weight, with_new, without_old}
 use Rattle.change_parts.specs.Owners.{owner_of}
-use Rattle.change_parts.specs.Store.{IsMidway, IsStore, KeepsElements, graph_in}
+use Rattle.change_parts.specs.Store.{IsMidway, IsStore, KeepsElements}
 use Rattle.node_changes.specs.declared.entries.IndexedValue.{IndexedValue}
 use Rattle.node_changes.proofs.HeldWeights.{held_again, held_weighs, new_held, old_held, value_known}
 use Rattle.node_changes.proofs.IndexBeside.{KeepsBesideIndex, graph_beside, names_beside}
@@ -49,13 +48,14 @@ use Rattle.change_parts.proofs.KeptIndexes.{midway, properties_keep, store_now}
 use Rattle.node_changes.proofs.LiveIndexes.{indexes_fit}
 use Rattle.change_parts.proofs.PairsPut.{label_at}
 use Rattle.node_changes.proofs.Setting.{number_low, number_text, set_value, unset_value}
+use Rattle.store_rules.specs.Rules.{IsWhole}
 
 -- what the change of the entries left of the space
 pub record MakesEntries (u v : State) (held : Option IndexedValue) (after : Entries) : Type 0 where
   pub beside : KeepsBesideIndex u.records v.records
   pub graph : indexes_of v.records ≡ indexes_of u.records
   pub idle : held ≡ None → v ≡ u
-  pub keeps : KeepsStore v
+  pub keeps : IsWhole v
   pub indexed : AreIndexed v.records after
 
 -- the file of the indexes stays where the pair has none

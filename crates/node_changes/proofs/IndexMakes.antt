@@ -23,7 +23,7 @@ use Rattle.rec_bytes.specs.Format as format
 use Rattle.rec_bytes.specs.RecordFiles.{room_of}
 use Rattle.rec_bytes.specs.Space.{SameButReads, State, meta_of}
 use Rattle.rec_bytes.specs.declared.shape.Shape.{Shape}
-use Rattle.store_rules.specs.Graph.{names_of}
+use Rattle.store_rules.specs.Graph.{graph_in, names_of}
 use Rattle.store_rules.specs.Hashes.{hash_of}
 use Rattle.store_rules.specs.Indexes.{IsIndexed, indexed_key, indexed_label, node_value, wanted_in}
 use Rattle.store_rules.specs.Chains.{In}
@@ -44,7 +44,7 @@ use Rattle.change_parts.specs.Change.{IsRefusal, IsRefusedBy, MakesChange}
 use Rattle.change_parts.specs.ChangeFault.{of_intern, of_make}
 use Rattle.node_changes.specs.Indexing.{MayIndex, pair_reasons}
 use Rattle.change_parts.specs.declared.change_fault.ChangeFault.{ChangeFault}
-use Rattle.change_parts.specs.Store.{IsStore, KeepsElements, graph_in}
+use Rattle.change_parts.specs.Store.{IsStore, KeepsElements}
 use Rattle.change_parts.proofs.GraphPairs.{defined_among, has_pair, in_any, is_among, is_defined}
 use Rattle.node_changes.proofs.IndexBeside.{KeepsBesideIndex, graph_edges_beside, graph_nodes_beside, names_beside}
 use Rattle.node_changes.proofs.IndexMade.{index_placed}

@@ -25,12 +25,13 @@ use Rattle.prop_index.specs.declared.listing.IndexPair.{IndexPair}
 use Rattle.change_parts.specs.Causes.{HasIndexOf, HasManyDefinitions}
 use Rattle.node_changes.specs.Entries.{is_listed, is_pair}
 use Rattle.node_changes.specs.Indexing.{IsPairOf, MayIndex, pair_reasons}
-use Rattle.change_parts.specs.Store.{IsStore, graph_in}
+use Rattle.change_parts.specs.Store.{IsStore}
 use Rattle.change_parts.proofs.GraphPairs.{any_in, apart, index_at, is_among, same_number, sum_indexes, text}
 use Rattle.node_changes.proofs.IndexNumbers.{key_number, pair_named}
 use Rattle.change_parts.proofs.LineNames.{some_names}
 use Rattle.change_parts.proofs.NameNumbers.{number_in}
 use Rattle.node_changes.proofs.PairWeights.{text_test}
+use Rattle.store_rules.specs.Graph.{graph_in}
 
 -- ---- pairs that are listed, and definitions
 

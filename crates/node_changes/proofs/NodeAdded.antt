@@ -18,7 +18,7 @@ use Rattle.change_parts.specs.Change.{IsRefusedBy, MakesChange}
 use Rattle.node_changes.specs.NodeAdding.{IsFullOfNodes, PutsNode}
 use Rattle.change_parts.specs.Preparing.{IsPrepared, line_reasons}
 use Rattle.change_parts.specs.Rooms.{HasRoom, LacksRoom}
-use Rattle.change_parts.specs.Store.{IsMidway, IsStore, KeepsElements, graph_in}
+use Rattle.change_parts.specs.Store.{IsMidway, IsStore, KeepsElements}
 use Rattle.change_parts.specs.declared.change_fault.ChangeFault.{ChangeFault}
 use Rattle.change_parts.specs.declared.change_fault.ChangeFault.TheVariants.{Full}
 use Rattle.change_parts.specs.declared.preparing.Prepared.{Prepared}
@@ -28,6 +28,7 @@ use Rattle.change_parts.proofs.LineNames.{needs_names}
 use Rattle.change_parts.proofs.Reasons.{None, index_reasons, refused_more}
 use Rattle.plain_graph.specs.Indexes.{entries_weight}
 use Rattle.plain_graph.proofs.LineLaws.{first_front, none_both}
+use Rattle.store_rules.specs.Graph.{graph_in}
 
 -- ---- room for a node
 module _ (s : State) (names : List (List ℕ)) (store : IsMidway s names) where

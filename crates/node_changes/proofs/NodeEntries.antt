@@ -18,14 +18,13 @@ use Rattle.rec_bytes.specs.Meta as metas
 use Rattle.rec_bytes.specs.Record.{field}
 use Rattle.rec_bytes.specs.Space.{SameButReads, State, meta_of}
 use Rattle.store_rules.specs.Chains.{IsWalk}
-use Rattle.store_rules.specs.Graph.{indexes_of}
+use Rattle.store_rules.specs.Graph.{graph_in, indexes_of}
 use Rattle.store_rules.specs.Indexes.{AreIndexed, first_definition, next_definition, wanted_in}
 use Rattle.store_rules.specs.Views.{high, rec_at}
 use Rattle.store_rules.proofs.IndexStays.{indexes_stay}
 use Rattle.store_rules.proofs.PropertyWalks.{walk_is}
 use Rattle.store_rules.proofs.ViewLaws.{kind_below}
 use Rattle.prop_index.specs.Listing.{pair_of}
-use Rattle.prop_index.specs.Reading.{KeepsStore}
 use Rattle.prop_index.specs.declared.listing.IndexPair.{IndexPair}
 use Rattle.change_parts.specs.Assigning.{HasPropertyRoom, PutsPairs, assigned_blocks, pairs_of}
 use Rattle.change_parts.specs.Change.{IsRefusedBy, MakesChange}
@@ -34,7 +33,7 @@ use Rattle.change_parts.specs.GivenValues.{GivesValues, with_assigned}
 use Rattle.node_changes.specs.NodeAdding.{IsFullOfNodes, PutsNode}
 use Rattle.change_parts.specs.Preparing.{IsPrepared, line_reasons}
 use Rattle.change_parts.specs.Rooms.{HasRoom, LacksRoom}
-use Rattle.change_parts.specs.Store.{IsStore, graph_in}
+use Rattle.change_parts.specs.Store.{IsStore}
 use Rattle.change_parts.specs.declared.assigning.Assignment.{Assignment}
 use Rattle.change_parts.specs.declared.change_fault.ChangeFault.{ChangeFault}
 use Rattle.change_parts.specs.declared.preparing.Prepared.{Prepared}
@@ -49,6 +48,7 @@ use Rattle.node_changes.proofs.LiveIndexes.{live_indexes}
 use Rattle.node_changes.proofs.NodeAdded.{can_put, made, no_full}
 use Rattle.change_parts.proofs.Reasons.{None as Never, index_reasons}
 use Rattle.node_changes.proofs.Setting.{number_low, number_text}
+use Rattle.store_rules.specs.Rules.{IsWhole}
 
 -- the line is at hand still where the space was read then
 pub prepared_read : (s t u : State) (c : List (List ℕ)) (label : List ℕ) (pairs : List Pair) (prepared : Prepared) → SameButReads t u
@@ -216,7 +216,7 @@ module _ (s u : State) (names c : List (List ℕ)) (label : List ℕ) (pairs : L
 
       -- ---- its entries are added
 
-      module _ (x : State) (beside : KeepsBesideIndex w.records x.records) (graph : indexes_of x.records ≡ indexes_of w.records) (keeps : KeepsStore x)
+      module _ (x : State) (beside : KeepsBesideIndex w.records x.records) (graph : indexes_of x.records ≡ indexes_of w.records) (keeps : IsWhole x)
           (entered : AreIndexed x.records (with_assigned (wanted_in v.records) prepared.label id pairs items)) where
         wanted_then : wanted_in x.records ≡ with_assigned (wanted_in v.records) prepared.label id pairs items
         wanted_then = wanted_beside w.records x.records beside

@@ -20,11 +20,11 @@ use Rattle.id_freelist.specs.FreeLists.{free_record}
 use Rattle.id_freelist.specs.Giving.{CanGive, HasGiven, given}
 use Rattle.id_freelist.proofs.Leaving.{free_is_free}
 use Rattle.store_rules.specs.Chains.{In}
-use Rattle.store_rules.specs.Graph.{indexes_of, names_of}
+use Rattle.store_rules.specs.Graph.{graph_in, indexes_of, names_of}
 use Rattle.store_rules.specs.Indexes.{AreIndexed, Entries, Entry, has_hash, indexed_key, indexed_label, node_value, row_value, value_in, wanted_in}
 use Rattle.store_rules.specs.Properties.{property_records}
 use Rattle.store_rules.specs.RuleList.{IsSameFile}
-use Rattle.store_rules.specs.Rules.{IsWellFormed}
+use Rattle.store_rules.specs.Rules.{IsWellFormed, IsWhole}
 use Rattle.store_rules.specs.Views.{Records, degree, high, key_in, kind_at, kind_in, node_at, node_in, rec_at, text_of}
 use Rattle.store_rules.proofs.IndexFrames.{indexed_same}
 use Rattle.store_rules.proofs.IndexKept.{changed_index, properties_index}
@@ -38,7 +38,6 @@ use Rattle.node_store.specs.Loading as nodes
 use Rattle.node_store.specs.declared.node_row.NodeRow.{NodeRow}
 use Rattle.node_store.proofs.Rows as node_rows
 use Rattle.prop_index.specs.Listing.{pair_of}
-use Rattle.prop_index.specs.Reading.{KeepsStore}
 use Rattle.prop_store.specs.Alone.{DropsAllAlone}
 use Rattle.prop_store.specs.Changing.{DropsAll, HasElement}
 use Rattle.prop_store.specs.Owner.{IsOwner}
@@ -49,7 +48,7 @@ use Rattle.change_parts.specs.Change.{MakesChange}
 use Rattle.node_changes.specs.Entries.{held_of, held_weight, is_pair, without_held, without_node}
 use Rattle.node_changes.specs.NodeDeleting.{IsUnused, KeepsOtherKinds}
 use Rattle.change_parts.specs.Owners.{owner_of}
-use Rattle.change_parts.specs.Store.{IsMidway, IsStore, graph_in}
+use Rattle.change_parts.specs.Store.{IsMidway, IsStore}
 use Rattle.node_changes.specs.declared.entries.IndexedValue.{IndexedValue}
 use Rattle.node_changes.proofs.Deleting.{node_deleted, node_gone, node_kinds, node_left}
 use Rattle.change_parts.proofs.GraphPairs.{apart, has_pair, in_any, is_among}
@@ -173,7 +172,7 @@ module _ (n u t : State) (names : List (List ℕ)) (id : ℕ) (store : IsStore n
         each : (e : Entry) → wanted_in t.records e ≡ without_node (wanted_in n.records) id e
         each e = ap (has_hash e.hash) (value_gone e.label e.key e.node) ∙ by (nat_eq e.node id) e.hash (node_value n.records e.label e.key e.node)
 
-    module _ (v : State) (beside : KeepsBesideIndex t.records v.records) (graph : indexes_of v.records ≡ indexes_of t.records) (keeps : KeepsStore v)
+    module _ (v : State) (beside : KeepsBesideIndex t.records v.records) (graph : indexes_of v.records ≡ indexes_of t.records) (keeps : IsWhole v)
         (held : List IndexedValue)
         (is : held ≡ held_of n.records (label_at n.records id) id (map (pair_of n.records) store.store.indexes.definitions))
         (left : AreIndexed v.records (without_held (wanted_in n.records) held)) where

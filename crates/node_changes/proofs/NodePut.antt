@@ -23,7 +23,7 @@ use Rattle.id_freelist.proofs.Making.{is_made}
 use Rattle.node_store.specs.NodeRecord.{node_key, node_record}
 use Rattle.node_store.proofs.NodeRecords.{IsNewNode-node_record}
 use Rattle.node_changes.specs.NodeAdding.{PutsNode, new_row}
-use Rattle.change_parts.specs.Store.{IsMidway, graph_in}
+use Rattle.change_parts.specs.Store.{IsMidway}
 use Rattle.store_rules.proofs.IndexKept.{changed_index, made_indexed}
 use Rattle.store_rules.specs.Indexes.{has_hash, listed_from, row_value, value_in, wanted_in}
 use Rattle.store_rules.specs.Properties.{PropertyRecords, followed, property_records}
@@ -31,6 +31,7 @@ use Rattle.node_changes.specs.Entries.{LacksEntries}
 use Rattle.store_rules.proofs.Shapes.{room_small}
 use Rattle.change_parts.proofs.KeptIndexes.{node_graph_indexes}
 use Rattle.change_parts.proofs.NameNumbers.{number_in}
+use Rattle.store_rules.specs.Graph.{graph_in}
 
 module _ (s m t : State) (names : List (List ℕ)) (id number : ℕ) (label : List ℕ) (store : IsMidway s names) (at : slice_get names number ≡ Some label)
     (taken : (free : List ℕ) → IsFreeList s.records format.nodes_file free → HasTaken s.records m.records format.nodes_file id free)

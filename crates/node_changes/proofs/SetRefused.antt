@@ -24,7 +24,7 @@ use Rattle.change_parts.specs.Change.{IsRefusal}
 use Rattle.node_changes.specs.Entries.{IsIndexedValue, LacksValue, is_listed}
 use Rattle.change_parts.specs.Owners.{owner_of}
 use Rattle.change_parts.specs.Rooms.{LacksRoom}
-use Rattle.change_parts.specs.Store.{IsMidway, IsStore, KeepsElements, graph_in}
+use Rattle.change_parts.specs.Store.{IsMidway, IsStore, KeepsElements}
 use Rattle.change_parts.specs.declared.change_fault.ChangeFault.{ChangeFault}
 use Rattle.node_changes.specs.declared.entries.IndexedValue.{IndexedValue}
 use Rattle.change_parts.proofs.GraphPairs.{is_among, text}
@@ -33,6 +33,7 @@ use Rattle.node_changes.proofs.KeyCounts.{records_more}
 use Rattle.node_changes.proofs.LiveIndexes.{live_indexes}
 use Rattle.change_parts.proofs.PairsPut.{label_at}
 use Rattle.node_changes.proofs.Setting.{entry_refused, number_low, number_text}
+use Rattle.store_rules.specs.Graph.{graph_in}
 
 pub set_entry_refused : (s : State) (old : List (List ℕ)) (target : Target) (key : List ℕ) (value : Value) (store : IsMidway s old)
     (there : has_element (graph_in s) target ≡ true)

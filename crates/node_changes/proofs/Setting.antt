@@ -29,7 +29,7 @@ use Rattle.prop_store.specs.declared.set_fault.SetFault.TheVariants as sets
 use Rattle.rec_bytes.specs.declared.shape.Shape.{Shape}
 use Rattle.rec_bytes.specs.Format as format
 use Rattle.rec_bytes.specs.Space.{SameButReads, State}
-use Rattle.store_rules.specs.Graph.{names_of}
+use Rattle.store_rules.specs.Graph.{graph_in, names_of}
 use Rattle.store_rules.specs.Properties.{AreProperties, Property, map_of, property_records}
 use Rattle.store_rules.specs.PropertyChange.{property_from}
 use Rattle.store_rules.specs.Views.{high, kind_at, rec_at}
@@ -46,7 +46,7 @@ use Rattle.change_parts.specs.Change.{IsRefusal, MakesChange}
 use Rattle.change_parts.specs.ChangeFault.{of_intern, of_set}
 use Rattle.change_parts.specs.Owners.{IsMissing, owner_of}
 use Rattle.change_parts.specs.Preparing.{line_reasons}
-use Rattle.change_parts.specs.Store.{IsMidway, IsStore, KeepsElements, graph_in}
+use Rattle.change_parts.specs.Store.{IsMidway, IsStore, KeepsElements}
 use Rattle.change_parts.specs.declared.change_fault.ChangeFault.{ChangeFault}
 use Rattle.change_parts.specs.declared.change_fault.ChangeFault.TheVariants.{NoNode, NoEdge, HasRelationships, IndexThere, TooManyIndexes, IndexTooLarge, Full}
 use Rattle.change_parts.specs.declared.change_fault.ChangeFault.TheVariants.{NamesFull, PropsFull, Memory, Disk, Damaged}

@@ -11,7 +11,6 @@ use Rattle.plain_graph.specs.declared.pairs.Pair.{Pair}
 use Rattle.plain_graph.specs.declared.value.Value.{Value}
 use Rattle.prop_index.specs.Entering.{entry_of}
 use Rattle.prop_index.specs.Listing.{pair_of}
-use Rattle.prop_index.specs.Reading.{KeepsStore}
 use Rattle.prop_index.specs.declared.listing.IndexPair.{IndexPair}
 use Rattle.prop_store.specs.Finding.{value_of}
 use Rattle.prop_store.specs.Reading.{properties_met}
@@ -38,6 +37,7 @@ use Rattle.change_parts.specs.declared.change_fault.ChangeFault.TheVariants.{Ind
 use Rattle.change_parts.specs.declared.change_fault.ChangeFault.TheVariants.{NamesFull, PropsFull}
 use Rattle.change_parts.specs.declared.change_fault.ChangeFault.TheVariants.{Memory, Disk, Damaged}
 use Rattle.node_changes.specs.declared.entries.IndexedValue.{IndexedValue}
+use Rattle.store_rules.specs.Rules.{IsWhole}
 
 -- ---- the pairs that have an index
 
@@ -49,7 +49,7 @@ is_listed pairs label key = list_any (is_pair label key) pairs
 
 -- The indexes of the store are right, and these are their pairs.
 pub record ArePairsOf (s : State) (wanted : Entries) (pairs : List IndexPair) : Type 0 where
-  pub kept : KeepsStore s
+  pub kept : IsWhole s
   pub indexed : AreIndexed s.records wanted
   pub are : pairs ≡ map (pair_of s.records) indexed.definitions
 

@@ -10,7 +10,7 @@ use Rattle.prop_index.specs.declared.listing.IndexPair.{IndexPair}
 use Rattle.rec_bytes.specs.Space.{State}
 use Rattle.store_rules.specs.Views.{Records}
 use Rattle.node_changes.specs.Entries.{is_listed}
-use Rattle.change_parts.specs.Store.{graph_in}
+use Rattle.store_rules.specs.Graph.{graph_in}
 
 -- the reasons that come before those of the names
 abbrev pub pair_reasons : List Reason

@@ -10,7 +10,8 @@ use Rattle.store_rules.specs.RuleList.{IsSameFile}
 use Rattle.store_rules.specs.Views.{Records, kind_at, rec_at}
 use Rattle.node_store.specs.declared.node_row.NodeRow.{NodeRow}
 use Rattle.node_changes.specs.Entries.{LacksEntries}
-use Rattle.change_parts.specs.Store.{IsMidway, KeepsIndexes, graph_in}
+use Rattle.change_parts.specs.Store.{IsMidway, KeepsIndexes}
+use Rattle.store_rules.specs.Graph.{graph_in}
 
 -- as many nodes as the store has room for
 abbrev pub IsFullOfNodes : State → Type 0

@@ -7,7 +7,6 @@ ghost use Rattle.plain_graph.specs.Forms.{IsKept};
 ghost use Rattle.plain_graph.specs.declared.command.Target.TheVariants as targets;
 ghost use Rattle.prop_index.specs.Listing.{pair_of};
 ghost use Rattle.prop_index.specs.Naming.{IsDefinitionOrList};
-ghost use Rattle.prop_index.specs.Reading.{KeepsStore};
 ghost use Rattle.prop_index.specs.Sparing.{SparesDefinitions};
 ghost use Rattle.prop_index.specs.Touching.{TouchesIndex};
 ghost use Rattle.prop_store.specs.Owner.{IsInUse};
@@ -35,6 +34,7 @@ ghost use Rattle.node_changes.specs.Entries.{with_new, without_held, without_old
 ghost use Rattle.change_parts.specs.GivenValues.{with_assigned};
 ghost use Rattle.change_parts.specs.Owners.{owner_of};
 ghost use Rattle.change_parts.specs.Rooms.{HasRoom};
+ghost use Rattle.store_rules.specs.Rules.{IsWhole};
 
 use change_parts::{Assignment, ChangeFault, node_owner};
 use plain_graph::{Pair, Target, Value};
@@ -62,11 +62,12 @@ pub(crate) fn listed_pairs<R: Reads>(
     space: &mut R,
 ) -> Result<Vec<IndexPair>, ChangeFault>
     ensures listed { R.tells → (wanted : Entries)
-        → (ix : AreIndexed (R.state space.old).records wanted) → KeepsStore (R.state space.old)
+        → (ix : AreIndexed (R.state space.old).records wanted) → IsWhole (R.state space.old)
         → IfOk result (λ pairs. pairs.items
         ≡ map (pair_of (R.state space.old).records) ix.definitions) }
-    ensures sound { R.tells → (wanted : Entries) → AreIndexed (R.state space.old).records wanted
-        → KeepsStore (R.state space.old) → IfErr result IsOutside }
+    ensures not_damaged { R.tells → (wanted : Entries)
+        → AreIndexed (R.state space.old).records wanted
+        → IsWhole (R.state space.old) → IfErr result IsOutside }
     ensures failure { IfErr result IsFailure }
     ensures damaged { R.tells → IfErr result (BlamesBroken (R.state space.old)) }
     ensures names { R.tells → IfErr result (IfBlames IsOfIndex) }
@@ -133,8 +134,8 @@ pub(crate) fn enter_values<S: Space>(
     ensures keeps { S.tells → (wanted : Entries)
         → ArePairsOf (S.state space.old) wanted listed.now
         → node < high (S.state space.old).records nodes_file → LacksEntries wanted node
-        → AreKeysOnce assigned.now → OnOk result (KeepsStore (S.state space.new)) }
-    ensures sound { S.tells → (wanted : Entries)
+        → AreKeysOnce assigned.now → OnOk result (IsWhole (S.state space.new)) }
+    ensures not_damaged { S.tells → (wanted : Entries)
         → ArePairsOf (S.state space.old) wanted listed.now
         → node < high (S.state space.old).records nodes_file → LacksEntries wanted node
         → AreKeysOnce assigned.now → HasRoom (S.state space.old) index_file
@@ -181,7 +182,7 @@ pub(crate) fn held_values<R: Reads>(
         → label ≡ field 4 (rec_at (R.state space.old).records nodes_file node) node_label
         → IfOk result (λ held. held.items ≡ held_of (R.state space.old).records label node
         (map (pair_of (R.state space.old).records) ix.indexes.definitions)) }
-    ensures sound { R.tells → IsIndexed (R.state space.old).records (R.state space.old).shape
+    ensures not_damaged { R.tells → IsIndexed (R.state space.old).records (R.state space.old).shape
         → IsInUse (R.state space.old).records (owner_of (targets.Node node))
         → IfErr result IsOutside }
     ensures failure { IfErr result IsFailure }
@@ -218,7 +219,7 @@ fn held_value<R: Reads>(
         → label ≡ field 4 (rec_at (R.state space.old).records nodes_file node) node_label
         → IfOk result (λ held. held
         ≡ held_at (R.state space.old).records label node pair) }
-    ensures sound { R.tells → KeepsStore (R.state space.old)
+    ensures not_damaged { R.tells → IsWhole (R.state space.old)
         → IsInUse (R.state space.old).records (owner_of (targets.Node node))
         → IfErr result IsOutside }
     ensures failure { IfErr result IsFailure }
@@ -264,15 +265,16 @@ pub(crate) fn leave_values<S: Space>(
 ) -> Result<u32, ChangeFault>
     requires { length held.now ≤ 16 }
     ensures left { S.tells → (wanted : Entries) → AreIndexed (S.state space.old).records wanted
-        → KeepsStore (S.state space.old) → OnOk result (AreIndexed (S.state space.new).records
+        → IsWhole (S.state space.old) → OnOk result (AreIndexed (S.state space.new).records
         (without_held wanted held.now)) }
     ensures keeps { S.tells → (wanted : Entries) → AreIndexed (S.state space.old).records wanted
-        → KeepsStore (S.state space.old) → OnOk result (KeepsStore (S.state space.new)) }
+        → IsWhole (S.state space.old) → OnOk result (IsWhole (S.state space.new)) }
     ensures graph { S.tells → (wanted : Entries) → AreIndexed (S.state space.old).records wanted
-        → KeepsStore (S.state space.old) → OnOk result
+        → IsWhole (S.state space.old) → OnOk result
         (indexes_of (S.state space.new).records ≡ indexes_of (S.state space.old).records) }
-    ensures sound { S.tells → (wanted : Entries) → AreIndexed (S.state space.old).records wanted
-        → KeepsStore (S.state space.old) → IfErr result IsOutside }
+    ensures not_damaged { S.tells → (wanted : Entries)
+        → AreIndexed (S.state space.old).records wanted
+        → IsWhole (S.state space.old) → IfErr result IsOutside }
     ensures failure { IfErr result IsFailure }
     ensures blames { S.tells → IfErr result (BlamesEntry (S.state space.new)) }
     ensures found { S.tells
@@ -304,12 +306,13 @@ pub(crate) fn indexed_value<R: Reads>(
     key: u32,
 ) -> Result<Option<IndexedValue>, ChangeFault>
     ensures held { R.tells → (wanted : Entries)
-        → (ix : AreIndexed (R.state space.old).records wanted) → KeepsStore (R.state space.old)
+        → (ix : AreIndexed (R.state space.old).records wanted) → IsWhole (R.state space.old)
         → IsInUse (R.state space.old).records (owner_of target)
         → IfOk result (IsIndexedValue (R.state space.old).records
         (map (pair_of (R.state space.old).records) ix.definitions) target key) }
-    ensures sound { R.tells → (wanted : Entries) → AreIndexed (R.state space.old).records wanted
-        → KeepsStore (R.state space.old) → IsInUse (R.state space.old).records (owner_of target)
+    ensures not_damaged { R.tells → (wanted : Entries)
+        → AreIndexed (R.state space.old).records wanted
+        → IsWhole (R.state space.old) → IsInUse (R.state space.old).records (owner_of target)
         → IfErr result IsOutside }
     ensures failure { IfErr result IsFailure }
     ensures damaged { R.tells → IsInUse (R.state space.old).records (owner_of target)
@@ -356,13 +359,13 @@ pub(crate) fn change_entry<S: Space>(
     new: &Value,
 ) -> Result<u32, ChangeFault>
     ensures changed { S.tells → (wanted : Entries) → AreIndexed (S.state space.old).records wanted
-        → KeepsStore (S.state space.old) → WantsHeld wanted held.now
+        → IsWhole (S.state space.old) → WantsHeld wanted held.now
         → OnOk result (AreIndexed (S.state space.new).records
         (with_new (without_old wanted held.now) held.now new.now)) }
     ensures keeps { S.tells → (wanted : Entries) → AreIndexed (S.state space.old).records wanted
-        → KeepsStore (S.state space.old)
+        → IsWhole (S.state space.old)
         → IfSome held.now (λ h. h.node < high (S.state space.old).records nodes_file)
-        → OnOk result (KeepsStore (S.state space.new)) }
+        → OnOk result (IsWhole (S.state space.new)) }
     ensures weight { IfOk result (λ weight. weight ≡ old_weight held.now + new_weight held.now) }
     ensures few { IfOk result (λ weight. weight ≤ 6) }
     ensures touches { IfOk result (λ weight. TouchesIndex S.tells weight
@@ -370,13 +373,13 @@ pub(crate) fn change_entry<S: Space>(
     ensures at_most { TouchesIndex S.tells 6 (S.state space.old) (S.state space.new) }
     ensures full { S.tells → IfErr result (IsEntryFault (S.state space.new)) }
     ensures refused { S.tells → (wanted : Entries) → AreIndexed (S.state space.old).records wanted
-        → KeepsStore (S.state space.old) → WantsHeld wanted held.now
+        → IsWhole (S.state space.old) → WantsHeld wanted held.now
         → IfSome held.now (λ h. h.node < high (S.state space.old).records nodes_file)
         → IfErr result (IsEntryRefusal (S.state space.old) held.now) }
     ensures some { IfErr result (λ _. held.now ≢ None) }
     ensures may_come_late { S.tells → IfErr result MayComeLate }
     ensures graph { S.tells → (wanted : Entries) → AreIndexed (S.state space.old).records wanted
-        → KeepsStore (S.state space.old) → OnOk result
+        → IsWhole (S.state space.old) → OnOk result
         (indexes_of (S.state space.new).records ≡ indexes_of (S.state space.old).records) }
     ensures idle { held.now ≡ None → S.state space.new ≡ S.state space.old }
     ensures blames { S.tells → IfErr result (BlamesEntry (S.state space.new)) }
@@ -398,12 +401,13 @@ pub(crate) fn leave_entry<S: Space>(
     held: &Option<IndexedValue>,
 ) -> Result<u32, ChangeFault>
     ensures left { S.tells → (wanted : Entries) → AreIndexed (S.state space.old).records wanted
-        → KeepsStore (S.state space.old) → OnOk result (AreIndexed (S.state space.new).records
+        → IsWhole (S.state space.old) → OnOk result (AreIndexed (S.state space.new).records
         (without_old wanted held.now)) }
     ensures keeps { S.tells → (wanted : Entries) → AreIndexed (S.state space.old).records wanted
-        → KeepsStore (S.state space.old) → OnOk result (KeepsStore (S.state space.new)) }
-    ensures sound { S.tells → (wanted : Entries) → AreIndexed (S.state space.old).records wanted
-        → KeepsStore (S.state space.old) → IfErr result IsOutside }
+        → IsWhole (S.state space.old) → OnOk result (IsWhole (S.state space.new)) }
+    ensures not_damaged { S.tells → (wanted : Entries)
+        → AreIndexed (S.state space.old).records wanted
+        → IsWhole (S.state space.old) → IfErr result IsOutside }
     ensures failure { IfErr result IsFailure }
     ensures weight { IfOk result (λ weight. weight ≡ old_weight held.now) }
     ensures few { IfOk result (λ weight. weight ≤ 3) }
@@ -411,14 +415,14 @@ pub(crate) fn leave_entry<S: Space>(
         (S.state space.old) (S.state space.new)) }
     ensures at_most { TouchesIndex S.tells 3 (S.state space.old) (S.state space.new) }
     ensures graph { S.tells → (wanted : Entries) → AreIndexed (S.state space.old).records wanted
-        → KeepsStore (S.state space.old) → OnOk result
+        → IsWhole (S.state space.old) → OnOk result
         (indexes_of (S.state space.new).records ≡ indexes_of (S.state space.old).records) }
     ensures unlisted { S.tells → (wanted : Entries)
         → (ix : AreIndexed (S.state space.old).records wanted)
         → held_is_listed (map (pair_of (S.state space.old).records) ix.definitions) held.now
         ≡ false → OnOk result (SameButReads (S.state space.old) (S.state space.new)) }
     ensures gone { S.tells → (wanted : Entries)
-        → (ix : AreIndexed (S.state space.old).records wanted) → KeepsStore (S.state space.old)
+        → (ix : AreIndexed (S.state space.old).records wanted) → IsWhole (S.state space.old)
         → WantsHeld wanted held.now
         → held_is_listed (map (pair_of (S.state space.old).records) ix.definitions) held.now
         ≡ true
@@ -446,12 +450,13 @@ pub(crate) fn leave_entry<S: Space>(
 /// Takes the entry of a value that was held out of its index, and answers what it weighs.
 fn leave_held<S: Space>(space: &mut S, held: &IndexedValue) -> Result<u32, ChangeFault>
     ensures left { S.tells → (wanted : Entries) → AreIndexed (S.state space.old).records wanted
-        → KeepsStore (S.state space.old) → OnOk result (AreIndexed (S.state space.new).records
+        → IsWhole (S.state space.old) → OnOk result (AreIndexed (S.state space.new).records
         (without_old wanted (Some held.now))) }
     ensures keeps { S.tells → (wanted : Entries) → AreIndexed (S.state space.old).records wanted
-        → KeepsStore (S.state space.old) → OnOk result (KeepsStore (S.state space.new)) }
-    ensures sound { S.tells → (wanted : Entries) → AreIndexed (S.state space.old).records wanted
-        → KeepsStore (S.state space.old) → IfErr result IsOutside }
+        → IsWhole (S.state space.old) → OnOk result (IsWhole (S.state space.new)) }
+    ensures not_damaged { S.tells → (wanted : Entries)
+        → AreIndexed (S.state space.old).records wanted
+        → IsWhole (S.state space.old) → IfErr result IsOutside }
     ensures failure { IfErr result IsFailure }
     ensures weight { IfOk result (λ weight. weight ≡ value_weight held.now.value) }
     ensures few { IfOk result (λ weight. weight ≤ 3) }
@@ -459,7 +464,7 @@ fn leave_held<S: Space>(space: &mut S, held: &IndexedValue) -> Result<u32, Chang
         (S.state space.old) (S.state space.new)) }
     ensures at_most { TouchesIndex S.tells 3 (S.state space.old) (S.state space.new) }
     ensures graph { S.tells → (wanted : Entries) → AreIndexed (S.state space.old).records wanted
-        → KeepsStore (S.state space.old) → OnOk result
+        → IsWhole (S.state space.old) → OnOk result
         (indexes_of (S.state space.new).records ≡ indexes_of (S.state space.old).records) }
     ensures unlisted { S.tells → (wanted : Entries)
         → (ix : AreIndexed (S.state space.old).records wanted)
@@ -467,7 +472,7 @@ fn leave_held<S: Space>(space: &mut S, held: &IndexedValue) -> Result<u32, Chang
         held.now.label held.now.key ≡ false
         → OnOk result (SameButReads (S.state space.old) (S.state space.new)) }
     ensures gone { S.tells → (wanted : Entries)
-        → (ix : AreIndexed (S.state space.old).records wanted) → KeepsStore (S.state space.old)
+        → (ix : AreIndexed (S.state space.old).records wanted) → IsWhole (S.state space.old)
         → WantsHeld wanted (Some held.now)
         → is_listed (map (pair_of (S.state space.old).records) ix.definitions)
         held.now.label held.now.key ≡ true
@@ -500,20 +505,21 @@ fn enter_entry<S: Space>(
     new: &Value,
 ) -> Result<u32, ChangeFault>
     ensures entered { S.tells → (wanted : Entries) → AreIndexed (S.state space.old).records wanted
-        → KeepsStore (S.state space.old) → LacksHeld wanted held.now new.now
+        → IsWhole (S.state space.old) → LacksHeld wanted held.now new.now
         → OnOk result (AreIndexed (S.state space.new).records
         (with_new wanted held.now new.now)) }
     ensures keeps { S.tells → (wanted : Entries) → AreIndexed (S.state space.old).records wanted
-        → KeepsStore (S.state space.old)
+        → IsWhole (S.state space.old)
         → IfSome held.now (λ h. h.node < high (S.state space.old).records nodes_file)
-        → OnOk result (KeepsStore (S.state space.new)) }
+        → OnOk result (IsWhole (S.state space.new)) }
     ensures weight { IfOk result (λ weight. weight ≡ new_weight held.now) }
     ensures few { IfOk result (λ weight. weight ≤ 3) }
     ensures touches { IfOk result (λ weight. TouchesIndex S.tells weight
         (S.state space.old) (S.state space.new)) }
     ensures at_most { TouchesIndex S.tells 3 (S.state space.old) (S.state space.new) }
-    ensures sound { S.tells → (wanted : Entries) → AreIndexed (S.state space.old).records wanted
-        → KeepsStore (S.state space.old) → IfErr result (IsEntryUndamaged (S.state space.old)) }
+    ensures not_damaged { S.tells → (wanted : Entries)
+        → AreIndexed (S.state space.old).records wanted
+        → IsWhole (S.state space.old) → IfErr result (IsEntryUndamaged (S.state space.old)) }
     ensures full { S.tells → IfErr result (IsEntryFault (S.state space.new)) }
     ensures unlisted { S.tells → (wanted : Entries)
         → (ix : AreIndexed (S.state space.old).records wanted)
@@ -521,7 +527,7 @@ fn enter_entry<S: Space>(
         ≡ false → IfErr result IsFailure }
     ensures some { IfErr result (λ _. held.now ≢ None) }
     ensures graph { S.tells → (wanted : Entries) → AreIndexed (S.state space.old).records wanted
-        → KeepsStore (S.state space.old) → OnOk result
+        → IsWhole (S.state space.old) → OnOk result
         (indexes_of (S.state space.new).records ≡ indexes_of (S.state space.old).records) }
     ensures idle { held.now ≡ None → S.state space.new ≡ S.state space.old }
     ensures blames { S.tells → IfErr result (BlamesEntry (S.state space.new)) }

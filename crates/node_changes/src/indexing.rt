@@ -22,7 +22,8 @@ ghost use Rattle.node_changes.specs.Indexing.{
   MayIndex,
   pair_reasons,
 };
-ghost use Rattle.change_parts.specs.Store.{IsStore, graph_in};
+ghost use Rattle.change_parts.specs.Store.{IsStore};
+ghost use Rattle.store_rules.specs.Graph.{graph_in};
 
 use crate::entries::has_pair;
 use change_parts::ChangeFault;

@@ -22,7 +22,8 @@ ghost use Rattle.change_parts.specs.Damage.{BlamesEntries, BlamesBroken, IfBlame
 ghost use Rattle.node_changes.specs.Entries.{WeighsNode};
 ghost use Rattle.node_changes.specs.NodeAdding.{IsFullOfNodes, IsSparse, PutsNode, new_row};
 ghost use Rattle.change_parts.specs.Rooms.{HasRoom};
-ghost use Rattle.change_parts.specs.Store.{IsMidway, IsStore, graph_in};
+ghost use Rattle.change_parts.specs.Store.{IsMidway, IsStore};
+ghost use Rattle.store_rules.specs.Graph.{graph_in};
 
 use crate::entries::{enter_values, entry_count, listed_pairs};
 use change_parts::{Added, ChangeFault, node_owner, prepare, put_properties, test_room};
@@ -113,7 +114,7 @@ fn put_node<S: Space>(space: &mut S, label: u32) -> Result<u32, ChangeFault>
         → IsMidway (S.state space.old) names → slice_get names label ≡ Some text
         → PutsNode (S.state space.old) (S.state space.new) names label text id) }
     ensures is { IfOk result (λ id. id ≡ taken_id (meta_of (S.state space.old) nodes_file)) }
-    ensures sound { S.tells → (names : List (List ℕ)) → IsMidway (S.state space.old) names
+    ensures not_damaged { S.tells → (names : List (List ℕ)) → IsMidway (S.state space.old) names
         → HasRoom (S.state space.old) nodes_file 1 → IfErr result IsOutside }
     ensures failure { S.tells → HasRoom (S.state space.old) nodes_file 1
         → IfErr result IsFailure }

@@ -11,7 +11,8 @@ ghost use Rattle.change_parts.specs.Damage.{BlamesBroken};
 ghost use Rattle.change_parts.specs.Degrees.{HasDegree};
 ghost use Rattle.node_changes.specs.NodeDeleting.{IsDeleteCause, IsUnused, KeepsButNode};
 ghost use Rattle.node_changes.specs.NodeDeleting.{KeepsOtherKinds};
-ghost use Rattle.change_parts.specs.Store.{IsStore, graph_in};
+ghost use Rattle.change_parts.specs.Store.{IsStore};
+ghost use Rattle.store_rules.specs.Graph.{graph_in};
 
 use crate::entries::{held_values, leave_values};
 use change_parts::{ChangeFault, node_owner};

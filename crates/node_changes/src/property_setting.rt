@@ -12,8 +12,9 @@ ghost use Rattle.change_parts.specs.Causes.{IsCaused, IsCausedAfter};
 ghost use Rattle.change_parts.specs.Change.{IsRefusal, IsSetCount, MakesChange};
 ghost use Rattle.change_parts.specs.ChangeFault.{HasChangeCause, LeavesSpace};
 ghost use Rattle.change_parts.specs.Damage.{BlamesGiven, BlamesEntries};
-ghost use Rattle.change_parts.specs.Store.{IsStore, graph_in};
+ghost use Rattle.change_parts.specs.Store.{IsStore};
 ghost use Rattle.node_changes.specs.PropertySetting.{GivesKey, LosesKey};
+ghost use Rattle.store_rules.specs.Graph.{graph_in};
 
 use crate::entries::{change_entry, indexed_value, leave_entry};
 use change_parts::{ChangeFault, block_count, find_owner};

@@ -10,7 +10,6 @@ use Rattle.node_store.specs.Loading.{IsNodeFault}
 use Rattle.plain_graph.specs.Graph.{has_node}
 use Rattle.plain_graph.specs.declared.direction.Direction.{Direction}
 use Rattle.expand.specs.ExpandFault as expand
-use Rattle.expand.specs.Expanding.{IsStore, graph_in}
 use Rattle.expand.proofs.LoadedRows.{row_fault}
 use Rattle.plain_graph.specs.Adjacency.{Adjacency}
 use Rattle.plain_graph.specs.Reached.{IsAnswer}
@@ -22,6 +21,8 @@ use Rattle.path_find.specs.Search.{HasSearched}
 use Rattle.path_find.specs.Tree.{Rows}
 use Rattle.plain_graph.specs.declared.node_level.NodeLevel.{NodeLevel}
 use Rattle.path_find.proofs.NeighbourLaws.{neighbour_there, neighbours_are}
+use Rattle.store_rules.specs.Rules.{IsWhole}
+use Rattle.store_rules.specs.Graph.{graph_in}
 
 -- what a load of a node or a search says is damaged breaks a rule
 pub node_fault : (s : State) (from to id : ℕ) (fault : RowFault) → IsNodeFault s id fault → IsPathFault s from to (expand.of_row fault)
@@ -44,36 +45,36 @@ search_tells T from to there to_there Memory both = both
 search_tells T from to there to_there Disk both = tt
 search_tells T from to there to_there (Damaged damage) both = tt
 
-pub ends_there : (s t : State) → SameButReads s t → IsStore s → (from to : ℕ) (first second : Bool) → first ≡ has_node (graph_in s) from → first ≡ true
-    → (IsStore t → second ≡ has_node (graph_in t) to) → second ≡ true
+pub ends_there : (s t : State) → SameButReads s t → IsWhole s → (from to : ℕ) (first second : Bool) → first ≡ has_node (graph_in s) from → first ≡ true
+    → (IsWhole t → second ≡ has_node (graph_in t) to) → second ≡ true
     → (has_node (graph_in s) from ≡ true) × (has_node (graph_in s) to ≡ true)
 ends_there s t same store from to first second is held told also = (
   sym is ∙ held,
-  subst (λ (u : State). has_node (graph_in u) to ≡ true) same (sym (told (subst IsStore (sym same) store)) ∙ also),
+  subst (λ (u : State). has_node (graph_in u) to ≡ true) same (sym (told (subst IsWhole (sym same) store)) ∙ also),
 )
 
-module _ (s : State) (store : IsStore s) (direction : Direction) (labels : List ℕ) (types : List (List ℕ)) (stand : StandFor s.records labels types) where
+module _ (s : State) (store : IsWhole s) (direction : Direction) (labels : List ℕ) (types : List (List ℕ)) (stand : StandFor s.records labels types) where
   -- the neighbours by the graph are nodes
   pub closed_graph : (node end : ℕ) → Contains ((adjacency_of s direction types).next node) end → has_node (graph_in s) end ≡ true
   closed_graph = subst (λ (near : Adjacency). (node end : ℕ) → Contains (near.next node) end → has_node (graph_in s) end ≡ true)
       (neighbours_are s store direction labels types stand) (neighbour_there s store direction labels)
 
   pub answered : (t : State) → SameButReads s t → (from to : ℕ) → has_node (graph_in s) from ≡ true → (rows : Rows) (walk : List ℕ) (levels : List NodeLevel)
-      → (IsStore t → has_node (graph_in t) from ≡ true → HasSearched (neighbours_at t direction labels) rows from to)
+      → (IsWhole t → has_node (graph_in t) from ≡ true → HasSearched (neighbours_at t direction labels) rows from to)
       → ((near : Adjacency) (first : ℕ) → HasSearched near rows first to → IsAnswer near first to walk levels)
       → IsAnswer (adjacency_of s direction types) from to walk levels
   answered t same from to there rows walk levels searched answer =
-      let has = searched (subst IsStore (sym same) store) (subst (λ (u : State). has_node (graph_in u) from ≡ true) (sym same) there) in
+      let has = searched (subst IsWhole (sym same) store) (subst (λ (u : State). has_node (graph_in u) from ≡ true) (sym same) there) in
       let at_s = subst (λ (u : State). HasSearched (neighbours_at u direction labels) rows from to) same has in
       subst (λ (near : Adjacency). IsAnswer near from to walk levels) (neighbours_are s store direction labels types stand)
       (answer (neighbours_at s direction labels) from at_s)
 
   -- so with the walk alone
   pub walked : (t : State) → SameButReads s t → (from to : ℕ) → has_node (graph_in s) from ≡ true → has_node (graph_in s) to ≡ true → (walk : List ℕ)
-      → (IsStore t → has_node (graph_in t) from ≡ true → has_node (graph_in t) to ≡ true → IsLeastOrNone (neighbours_at t direction labels) from to walk)
+      → (IsWhole t → has_node (graph_in t) from ≡ true → has_node (graph_in t) to ≡ true → IsLeastOrNone (neighbours_at t direction labels) from to walk)
       → IsLeastOrNone (adjacency_of s direction types) from to walk
   walked t same from to there to_there walk found =
-      let at_t = found (subst IsStore (sym same) store) (subst (λ (u : State). has_node (graph_in u) from ≡ true) (sym same) there)
+      let at_t = found (subst IsWhole (sym same) store) (subst (λ (u : State). has_node (graph_in u) from ≡ true) (sym same) there)
       (subst (λ (u : State). has_node (graph_in u) to ≡ true) (sym same) to_there) in
       let at_s = subst (λ (u : State). IsLeastOrNone (neighbours_at u direction labels) from to walk) same at_t in
       subst (λ (near : Adjacency). IsLeastOrNone near from to walk) (neighbours_are s store direction labels types stand) at_s

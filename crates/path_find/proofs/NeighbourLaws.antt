@@ -14,7 +14,7 @@ use Rattle.store_rules.specs.Views.{Records, high, kind_at, rec_at, rel_in}
 use Rattle.store_rules.proofs.GraphRows.{node_there}
 use Rattle.store_rules.proofs.ViewLaws.{row_some, some_row}
 use Rattle.chain_edit.specs.Walking.{edge_at}
-use Rattle.expand.specs.Expanding.{AreRowsOf, IsStore, edge_row_at, graph_in, rows_of}
+use Rattle.expand.specs.Expanding.{AreRowsOf, edge_row_at, rows_of}
 use Rattle.expand.specs.Matching.{rows_at}
 use Rattle.store_rules.proofs.Members.{contains_collect, contains_filter, contains_image}
 use Rattle.expand.proofs.ModelEdges.{rows_at_are}
@@ -22,6 +22,8 @@ use Rattle.plain_graph.specs.Adjacency.{far_end}
 use Rattle.path_find.specs.Ends.{row_end}
 use Rattle.path_find.specs.Reads.{StandFor, adjacency_of, neighbours_at}
 use Rattle.path_find.specs.Tree.{AreNeighbours}
+use Rattle.store_rules.specs.Rules.{IsWhole}
+use Rattle.store_rules.specs.Graph.{graph_in}
 
 -- rows and their edges have the same ends
 ends-rows : (s : Records) (node : ℕ) (rows : List EdgeRow) (edges : List Edge) → AreRowsOf s rows edges → map (row_end node) rows ≡ map (far_end node) edges
@@ -38,7 +40,7 @@ in_both p q rows row has =
     (λ (second : Contains (filter q rows) row). (contains_filter q rows row second).0)
     (Contains-append_cases (filter p rows) (filter q rows) row has)
 
-module _ (s : State) (store : IsStore s) where
+module _ (s : State) (store : IsWhole s) where
   -- the neighbours by rows are the graph's
   pub neighbours_are : (direction : Direction) (labels : List ℕ) (types : List (List ℕ)) → StandFor s.records labels types
       → neighbours_at s direction labels ≡ adjacency_of s direction types

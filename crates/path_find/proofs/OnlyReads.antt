@@ -5,8 +5,8 @@ use Rattle.rec_bytes.specs.Space.{SameButReads, State, after_gets}
 use Rattle.rec_bytes.specs.declared.fault.Fault.{Fault}
 use Rattle.rec_bytes.specs.declared.space.Reads.{Ghosts}
 use Rattle.rec_bytes.proofs.Spaces.{records-after_gets}
-use Rattle.expand.specs.Expanding.{IsStore}
 use Rattle.path_find.specs.Damage.{BlamesBroken}
+use Rattle.store_rules.specs.Rules.{IsWhole}
 
 -- reads write nothing
 written-after_gets : (n : ℕ) (s : State) → (after_gets n s).written ≡ s.written
@@ -48,8 +48,8 @@ module _ {R : Type 0} (space : Ghosts R) where
     }
 
     -- the store is as it was
-    pub store-read : (a b : R) → IsRead space a b → IsStore (space.state a) → IsStore (space.state b)
-    store-read a b read store = subst IsStore (sym (same-read a b read)) store
+    pub store-read : (a b : R) → IsRead space a b → IsWhole (space.state a) → IsWhole (space.state b)
+    store-read a b read store = subst IsWhole (sym (same-read a b read)) store
 
     -- and so is what breaks a rule
     pub broken-read : (a b : R) → IsRead space a b → (fault : Fault) → BlamesBroken (space.state b) fault → BlamesBroken (space.state a) fault

@@ -7,9 +7,10 @@ use Rattle.plain_graph.specs.Graph.{has_node}
 use Rattle.plain_graph.specs.Meaning.{is_named}
 use Rattle.plain_graph.specs.declared.direction.Direction.{Direction}
 use Rattle.store_rules.specs.Views.{Records, high}
-use Rattle.expand.specs.Expanding.{graph_in, name_of, rows_of}
+use Rattle.expand.specs.Expanding.{name_of, rows_of}
 use Rattle.expand.specs.Matching.{is_wanted, rows_at}
 use Rattle.path_find.specs.Ends.{row_end}
+use Rattle.store_rules.specs.Graph.{graph_in}
 
 -- A name of the store is among the numbers exactly where its text is among the types, so all are
 -- meant where none is given. A number that is no name's stands for a type that is none.

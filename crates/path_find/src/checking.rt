@@ -5,7 +5,6 @@ ghost use Rattle.std.specs.Bool.{OnFalse, OnTrue};
 ghost use Rattle.plain_graph.specs.Levels.{IsCertified, IsShortestOrNone};
 ghost use Rattle.rec_bytes.specs.Fault.{HasFaultCause};
 ghost use Rattle.rec_bytes.specs.Frame.{IsRead};
-ghost use Rattle.expand.specs.Expanding.{IsStore};
 ghost use Rattle.path_find.specs.Checking.{
   AllSpread,
   AreDistinct,
@@ -18,6 +17,7 @@ ghost use Rattle.path_find.specs.Damage.{BlamesBroken};
 ghost use Rattle.path_find.specs.Reading.{node_of};
 ghost use Rattle.path_find.specs.Reads.{StandFor, adjacency_of};
 ghost use Rattle.path_find.specs.WalkSearch.{neighbours_for};
+ghost use Rattle.store_rules.specs.Rules.{IsWhole};
 
 use crate::known::{are_held, have_ends, places_of};
 use crate::neighbours::neighbours;
@@ -49,13 +49,13 @@ pub fn check_levels<R: Reads>(
     sought: &WalkSearch,
     answer: &Answer,
 ) -> Result<bool, Fault>
-    ensures decides { R.tells → IsStore (R.state reads.old) → (types : List (List ℕ))
+    ensures decides { R.tells → IsWhole (R.state reads.old) → (types : List (List ℕ))
         → StandFor (R.state reads.old).records sought.now.labels.now types
         → IfOk result (λ yes. IsTrue yes
         ↔ IsCertified (adjacency_of (R.state reads.old) sought.now.direction types)
         sought.now.from sought.now.to answer.now.walk answer.now.levels) }
     // so it is true only of a shortest walk, or where there is none
-    ensures proves { R.tells → IsStore (R.state reads.old) → (types : List (List ℕ))
+    ensures proves { R.tells → IsWhole (R.state reads.old) → (types : List (List ℕ))
         → StandFor (R.state reads.old).records sought.now.labels.now types
         → IfOk result (λ yes. IsTrue yes
         → IsShortestOrNone (adjacency_of (R.state reads.old) sought.now.direction types)
@@ -102,10 +102,10 @@ fn all_spread<R: Reads>(
 ) -> Result<bool, Fault>
     requires places { places.now ≡ map node_of claim.now.levels.now }
     requires distinct { AreDistinct claim.now.levels.now }
-    ensures yes { R.tells → IsStore (R.state reads.old) → IfOk result (λ yes. OnTrue yes
+    ensures yes { R.tells → IsWhole (R.state reads.old) → IfOk result (λ yes. OnTrue yes
         (AllSpread (neighbours_for (R.state reads.old) sought.now)
         claim.now.levels.now claim.now.edges)) }
-    ensures no { R.tells → IsStore (R.state reads.old) → IfOk result (λ yes. OnFalse yes
+    ensures no { R.tells → IsWhole (R.state reads.old) → IfOk result (λ yes. OnFalse yes
         (¬ AllSpread (neighbours_for (R.state reads.old) sought.now)
         claim.now.levels.now claim.now.edges)) }
     ensures damaged { R.tells → IfErr result (BlamesBroken (R.state reads.old)) }
@@ -132,10 +132,10 @@ fn is_spread<R: Reads>(
 ) -> Result<bool, Fault>
     requires places { places.now ≡ map node_of claim.now.levels.now }
     requires distinct { AreDistinct claim.now.levels.now }
-    ensures yes { R.tells → IsStore (R.state reads.old) → IfOk result (λ yes. OnTrue yes
+    ensures yes { R.tells → IsWhole (R.state reads.old) → IfOk result (λ yes. OnTrue yes
         (IsSpreadAt (neighbours_for (R.state reads.old) sought.now)
         claim.now.levels.now claim.now.edges row)) }
-    ensures no { R.tells → IsStore (R.state reads.old) → IfOk result (λ yes. OnFalse yes
+    ensures no { R.tells → IsWhole (R.state reads.old) → IfOk result (λ yes. OnFalse yes
         (¬ IsSpreadAt (neighbours_for (R.state reads.old) sought.now)
         claim.now.levels.now claim.now.edges row)) }
     ensures damaged { R.tells → IfErr result (BlamesBroken (R.state reads.old)) }

@@ -3,7 +3,6 @@
 ghost use Rattle.std.specs.Prelude.{◌≡◌, ◌<◌, ℕ, IfErr, IfNone, IfOk, IfSome, length};
 ghost use Rattle.rec_bytes.specs.Fault.{HasFaultCause};
 ghost use Rattle.rec_bytes.specs.Frame.{IsRead};
-ghost use Rattle.expand.specs.Expanding.{IsStore};
 ghost use Rattle.path_find.specs.Damage.{BlamesBroken};
 ghost use Rattle.path_find.specs.Meeting.{
   CanDescend,
@@ -17,6 +16,7 @@ ghost use Rattle.path_find.specs.Meeting.{
 ghost use Rattle.path_find.specs.Reading.{IsSomeTree};
 ghost use Rattle.path_find.specs.Tree.{level_at, row_count};
 ghost use Rattle.path_find.specs.WalkSearch.{neighbours_for};
+ghost use Rattle.store_rules.specs.Rules.{IsWhole};
 
 use crate::WalkSearch;
 use crate::neighbours::neighbours;
@@ -35,11 +35,11 @@ pub(crate) fn descend<R: Reads>(
 ) -> Result<Vec<u32>, Fault>
     requires low { row < row_count tree.now }
     requires tree { IsSomeTree tree.now }
-    ensures descends { R.tells → IsStore (R.state space.old)
+    ensures descends { R.tells → IsWhole (R.state space.old)
         → CanDescend (neighbours_for (R.state space.old) sought.now) tree.now
         → IfOk result (λ way.
         IsDescent (neighbours_for (R.state space.old) sought.now) tree.now row way.items) }
-    ensures long { R.tells → IsStore (R.state space.old)
+    ensures long { R.tells → IsWhole (R.state space.old)
         → CanDescend (neighbours_for (R.state space.old) sought.now) tree.now
         → IfOk result (λ way. length way.items ≡ level_at tree.now row) }
     ensures damaged { R.tells → IfErr result (BlamesBroken (R.state space.old)) }
@@ -71,7 +71,7 @@ fn next_row<R: Reads>(
     requires low { at < row_count tree.now }
     requires tree { IsSomeTree tree.now }
     ensures low { IfOk result (λ row. row < row_count tree.now) }
-    ensures next { R.tells → IsStore (R.state space.old) → IfOk result (λ row.
+    ensures next { R.tells → IsWhole (R.state space.old) → IfOk result (λ row.
         HasNearer (neighbours_for (R.state space.old) sought.now) tree.now at level
         → IsNextRow (neighbours_for (R.state space.old) sought.now) tree.now at level
         row) }

@@ -2,7 +2,6 @@ ghost use Rattle.std.specs.Prelude.{ℕ, List, IfErr, IfOk};
 ghost use Rattle.plain_graph.specs.Graph.{has_node};
 ghost use Rattle.rec_bytes.specs.Frame.{IsRead};
 ghost use Rattle.expand.specs.ExpandFault.{HasExpandCause};
-ghost use Rattle.expand.specs.Expanding.{IsStore, graph_in};
 ghost use Rattle.plain_graph.specs.Adjacency.{Adjacency};
 ghost use Rattle.plain_graph.specs.Reached.{IsAnswer};
 ghost use Rattle.path_find.specs.Finding.{IsPathFault, TellsEnds};
@@ -10,6 +9,8 @@ ghost use Rattle.plain_graph.specs.Levels.{IsCertified, IsShortestOrNone};
 ghost use Rattle.path_find.specs.Reading.{IsSomeTree};
 ghost use Rattle.path_find.specs.Reads.{StandFor, adjacency_of};
 ghost use Rattle.path_find.specs.Search.{HasSearched};
+ghost use Rattle.store_rules.specs.Rules.{IsWhole};
+ghost use Rattle.store_rules.specs.Graph.{graph_in};
 
 use crate::node_test::is_node;
 use crate::reading::{levels_of, walk_to};
@@ -36,20 +37,20 @@ pub fn find_path<R: Reads>(
     direction: Direction,
     labels: &[u32],
 ) -> Result<Answer, ExpandFault>
-    ensures found { R.tells → IsStore (R.state reads.old) → (types : List (List ℕ))
+    ensures found { R.tells → IsWhole (R.state reads.old) → (types : List (List ℕ))
         → StandFor (R.state reads.old).records labels.now types → IfOk result (λ answer.
         IsAnswer (adjacency_of (R.state reads.old) direction types) from to
         answer.walk answer.levels) }
     // so no walk has fewer edges, or there is none
-    ensures shortest { R.tells → IsStore (R.state reads.old) → (types : List (List ℕ))
+    ensures shortest { R.tells → IsWhole (R.state reads.old) → (types : List (List ℕ))
         → StandFor (R.state reads.old).records labels.now types → IfOk result (λ answer.
         IsShortestOrNone (adjacency_of (R.state reads.old) direction types) from to answer.walk) }
     // and the levels prove it
-    ensures certified { R.tells → IsStore (R.state reads.old) → (types : List (List ℕ))
+    ensures certified { R.tells → IsWhole (R.state reads.old) → (types : List (List ℕ))
         → StandFor (R.state reads.old).records labels.now types → IfOk result (λ answer.
         IsCertified (adjacency_of (R.state reads.old) direction types) from to
         answer.walk answer.levels) }
-    ensures missing { R.tells → IsStore (R.state reads.old)
+    ensures missing { R.tells → IsWhole (R.state reads.old)
         → TellsEnds result from to (has_node (graph_in (R.state reads.old)) from)
         (has_node (graph_in (R.state reads.old)) to) }
     ensures damaged { R.tells → IfErr result (IsPathFault (R.state reads.old) from to) }

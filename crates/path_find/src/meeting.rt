@@ -5,7 +5,6 @@ ghost use Rattle.std.specs.Bool.{OnFalse, OnTrue};
 ghost use Rattle.plain_graph.specs.Graph.{has_node};
 ghost use Rattle.rec_bytes.specs.Fault.{HasFaultCause};
 ghost use Rattle.rec_bytes.specs.Frame.{IsRead};
-ghost use Rattle.expand.specs.Expanding.{IsStore, graph_in};
 ghost use Rattle.path_find.specs.Damage.{BlamesBroken};
 ghost use Rattle.plain_graph.specs.Reached.{IsLeastOrNone};
 ghost use Rattle.path_find.specs.Meeting.{
@@ -20,6 +19,8 @@ ghost use Rattle.path_find.specs.Reach.{AreLayers, begun};
 ghost use Rattle.path_find.specs.Reading.{IsSomeTree};
 ghost use Rattle.path_find.specs.Tree.{IsTree, Spans, row_count};
 ghost use Rattle.path_find.specs.WalkSearch.{neighbours_back, neighbours_for};
+ghost use Rattle.store_rules.specs.Rules.{IsWhole};
+ghost use Rattle.store_rules.specs.Graph.{graph_in};
 
 use crate::WalkSearch;
 use crate::descending::descend;
@@ -38,7 +39,7 @@ pub(crate) fn meet<R: Reads>(
     space: &mut R,
     sought: &WalkSearch,
 ) -> Result<Vec<u32>, Fault>
-    ensures found { R.tells → IsStore (R.state space.old)
+    ensures found { R.tells → IsWhole (R.state space.old)
         → has_node (graph_in (R.state space.old)) sought.now.from ≡ true
         → has_node (graph_in (R.state space.old)) sought.now.to ≡ true → IfOk result (λ walk.
         IsLeastOrNone (neighbours_for (R.state space.old) sought.now)
@@ -62,7 +63,7 @@ fn meet_between<R: Reads>(
 ) -> Result<Vec<u32>, Fault>
     requires ahead { ahead.old ≡ begun sought.now.from }
     requires behind { behind.old ≡ begun sought.now.to }
-    ensures found { R.tells → IsStore (R.state space.old)
+    ensures found { R.tells → IsWhole (R.state space.old)
         → has_node (graph_in (R.state space.old)) sought.now.from ≡ true
         → has_node (graph_in (R.state space.old)) sought.now.to ≡ true → IfOk result (λ walk.
         IsLeastOrNone (neighbours_for (R.state space.old) sought.now)
@@ -107,11 +108,11 @@ fn approach<R: Reads>(
         ahead.new.done behind.new.done (ahead_depth + behind_depth)) }
     ensures more { OnOk result (ahead.old.done + behind.old.done
         < ahead.new.done + behind.new.done) }
-    ensures ahead_spans { R.tells → IsStore (R.state space.old) → OnOk result (
+    ensures ahead_spans { R.tells → IsWhole (R.state space.old) → OnOk result (
         Spans (neighbours_for (R.state space.old) sought.now) ahead.old.tree ahead.old.done
         → Spans (neighbours_for (R.state space.old) sought.now)
         ahead.new.tree ahead.new.done) }
-    ensures behind_spans { R.tells → IsStore (R.state space.old) → OnOk result (
+    ensures behind_spans { R.tells → IsWhole (R.state space.old) → OnOk result (
         Spans (neighbours_back (R.state space.old) sought.now)
         behind.old.tree behind.old.done
         → Spans (neighbours_back (R.state space.old) sought.now)
@@ -157,7 +158,7 @@ fn join<R: Reads>(
     requires ahead { IsSomeTree ahead.now }
     requires behind { IsSomeTree behind.now }
     requires met { HaveMet ahead.now behind.now }
-    ensures joins { R.tells → IsStore (R.state space.old) → IfOk result (λ walk.
+    ensures joins { R.tells → IsWhole (R.state space.old) → IfOk result (λ walk.
         CanDescend (neighbours_for (R.state space.old) sought.now) behind.now
         → AreJoined (neighbours_for (R.state space.old) sought.now) ahead.now behind.now
         walk.items) }

@@ -5,10 +5,11 @@ ghost use Rattle.std.specs.List.Sorted.{IsNonDecreasing};
 ghost use Rattle.plain_graph.specs.Graph.{has_node};
 ghost use Rattle.rec_bytes.specs.Fault.{HasFaultCause};
 ghost use Rattle.rec_bytes.specs.Frame.{IsRead};
-ghost use Rattle.expand.specs.Expanding.{IsStore, graph_in};
 ghost use Rattle.path_find.specs.Damage.{BlamesBroken};
 ghost use Rattle.path_find.specs.Reads.{neighbours_at};
 ghost use Rattle.path_find.specs.Tree.{AreNeighbours};
+ghost use Rattle.store_rules.specs.Rules.{IsWhole};
+ghost use Rattle.store_rules.specs.Graph.{graph_in};
 
 use crate::ends::ends_of;
 use expand::{ExpandFault, expand};
@@ -25,12 +26,12 @@ pub(crate) fn neighbours<R: Reads>(
     direction: Direction,
     labels: &[u32],
 ) -> Result<Option<Vec<u32>>, Fault>
-    ensures some { R.tells → IsStore (R.state space.old) → IfOk result (λ found.
+    ensures some { R.tells → IsWhole (R.state space.old) → IfOk result (λ found.
         IfSome found (λ ends. AreNeighbours (neighbours_at (R.state space.old) direction labels.now)
         node ends.items)) }
-    ensures none { R.tells → IsStore (R.state space.old) → IfOk result (λ found.
+    ensures none { R.tells → IsWhole (R.state space.old) → IfOk result (λ found.
         IfNone found (has_node (graph_in (R.state space.old)) node ≡ false)) }
-    ensures there { R.tells → IsStore (R.state space.old) → IfOk result (λ found. IfSome found
+    ensures there { R.tells → IsWhole (R.state space.old) → IfOk result (λ found. IfSome found
         (λ ends. has_node (graph_in (R.state space.old)) node ≡ true)) }
     ensures ascending { IfOk result (λ found. IfSome found (λ ends. IsNonDecreasing ends.items)) }
     ensures damaged { R.tells → IfErr result (BlamesBroken (R.state space.old)) }

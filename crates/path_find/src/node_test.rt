@@ -6,14 +6,15 @@ ghost use Rattle.plain_graph.specs.Graph.{has_node};
 ghost use Rattle.rec_bytes.specs.Frame.{IsRead};
 ghost use Rattle.rec_bytes.specs.RowFault.{HasRowCause};
 ghost use Rattle.node_store.specs.Loading.{IsNodeFault, row_at};
-ghost use Rattle.expand.specs.Expanding.{IsStore, graph_in};
+ghost use Rattle.store_rules.specs.Rules.{IsWhole};
+ghost use Rattle.store_rules.specs.Graph.{graph_in};
 
 use node_store::load;
 use rec_bytes::{Reads, RowFault};
 
 /// Whether a node has the identifier. It costs at most one read.
 pub(crate) fn is_node<R: Reads>(reads: &mut R, id: u32) -> Result<bool, RowFault>
-    ensures is { R.tells → IsStore (R.state reads.old) → IfOk result (λ there.
+    ensures is { R.tells → IsWhole (R.state reads.old) → IfOk result (λ there.
         there ≡ has_node (graph_in (R.state reads.old)) id) }
     // so in a store that is damaged
     ensures row { R.tells → IfOk result (λ there. OnFalse there

@@ -4,11 +4,11 @@ ghost use Rattle.std.specs.Prelude.{◌≡◌, ◌<◌, ◌≤◌, ◌⊎◌, �
 ghost use Rattle.std.specs.Bool.{OnFalse, OnTrue};
 ghost use Rattle.rec_bytes.specs.Fault.{HasFaultCause};
 ghost use Rattle.rec_bytes.specs.Frame.{IsRead};
-ghost use Rattle.expand.specs.Expanding.{IsStore};
 ghost use Rattle.path_find.specs.Damage.{BlamesBroken};
 ghost use Rattle.path_find.specs.Reach.{GrowsFrom, begun};
 ghost use Rattle.path_find.specs.Reads.{neighbours_at};
 ghost use Rattle.path_find.specs.Tree.{IsTree, Spans, row_count};
+ghost use Rattle.store_rules.specs.Rules.{IsWhole};
 
 use crate::growing::spread;
 use crate::neighbours::neighbours;
@@ -78,7 +78,7 @@ pub(crate) fn grow<R: Reads>(
     ensures done { OnOk result (reach.new.done ≡ row_count reach.old.tree) }
     ensures tree { OnOk result (IsTree reach.new.tree (row_count reach.old.tree)) }
     ensures grows { OnOk result (GrowsFrom reach.old.tree reach.new.tree reach.old.done) }
-    ensures spans { R.tells → IsStore (R.state space.old) → OnOk result (
+    ensures spans { R.tells → IsWhole (R.state space.old) → OnOk result (
         Spans (neighbours_at (R.state space.old) direction labels.now) reach.old.tree reach.old.done
         → Spans (neighbours_at (R.state space.old) direction labels.now) reach.new.tree
         (row_count reach.old.tree)) }

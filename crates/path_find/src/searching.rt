@@ -5,12 +5,13 @@ ghost use Rattle.std.specs.Bool.{OnTrue, OnFalse};
 ghost use Rattle.plain_graph.specs.Graph.{has_node};
 ghost use Rattle.rec_bytes.specs.Fault.{HasFaultCause};
 ghost use Rattle.rec_bytes.specs.Frame.{IsRead};
-ghost use Rattle.expand.specs.Expanding.{IsStore, graph_in};
 ghost use Rattle.path_find.specs.Damage.{BlamesBroken};
 ghost use Rattle.path_find.specs.Reads.{neighbours_at};
 ghost use Rattle.path_find.specs.Reading.{IsSomeTree};
 ghost use Rattle.path_find.specs.Search.{HasSearched, IsFoundWithin, IsSearched};
 ghost use Rattle.path_find.specs.Tree.{level_at, node_at, row_count};
+ghost use Rattle.store_rules.specs.Rules.{IsWhole};
+ghost use Rattle.store_rules.specs.Graph.{graph_in};
 
 use crate::growing::spread;
 use crate::neighbours::neighbours;
@@ -30,7 +31,7 @@ pub(crate) fn search<R: Reads>(
     labels: &[u32],
 ) -> Result<Tree, Fault>
     ensures searched { IfOk result (λ tree. IsSearched tree from to) }
-    ensures spans { R.tells → IsStore (R.state space.old)
+    ensures spans { R.tells → IsWhole (R.state space.old)
         → has_node (graph_in (R.state space.old)) from ≡ true → IfOk result (λ tree.
         HasSearched (neighbours_at (R.state space.old) direction labels.now) tree from to) }
     ensures damaged { R.tells → IfErr result (BlamesBroken (R.state space.old)) }

@@ -4,10 +4,10 @@ ghost use Rattle.std.specs.Prelude.{Contains, IfErr, IfOk};
 ghost use Rattle.std.specs.Bool.{OnFalse, OnTrue};
 ghost use Rattle.rec_bytes.specs.Fault.{HasFaultCause};
 ghost use Rattle.rec_bytes.specs.Frame.{IsRead};
-ghost use Rattle.expand.specs.Expanding.{IsStore};
 ghost use Rattle.path_find.specs.Checking.{IsStep, IsWalkOrNone};
 ghost use Rattle.path_find.specs.Damage.{BlamesBroken};
 ghost use Rattle.path_find.specs.WalkSearch.{neighbours_for};
+ghost use Rattle.store_rules.specs.Rules.{IsWhole};
 
 use crate::WalkSearch;
 use crate::neighbours::neighbours;
@@ -22,10 +22,10 @@ pub(crate) fn is_walk<R: Reads>(
     walk: &[u32],
     sought: &WalkSearch,
 ) -> Result<bool, Fault>
-    ensures yes { R.tells → IsStore (R.state reads.old) → IfOk result (λ yes. OnTrue yes
+    ensures yes { R.tells → IsWhole (R.state reads.old) → IfOk result (λ yes. OnTrue yes
         (IsWalkOrNone (neighbours_for (R.state reads.old) sought.now)
         sought.now.from sought.now.to walk.now)) }
-    ensures no { R.tells → IsStore (R.state reads.old) → IfOk result (λ yes. OnFalse yes
+    ensures no { R.tells → IsWhole (R.state reads.old) → IfOk result (λ yes. OnFalse yes
         (¬ IsWalkOrNone (neighbours_for (R.state reads.old) sought.now)
         sought.now.from sought.now.to walk.now)) }
     ensures damaged { R.tells → IfErr result (BlamesBroken (R.state reads.old)) }
@@ -60,9 +60,9 @@ fn is_step<R: Reads>(
     next: u32,
     sought: &WalkSearch,
 ) -> Result<bool, Fault>
-    ensures yes { R.tells → IsStore (R.state reads.old) → IfOk result (λ yes. OnTrue yes
+    ensures yes { R.tells → IsWhole (R.state reads.old) → IfOk result (λ yes. OnTrue yes
         (IsStep (neighbours_for (R.state reads.old) sought.now) node next)) }
-    ensures no { R.tells → IsStore (R.state reads.old) → IfOk result (λ yes. OnFalse yes
+    ensures no { R.tells → IsWhole (R.state reads.old) → IfOk result (λ yes. OnFalse yes
         (¬ IsStep (neighbours_for (R.state reads.old) sought.now) node next)) }
     ensures damaged { R.tells → IfErr result (BlamesBroken (R.state reads.old)) }
     ensures read { IsRead R.Reads reads.old reads.new }

@@ -3,9 +3,10 @@ ghost use Rattle.plain_graph.specs.Graph.{has_node};
 ghost use Rattle.plain_graph.specs.Reached.{IsLeastOrNone};
 ghost use Rattle.rec_bytes.specs.Frame.{IsRead};
 ghost use Rattle.expand.specs.ExpandFault.{HasExpandCause};
-ghost use Rattle.expand.specs.Expanding.{IsStore, graph_in};
 ghost use Rattle.path_find.specs.Finding.{IsPathFault, TellsEnds};
 ghost use Rattle.path_find.specs.Reads.{StandFor, adjacency_of};
+ghost use Rattle.store_rules.specs.Rules.{IsWhole};
+ghost use Rattle.store_rules.specs.Graph.{graph_in};
 
 use crate::meeting::meet;
 use crate::node_test::is_node;
@@ -30,10 +31,10 @@ pub fn find_walk<R: Reads>(
     direction: Direction,
     labels: &[u32],
 ) -> Result<Walk, ExpandFault>
-    ensures found { R.tells → IsStore (R.state reads.old) → (types : List (List ℕ))
+    ensures found { R.tells → IsWhole (R.state reads.old) → (types : List (List ℕ))
         → StandFor (R.state reads.old).records labels.now types → IfOk result (λ walk.
         IsLeastOrNone (adjacency_of (R.state reads.old) direction types) from to walk) }
-    ensures missing { R.tells → IsStore (R.state reads.old)
+    ensures missing { R.tells → IsWhole (R.state reads.old)
         → TellsEnds result from to (has_node (graph_in (R.state reads.old)) from)
         (has_node (graph_in (R.state reads.old)) to) }
     ensures damaged { R.tells → IfErr result (IsPathFault (R.state reads.old) from to) }

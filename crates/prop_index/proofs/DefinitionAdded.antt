@@ -23,11 +23,11 @@ use Rattle.store_rules.proofs.MetaLaws.{high_fits}
 use Rattle.id_freelist.proofs.Leaving.{byte_of_zeros}
 use Rattle.prop_index.specs.Defining.{AreHeadsAdded, AreNamesOf, IsDefinitionAdded, IsRecordAdded}
 use Rattle.prop_index.specs.DefinitionRecord.{definition_fields, definition_start, head_of}
-use Rattle.prop_index.specs.Reading.{KeepsStore}
 use Rattle.prop_index.specs.declared.finding.Definition.{Definition}
 use Rattle.prop_index.proofs.RecordFits.{empty_heads-nil, fits-definition}
+use Rattle.store_rules.specs.Rules.{IsWhole}
 
-module _ (s m t : State) (label key first id : ℕ) (rec : Rec) (store : KeepsStore s) (heads : AreHeadsAdded s m (definition_start label key first) 12 rec)
+module _ (s m t : State) (label key first id : ℕ) (rec : Rec) (store : IsWhole s) (heads : AreHeadsAdded s m (definition_start label key first) 12 rec)
     (added : IsRecordAdded m t rec id)
     (named : AreNamesOf s.records label key) (first_is : first ≡ first_definition s.records) (label_fits : label < 2 ^ 32) (key_fits : key < 2 ^ 32)
     (first_fits : first < 2 ^ 32) where
@@ -122,7 +122,7 @@ module _ (s m t : State) (label key first id : ℕ) (rec : Rec) (store : KeepsSt
     key_low = let l = named.key_low in omega (arith, rec_key, names_are, l);
   }
 
-  kept : KeepsStore w
+  kept : IsWhole w
   kept = first_kept t.records id small t.shape (inr added.low)
       (added.kept (fits-definition (high t.records) rec rec_kind rec_blank first_low (λ c lt. let a = heads.low c lt in let b = added.grows.more in omega
       (arith, a, b))) (λ _. of_names))

@@ -37,14 +37,14 @@ use Rattle.prop_index.specs.Entering.{IsIndexFull, IsMishap}
 use Rattle.prop_index.specs.Filling.{IsEmptyIndex, IsFilled, entry_for, with_contents}
 use Rattle.prop_index.specs.Finding.{IsPair}
 use Rattle.prop_index.specs.Heads.{BeginsRight, IsFoundBucket, IsHead, IsHeadPlace}
-use Rattle.prop_index.specs.Reading.{KeepsStore}
 use Rattle.prop_index.specs.declared.entry_row.Content.{Content}
 use Rattle.prop_index.specs.declared.finding.Definition.{Definition}
 use Rattle.prop_index.specs.declared.heads.Bucket.{Bucket}
 use Rattle.prop_index.proofs.Changed.{entered_in, first_right}
+use Rattle.store_rules.specs.Rules.{IsWhole}
 
 -- no entries yet
-pub filled-none : (s : State) (wanted : Entries) (ix : AreIndexed s.records wanted) (label key : ℕ) → KeepsStore s → IsFilled s s wanted ix label key []
+pub filled-none : (s : State) (wanted : Entries) (ix : AreIndexed s.records wanted) (label key : ℕ) → IsWhole s → IsFilled s s wanted ix label key []
 filled-none s wanted ix label key store = record {
   indexes = indexed_same s.records wanted (with_contents wanted label key []) ix (λ d e i l k. refl);
   first = refl;
@@ -153,7 +153,7 @@ module _ (s m : State) (wanted : Entries) (ix : AreIndexed s.records wanted) (la
           (λ q. let f = fill_head.heads in let z = ap (kind_at m.records format.index_file) q in omega (arith, kind, f, z))
 
       module _ (apart : (k : Content) → Contains p k → k.node ≢ c.node) (live : (meta_of t format.index_file).live ≡ (meta_of m format.index_file).live + 1)
-          (shape : t.shape ≡ m.shape) (others : SameElsewhere m.records t.records) (kept : KeepsStore t) where
+          (shape : t.shape ≡ m.shape) (others : SameElsewhere m.records t.records) (kept : IsWhole t) where
         abbrev one : Entry
         one = entry_for label key c
 

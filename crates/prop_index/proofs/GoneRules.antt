@@ -7,7 +7,7 @@ use Rattle.rec_bytes.proofs.Numbers.{field-lt}
 use Rattle.store_rules.specs.Chains.{In, IsWalk}
 use Rattle.store_rules.specs.Indexes.{index_rec, next_entry, previous_entry}
 use Rattle.store_rules.specs.Ranges.{AreInRange}
-use Rattle.store_rules.specs.Rules.{IsSplit, IsWellFormed}
+use Rattle.store_rules.specs.Rules.{IsSplit, IsWellFormed, IsWhole}
 use Rattle.store_rules.specs.Views.{high, is_live, kind_at, rec_at}
 use Rattle.store_rules.proofs.ChainLaws.{walk_of_chain}
 use Rattle.store_rules.proofs.ChainSteps.{after_other, before_other, nil_out}
@@ -24,7 +24,6 @@ use Rattle.id_freelist.proofs.Leaving.{is_gone, not_free_id}
 use Rattle.prop_index.specs.Heads.{IsHeadPlace}
 use Rattle.prop_index.specs.Leaving.{IsBucketChain}
 use Rattle.prop_index.specs.Linking.{backed_entry}
-use Rattle.prop_index.specs.Reading.{KeepsStore}
 use Rattle.prop_index.specs.Unlinking.{led_entry, unlinked_entry}
 use Rattle.prop_index.specs.declared.heads.Slot.{Slot}
 use Rattle.prop_index.proofs.Buckets.{after-low, after-member, before-low, before-member}
@@ -33,7 +32,7 @@ use Rattle.prop_index.proofs.LinkRules.{back_kept, back_kind, back_mark, free_li
 
 module _ (s : State) (slot : Slot) (first x : ℕ) (xs : List ℕ) (is : IsBucketChain s.records first xs)
     (heads : kind_at s.records format.index_file slot.id ≡ format.heads) (place : IsHeadPlace slot.place)
-    (member : In x xs) (rules : KeepsStore s) (small : x < format.most_ids) where
+    (member : In x xs) (rules : IsWhole s) (small : x < format.most_ids) where
   abbrev u : State
   u = given s format.index_file x
 
@@ -125,6 +124,6 @@ module _ (s : State) (slot : Slot) (first x : ℕ) (xs : List ℕ) (is : IsBucke
       (nat_cases before format.nil)
 
   -- The entry is out of its bucket, and the rules hold.
-  pub entry_gone_kept : (t : State) → t ≡ unlinked_entry s slot x before after → t.shape ≡ s.shape → KeepsStore t
+  pub entry_gone_kept : (t : State) → t ≡ unlinked_entry s slot x before after → t.shape ≡ s.shape → IsWhole t
   entry_gone_kept t e shape = subst (IsWellFormed t.records) (sym shape)
       (subst (λ (z : State). IsWellFormed z.records s.shape) (sym (e ∙ unlinked-is s slot x before after)) led_kept)

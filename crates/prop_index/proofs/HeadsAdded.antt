@@ -12,12 +12,12 @@ use Rattle.store_rules.specs.Views.{high, kind_at}
 use Rattle.store_rules.proofs.MetaLaws.{high_fits}
 use Rattle.prop_index.specs.Defining.{AreHeadsAdded, IsRecordAdded}
 use Rattle.prop_index.specs.DefinitionRecord.{empty_heads, head_ids, head_of}
-use Rattle.prop_index.specs.Reading.{KeepsStore}
 use Rattle.prop_index.proofs.RecordFits.{empty_heads-kind, fits-empty_heads}
 use Rattle.prop_index.proofs.RecordsAdded.{grows_then}
+use Rattle.store_rules.specs.Rules.{IsWhole}
 
 -- none yet
-pub heads-none : (s : State) (start : Rec) → KeepsStore s → AreHeadsAdded s s start 0 start
+pub heads-none : (s : State) (start : Rec) → IsWhole s → AreHeadsAdded s s start 0 start
 heads-none s start store = record {
   front = λ n at fits. refl;
   fresh = λ c lt. absurd (omega arith);

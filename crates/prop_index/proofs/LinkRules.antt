@@ -6,7 +6,7 @@ use Rattle.rec_bytes.specs.Record.{field, with_field}
 use Rattle.rec_bytes.specs.RecordFiles.{room_of}
 use Rattle.rec_bytes.specs.Space.{State, put}
 use Rattle.store_rules.specs.Ranges.{AreInRange}
-use Rattle.store_rules.specs.Rules.{IsSplit, IsWellFormed}
+use Rattle.store_rules.specs.Rules.{IsSplit, IsWellFormed, IsWhole}
 use Rattle.store_rules.specs.Views.{high, is_live, key_in, kind_at, rec_at}
 use Rattle.store_rules.proofs.IndexRules.{set_kept, set_kind, set_mark}
 use Rattle.store_rules.proofs.LinkFits.{IsLow, fits_entry_previous, fits_head}
@@ -16,18 +16,17 @@ use Rattle.id_freelist.specs.Taking.{CanTake}
 use Rattle.id_freelist.proofs.Splits.{can_take}
 use Rattle.prop_index.specs.Heads.{IsHeadPlace}
 use Rattle.prop_index.specs.Linking.{backed_entry}
-use Rattle.prop_index.specs.Reading.{KeepsStore}
 use Rattle.prop_index.specs.declared.heads.Slot.{Slot}
 use Rattle.prop_index.proofs.Steps.{backed-none, backed-some}
 
 -- the free identifiers of the index
-pub free_list : (s : State) → KeepsStore s → (free : List ℕ) × IsSplit s.records format.index_file (is_live s.records format.index_file) free
+pub free_list : (s : State) → IsWhole s → (free : List ℕ) × IsSplit s.records format.index_file (is_live s.records format.index_file) free
 free_list s rules = rules.split format.index_file refl
 
-pub store_room : (s : State) → KeepsStore s → high s.records format.index_file ≤ room_of s.shape format.index_file
+pub store_room : (s : State) → IsWhole s → high s.records format.index_file ≤ room_of s.shape format.index_file
 store_room s rules = let ranges : AreInRange s.records s.shape = rules.ranges in (ranges.metas format.index_file refl).high
 
-pub store_takes : (s : State) (rules : KeepsStore s) → CanTake s format.index_file (free_list s rules).0
+pub store_takes : (s : State) (rules : IsWhole s) → CanTake s format.index_file (free_list s rules).0
 store_takes s rules = can_take s format.index_file (free_list s rules).0 (store_room s rules) (free_list s rules).1
 
 -- ---- a number of a record

@@ -10,7 +10,7 @@ use Rattle.rec_bytes.specs.Tables.{AllFit}
 use Rattle.rec_bytes.proofs.Spaces.{put_other, put_same}
 use Rattle.rec_bytes.proofs.Tables.{field-with_fields}
 use Rattle.store_rules.specs.Ranges.{AreInRange}
-use Rattle.store_rules.specs.Rules.{IsWellFormed}
+use Rattle.store_rules.specs.Rules.{IsWellFormed, IsWhole}
 use Rattle.store_rules.specs.Views.{high, key_in, kind_at, rec_at}
 use Rattle.store_rules.proofs.Changes as ch
 use Rattle.store_rules.proofs.IndexRules.{made_kept}
@@ -23,14 +23,13 @@ use Rattle.id_freelist.specs.Taking.{HasTaken}
 use Rattle.id_freelist.proofs.Making.{is_made}
 use Rattle.prop_index.specs.Heads.{IsHeadPlace}
 use Rattle.prop_index.specs.Linking.{backed_entry, entry_fields, entry_record, linked_entry}
-use Rattle.prop_index.specs.Reading.{KeepsStore}
 use Rattle.prop_index.specs.declared.entry_row.Content.{Content}
 use Rattle.prop_index.specs.declared.heads.Slot.{Slot}
 use Rattle.prop_index.proofs.RecordFits.{fits-entry_record}
 use Rattle.prop_index.proofs.Steps.{linked-is}
 use Rattle.prop_index.proofs.LinkRules.{back_kept, back_kind, back_mark, free_list, head_kept}
 
-module _ (s u : State) (slot : Slot) (first id : ℕ) (content : Content) (rules : KeepsStore s)
+module _ (s u : State) (slot : Slot) (first id : ℕ) (content : Content) (rules : IsWhole s)
     (taken : HasTaken s.records u.records format.index_file id (free_list s rules).0)
     (fresh : kind_at s.records format.index_file id ≡ format.free_kind) (small : id < room_of s.shape format.index_file)
     (heads : kind_at s.records format.index_file slot.id ≡ format.heads) (place : IsHeadPlace slot.place)
@@ -100,7 +99,7 @@ module _ (s u : State) (slot : Slot) (first id : ℕ) (content : Content) (rules
   heads_two = back_kind one first id entry_one slot.id ∙ kind_one slot.id (λ q. omega (arith, heads, q)) ∙ heads
 
   -- The entry is in front of its bucket, and the rules hold.
-  pub entry_made_kept : (t : State) → t ≡ linked_entry u slot first id content → t.shape ≡ s.shape → KeepsStore t
+  pub entry_made_kept : (t : State) → t ≡ linked_entry u slot first id content → t.shape ≡ s.shape → IsWhole t
   entry_made_kept t is shape =
       let low : id < high two.records format.index_file = let b = made.below in let m = back_mark one first id entry_one in omega (arith, b, m) in
       subst (IsWellFormed t.records) (sym shape)

@@ -14,7 +14,7 @@ use Rattle.rec_bytes.proofs.Metas.{definition-with_meta}
 use Rattle.rec_bytes.proofs.Spaces.{put_other, put_same}
 use Rattle.store_rules.specs.Indexes.{index_rec}
 use Rattle.store_rules.specs.Ranges.{AreInRange}
-use Rattle.store_rules.specs.Rules.{IsWellFormed}
+use Rattle.store_rules.specs.Rules.{IsWellFormed, IsWhole}
 use Rattle.store_rules.specs.Views.{high, key_in}
 use Rattle.store_rules.proofs.Changes as ch
 use Rattle.store_rules.proofs.IndexRules.{made_kept}
@@ -29,10 +29,9 @@ use Rattle.id_freelist.specs.declared.take_fault.TakeFault.TheVariants as take
 use Rattle.id_freelist.proofs.Making.{is_made}
 use Rattle.prop_index.specs.Defining.{GrowsBy, HasLeft, IsRecordAdded}
 use Rattle.prop_index.specs.Entering.{IsMishap}
-use Rattle.prop_index.specs.Reading.{KeepsStore}
 use Rattle.prop_index.proofs.LinkRules.{free_list}
 
-module _ (s u : State) (rec : Rec) (id : ℕ) (store : KeepsStore s) (taken : HasTaken s.records u.records format.index_file id (free_list s store).0)
+module _ (s u : State) (rec : Rec) (id : ℕ) (store : IsWhole s) (taken : HasTaken s.records u.records format.index_file id (free_list s store).0)
     (small : id < room_of s.shape format.index_file)
     (used : field 1 rec format.kind ≢ format.free_kind) (shape : u.shape ≡ s.shape) where
   abbrev one : State

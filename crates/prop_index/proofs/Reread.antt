@@ -7,8 +7,9 @@ use Rattle.id_freelist.specs.Taking.{CanTake}
 use Rattle.prop_index.specs.Collecting.{AreNodesReadable}
 use Rattle.store_rules.specs.IndexBreaking.{AreDefinitions}
 use Rattle.prop_index.specs.Gathering.{IsListedNode}
-use Rattle.prop_index.specs.Reading.{HasRoom, KeepsStore}
+use Rattle.prop_index.specs.Reading.{HasRoom}
 use Rattle.store_rules.specs.Views.{Records}
+use Rattle.store_rules.specs.Rules.{IsWhole}
 
 -- reads after reads
 pub same_then : (a b c : State) → SameButReads a b → SameButReads b c → SameButReads a c
@@ -52,8 +53,8 @@ readable_after s z same h =
     } in
     subst AreNodesReadable (sym same) at
 
-pub kept_after : (s z : State) → SameButReads s z → KeepsStore s → KeepsStore z
-kept_after s z same kept = subst KeepsStore (sym same) kept
+pub kept_after : (s z : State) → SameButReads s z → IsWhole s → IsWhole z
+kept_after s z same kept = subst IsWhole (sym same) kept
 
 -- the definitions of indexes
 pub definitions_of : (s : Records) (wanted : Entries) (ix : AreIndexed s wanted) → AreDefinitions s ix.definitions

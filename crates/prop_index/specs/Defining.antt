@@ -12,8 +12,8 @@ use Rattle.store_rules.specs.Ranges.{Fits}
 use Rattle.store_rules.specs.Views.{Records, high, kind_at}
 use Rattle.id_freelist.specs.ListDamage.{KeepsInUse}
 use Rattle.prop_index.specs.DefinitionRecord.{empty_heads, head_of}
-use Rattle.prop_index.specs.Reading.{KeepsStore}
 use Rattle.prop_index.specs.declared.finding.Definition.{Definition}
+use Rattle.store_rules.specs.Rules.{IsWhole}
 
 -- the label and the key are numbers of names
 pub record AreNamesOf (records : Records) (label key : ℕ) : Type 0 where
@@ -49,7 +49,7 @@ pub record IsRecordAdded (s t : State) (rec : Rec) (id : ℕ) : Type 0 where
   pub grows : GrowsBy s t 1
   pub kept : Fits (high t.records) format.index_file rec
       → (field 1 rec format.kind ≡ format.definition → AreNamesOf s.records
-      (field 4 rec format.definition_label) (field 4 rec format.definition_key)) → KeepsStore t
+      (field 4 rec format.definition_label) (field 4 rec format.definition_key)) → IsWhole t
 
 -- The first heads that the record of a definition names are in use, with empty buckets, and were
 -- free. What stands before them in it is what it was.
@@ -67,7 +67,7 @@ pub record AreHeadsAdded (s t : State) (start : Rec) (count : ℕ) (rec : Rec) :
   pub records : (y : ℕ) → ((c : ℕ) → c < count → y ≢ head_of rec c)
       → index_rec t.records y ≡ index_rec s.records y
   pub grows : GrowsBy s t count
-  pub kept : KeepsStore t
+  pub kept : IsWhole t
 
 -- A definition of the pair is in front of the others, with empty buckets.
 pub record IsDefinitionAdded (s t : State) (label key : ℕ) (definition : Definition)
@@ -77,7 +77,7 @@ pub record IsDefinitionAdded (s t : State) (label key : ℕ) (definition : Defin
   pub live : (meta_of t format.index_file).live ≡ (meta_of s format.index_file).live + 13
   pub shape : t.shape ≡ s.shape
   pub others : SameElsewhere s.records t.records
-  pub kept : KeepsStore t
+  pub kept : IsWhole t
 
 -- So many records more are counted, of a store of the same shape.
 pub record CountsMore (s t : State) (count : ℕ) : Type 0 where

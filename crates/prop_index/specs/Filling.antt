@@ -10,11 +10,11 @@ use Rattle.store_rules.specs.Indexes.{index_rec, is_entry}
 use Rattle.store_rules.specs.Views.{Records, high}
 use Rattle.prop_index.specs.Defining.{SameElsewhere}
 use Rattle.prop_index.specs.Finding.{IsPair}
-use Rattle.prop_index.specs.Reading.{KeepsStore}
 use Rattle.prop_index.specs.Touching.{index_keys}
 use Rattle.prop_index.specs.declared.entry_row.Content.{Content}
 use Rattle.prop_index.specs.declared.finding.Definition.{Definition}
 use Rattle.prop_store.specs.Touching.{TouchesOnly}
+use Rattle.store_rules.specs.Rules.{IsWhole}
 
 -- the entry of a node and a hash, in the index of a pair
 abbrev pub entry_for : ℕ → ℕ → Content → Entry
@@ -50,7 +50,7 @@ pub record IsFilled (s t : State) (wanted : Entries) (ix : AreIndexed s.records 
       ≡ (meta_of s format.index_file).live + length contents
   pub shape : t.shape ≡ s.shape
   pub others : SameElsewhere s.records t.records
-  pub kept : KeepsStore t
+  pub kept : IsWhole t
 
 -- Besides these records of the index at most so many are touched, and its meta record.
 pub record TouchesBeside (tells : Type 0) (known : List ℕ) (most : ℕ) (old new : State)

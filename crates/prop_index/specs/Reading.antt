@@ -13,10 +13,6 @@ use Rattle.rec_bytes.specs.declared.fault.Fault.TheVariants.{Damaged, Disk, Memo
 abbrev pub HasRoom : State → ℕ → Type 0
 HasRoom s file = high s.records file ≤ room_of s.shape file
 
--- the first seven rules hold
-abbrev pub KeepsStore : State → Type 0
-KeepsStore s = IsWellFormed s.records s.shape
-
 abbrev pub damage_of : ℕ → ℕ → ℕ → Damage
 damage_of file id rule = record { file = file; id = id; rule = rule }
 

@@ -87,7 +87,7 @@ fn hash_at<R: Reads>(
 ) -> Result<Option<u64>, Fault>
     ensures found { R.tells → node < high (R.state space.old).records nodes_file
         → IfOk result (λ hash. hash ≡ hash_at (R.state space.old).records label key node) }
-    ensures sound { R.tells → node < high (R.state space.old).records nodes_file
+    ensures not_damaged { R.tells → node < high (R.state space.old).records nodes_file
         → AreNodesReadable (R.state space.old) → NotDamaged result }
     ensures damaged { R.tells → node < high (R.state space.old).records nodes_file
         → IfErr result (BlamesBroken (R.state space.old).records (R.state space.old).shape) }
@@ -121,7 +121,7 @@ fn value_hash<R: Reads>(
     requires { IsOwner owner }
     ensures met { R.tells → IfOk result (λ hash. hash
         ≡ option_map hash_of (value_of (properties_met (R.state space.old).records owner) key)) }
-    ensures sound { R.tells → (es : List Property)
+    ensures not_damaged { R.tells → (es : List Property)
         → HasProperties (R.state space.old).records owner es → NotDamaged result }
     ensures damaged { R.tells → IsInUse (R.state space.old).records owner
         → IfErr result (BlamesBroken (R.state space.old).records (R.state space.old).shape) }

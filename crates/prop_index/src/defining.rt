@@ -17,13 +17,13 @@ ghost use Rattle.prop_index.specs.Defining.{
 };
 ghost use Rattle.prop_index.specs.DefinitionRecord.{head_ids, head_of};
 ghost use Rattle.prop_index.specs.Entering.{IsMishap, IsNotFull};
-ghost use Rattle.prop_index.specs.Reading.{KeepsStore};
 ghost use Rattle.prop_index.specs.Touching.{TouchesIndex, index_keys};
 ghost use Rattle.prop_store.specs.Touching.{TouchesOnly};
 ghost use Rattle.rec_bytes.specs.Format.{definition_heads, free_kind, index_file};
 ghost use Rattle.rec_bytes.specs.Key.{IsKey};
 ghost use Rattle.rec_bytes.specs.Record.{field};
 ghost use Rattle.store_rules.specs.Views.{key_in, kind_at};
+ghost use Rattle.store_rules.specs.Rules.{IsWhole};
 
 use crate::definition_record::{definition_start, empty_heads};
 use crate::finding::Definition;
@@ -35,10 +35,10 @@ use rec_bytes::{
 
 /// Puts a definition of a label and a key in front of the others, with empty buckets.
 pub(crate) fn define<S: Space>(space: &mut S, label: u32, key: u32) -> Result<Definition, TakeFault>
-    ensures added { S.tells → KeepsStore (S.state space.old)
+    ensures added { S.tells → IsWhole (S.state space.old)
         → AreNamesOf (S.state space.old).records label key → IfOk result
         (IsDefinitionAdded (S.state space.old) (S.state space.new) label key) }
-    ensures mishap { S.tells → KeepsStore (S.state space.old)
+    ensures mishap { S.tells → IsWhole (S.state space.old)
         → HasLeft (S.state space.old) 13 → IfErr result IsMishap }
     ensures counted { S.tells → OnOk result
         (CountsMore (S.state space.old) (S.state space.new) 13) }
@@ -67,9 +67,9 @@ pub(crate) fn define<S: Space>(space: &mut S, label: u32, key: u32) -> Result<De
 
 /// Adds the twelve records of heads of a definition, and names them in its record.
 fn add_heads<S: Space>(space: &mut S, start: Rec) -> Result<Rec, TakeFault>
-    ensures added { S.tells → KeepsStore (S.state space.old) → IfOk result
+    ensures added { S.tells → IsWhole (S.state space.old) → IfOk result
         (AreHeadsAdded (S.state space.old) (S.state space.new) start 12) }
-    ensures mishap { S.tells → KeepsStore (S.state space.old)
+    ensures mishap { S.tells → IsWhole (S.state space.old)
         → HasLeft (S.state space.old) 12 → IfErr result IsMishap }
     ensures counted { S.tells → OnOk result
         (CountsMore (S.state space.old) (S.state space.new) 12) }
@@ -100,9 +100,9 @@ fn add_heads<S: Space>(space: &mut S, start: Rec) -> Result<Rec, TakeFault>
 
 /// Takes an identifier of the index for a record, and writes the record.
 fn add_record<S: Space>(space: &mut S, rec: Rec) -> Result<u32, TakeFault>
-    ensures added { S.tells → KeepsStore (S.state space.old) → field 1 rec KIND ≢ FREE
+    ensures added { S.tells → IsWhole (S.state space.old) → field 1 rec KIND ≢ FREE
         → IfOk result (IsRecordAdded (S.state space.old) (S.state space.new) rec) }
-    ensures mishap { S.tells → KeepsStore (S.state space.old)
+    ensures mishap { S.tells → IsWhole (S.state space.old)
         → HasLeft (S.state space.old) 1 → IfErr result IsMishap }
     ensures counted { S.tells → OnOk result
         (CountsMore (S.state space.old) (S.state space.new) 1) }

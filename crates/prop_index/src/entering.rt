@@ -11,7 +11,6 @@ ghost use Rattle.prop_index.specs.Entering.{IsIndexFull, IsMade, IsNotFull, entr
 ghost use Rattle.prop_index.specs.Finding.{IsPair};
 ghost use Rattle.prop_index.specs.Heads.{IsHead, IsOpened};
 ghost use Rattle.prop_index.specs.Naming.{TakeBlamesDefinition};
-ghost use Rattle.prop_index.specs.Reading.{KeepsStore};
 ghost use Rattle.prop_index.specs.Sparing.{SparesDefinitions};
 ghost use Rattle.prop_index.specs.Touching.{TouchesIndex};
 ghost use Rattle.rec_bytes.specs.Format.{index_file, nodes_file};
@@ -22,6 +21,7 @@ ghost use Rattle.store_rules.specs.Graph.{indexes_of};
 ghost use Rattle.store_rules.specs.IndexBreaking.{AreDefinitions};
 ghost use Rattle.store_rules.specs.Indexes.{AreIndexed, Entries, with_entry};
 ghost use Rattle.store_rules.specs.Views.{high, key_in};
+ghost use Rattle.store_rules.specs.Rules.{IsWhole};
 
 use crate::entry_row::Content;
 use crate::hashing::hash_of;
@@ -48,9 +48,9 @@ pub fn enter<S: Space>(
         → OnOk result (AreIndexed (S.state space.new).records
         (with_entry wanted (entry_of label key node value.now))) }
     ensures keeps { S.tells → (wanted : Entries) → AreIndexed (S.state space.old).records wanted
-        → KeepsStore (S.state space.old) → node < high (S.state space.old).records nodes_file
-        → OnOk result (KeepsStore (S.state space.new)) }
-    ensures sound { S.tells → (wanted : Entries) → (free : List ℕ)
+        → IsWhole (S.state space.old) → node < high (S.state space.old).records nodes_file
+        → OnOk result (IsWhole (S.state space.new)) }
+    ensures not_damaged { S.tells → (wanted : Entries) → (free : List ℕ)
         → AreIndexed (S.state space.old).records wanted
         → CanTake (S.state space.old) index_file free → NotDamaged result }
     ensures graph { S.tells → (wanted : Entries) → (free : List ℕ)
@@ -101,11 +101,11 @@ fn add_entry<S: Space>(space: &mut S, bucket: Bucket, content: Content) -> Resul
         → CanTake (S.state space.old) index_file free
         → OnOk result (IsMade (S.state space.old).records (S.state space.new).records
         bucket content) }
-    ensures keeps { S.tells → KeepsStore (S.state space.old)
+    ensures keeps { S.tells → IsWhole (S.state space.old)
         → IsOpened (S.state space.old).records bucket
         → content.node < high (S.state space.old).records nodes_file
-        → OnOk result (KeepsStore (S.state space.new)) }
-    ensures sound { S.tells → (free : List ℕ) → CanTake (S.state space.old) index_file free
+        → OnOk result (IsWhole (S.state space.new)) }
+    ensures not_damaged { S.tells → (free : List ℕ) → CanTake (S.state space.old) index_file free
         → NotDamaged result }
     ensures graph { S.tells → (free : List ℕ) → IsOpened (S.state space.old).records bucket
         → CanTake (S.state space.old) index_file free → OnOk result

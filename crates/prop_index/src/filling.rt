@@ -8,11 +8,11 @@ ghost use Rattle.prop_index.specs.Defining.{AreHeadsUsed, HasLeft, KeepsBeside};
 ghost use Rattle.prop_index.specs.DefinitionRecord.{head_ids, head_of};
 ghost use Rattle.prop_index.specs.Entering.{IsMishap, IsNotFull};
 ghost use Rattle.prop_index.specs.Filling.{AreFillable, IsEmptyIndex, IsFilled, TouchesBeside};
-ghost use Rattle.prop_index.specs.Reading.{KeepsStore};
 ghost use Rattle.rec_bytes.specs.Format.{index_file};
 ghost use Rattle.rec_bytes.specs.Key.{IsKey};
 ghost use Rattle.store_rules.specs.Indexes.{AreIndexed, Entries};
 ghost use Rattle.store_rules.specs.Views.{key_in};
+ghost use Rattle.store_rules.specs.Rules.{IsWhole};
 
 use crate::entry_row::Content;
 use crate::finding::Definition;
@@ -33,13 +33,13 @@ pub(crate) fn fill<S: Space>(
     ensures filled { S.tells → (wanted : Entries)
         → (ix : AreIndexed (S.state space.old).records wanted) → (label key : ℕ)
         → IsEmptyIndex (S.state space.old).records wanted ix label key definition.now
-        → AreFillable (S.state space.old).records contents.now → KeepsStore (S.state space.old)
+        → AreFillable (S.state space.old).records contents.now → IsWhole (S.state space.old)
         → OnOk result (IsFilled (S.state space.old) (S.state space.new) wanted ix label key
         contents.now) }
     ensures mishap { S.tells → (wanted : Entries)
         → (ix : AreIndexed (S.state space.old).records wanted) → (label key : ℕ)
         → IsEmptyIndex (S.state space.old).records wanted ix label key definition.now
-        → AreFillable (S.state space.old).records contents.now → KeepsStore (S.state space.old)
+        → AreFillable (S.state space.old).records contents.now → IsWhole (S.state space.old)
         → HasLeft (S.state space.old) (length contents.now) → IfErr result IsMishap }
     ensures roomy { S.tells → HasLeft (S.state space.old) (length contents.now)
         → IfErr result IsNotFull }

@@ -47,7 +47,7 @@ pub(crate) fn gather<R: Reads>(
     ensures found { R.tells → (xs : List ℕ) → AreEntries (R.state space.old) first xs
         → IfOk result (λ nodes. nodes.items ≡ nodes_with (R.state space.old).records sought.now.key
         sought.now.hash sought.now.value.now xs) }
-    ensures sound { R.tells → (xs : List ℕ) → AreEntries (R.state space.old) first xs
+    ensures not_damaged { R.tells → (xs : List ℕ) → AreEntries (R.state space.old) first xs
         → AreReadable (R.state space.old) sought.now.hash xs → NotDamaged result }
     ensures cost { R.tells → (xs : List ℕ) → AreEntries (R.state space.old) first xs
         → ReadsAtMost (length xs + 55 * count_hashed (R.state space.old).records sought.now.hash xs)
@@ -91,7 +91,7 @@ fn add_node<R: Reads>(
         (is_picked (R.state space.old).records sought.now.key sought.now.hash
         sought.now.value.now x)
         (entry_node (R.state space.old).records x ∷ []) []) }
-    ensures sound { R.tells → (x : ℕ) → rec.now ≡ index_rec (R.state space.old).records x
+    ensures not_damaged { R.tells → (x : ℕ) → rec.now ≡ index_rec (R.state space.old).records x
         → (entry_hash (R.state space.old).records x ≡ sought.now.hash
         → IsListedNode (R.state space.old) (entry_node (R.state space.old).records x))
         → NotDamaged result }

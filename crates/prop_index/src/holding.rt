@@ -28,7 +28,7 @@ use std::cmp::Ordering;
 pub(crate) fn owner_of<R: Reads>(space: &R, node: u32, named: Damage) -> Result<Owner, Damage>
     ensures owner { IfOk result IsOwner }
     ensures is { IfOk result (λ owner. owner ≡ node_owner node) }
-    ensures sound { HasRoom (R.state space.now) nodes_file
+    ensures not_damaged { HasRoom (R.state space.now) nodes_file
         → node < high (R.state space.now).records nodes_file → IsOk result }
     ensures low { OnOk result (node < high (R.state space.now).records nodes_file) }
     ensures damaged { IfErr result (IsOwnerDamage (R.state space.now) node named) }
@@ -63,7 +63,7 @@ pub(crate) fn holds<R: Reads>(
 ) -> Result<bool, Fault>
     ensures met { R.tells → IfOk result (λ held. held ≡ has_value value.now
         (value_in (properties_met (R.state space.old).records (node_owner node)) key)) }
-    ensures sound { R.tells → IsListedNode (R.state space.old) node → NotDamaged result }
+    ensures not_damaged { R.tells → IsListedNode (R.state space.old) node → NotDamaged result }
     ensures damaged { R.tells → (d b count : ℕ) (rec : Rec)
         → IsEntryMet (R.state space.old).records d b count entry rec
         → node ≡ entry_node (R.state space.old).records entry → IfErr result

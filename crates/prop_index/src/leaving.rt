@@ -12,7 +12,7 @@ ghost use Rattle.prop_index.specs.Leaving.{IsBetween, IsBucketChain, IsDropped, 
 ghost use Rattle.prop_index.specs.Leaving.{IsEntrySought, IsLedTo, IsNoneOf, SaysContent};
 ghost use Rattle.prop_index.specs.Naming.{BlamesBucket, BlamesDefinition, BlamesIndex};
 ghost use Rattle.prop_index.specs.Naming.{BlamesMark, BlamesOther};
-ghost use Rattle.prop_index.specs.Reading.{KeepsStore, damage_of};
+ghost use Rattle.prop_index.specs.Reading.{damage_of};
 ghost use Rattle.prop_index.specs.Sparing.{SparesDefinitions};
 ghost use Rattle.prop_index.specs.Touching.{TouchesIndex};
 ghost use Rattle.prop_index.specs.Blaming.{BlamesBroken};
@@ -28,6 +28,7 @@ ghost use Rattle.store_rules.specs.IndexBreaking.{AreDefinitions, LeadsToEntry};
 ghost use Rattle.store_rules.specs.Indexes.{AreIndexed, Entries, next_entry};
 ghost use Rattle.store_rules.specs.Indexes.{previous_entry, without_entry};
 ghost use Rattle.store_rules.specs.Views.{key_in, kind_at};
+ghost use Rattle.store_rules.specs.Rules.{IsWhole};
 
 use crate::entry_row::{Content, EntryRow};
 use crate::hashing::hash_of;
@@ -56,8 +57,8 @@ pub fn leave<S: Space>(
         → OnOk result (AreIndexed (S.state space.new).records
         (without_entry wanted (entry_of label key node value.now))) }
     ensures keeps { S.tells → (wanted : Entries) → AreIndexed (S.state space.old).records wanted
-        → KeepsStore (S.state space.old) → OnOk result (KeepsStore (S.state space.new)) }
-    ensures sound { S.tells → (wanted : Entries) → (free : List ℕ)
+        → IsWhole (S.state space.old) → OnOk result (IsWhole (S.state space.new)) }
+    ensures not_damaged { S.tells → (wanted : Entries) → (free : List ℕ)
         → AreIndexed (S.state space.old).records wanted
         → CanTake (S.state space.old) index_file free → NotDamaged result }
     ensures graph { S.tells → (wanted : Entries) → (free : List ℕ)
@@ -115,7 +116,7 @@ fn leave_bucket<S: Space>(
         → OnOk result (AreIndexed (S.state space.new).records
         (without_entry wanted (entry_of label key node value.now))) }
     ensures keeps { S.tells → (wanted : Entries) → AreIndexed (S.state space.old).records wanted
-        → KeepsStore (S.state space.old) → OnOk result (KeepsStore (S.state space.new)) }
+        → IsWhole (S.state space.old) → OnOk result (IsWhole (S.state space.new)) }
     ensures graph { S.tells → (wanted : Entries) → (free : List ℕ)
         → AreIndexed (S.state space.old).records wanted
         → CanTake (S.state space.old) index_file free → OnOk result
@@ -165,8 +166,8 @@ fn drop_entry<S: Space>(space: &mut S, bucket: Bucket, content: Content) -> Resu
         xs bucket.slot content) }
     ensures keeps { S.tells → (xs : List ℕ) → IsHead (S.state space.old).records bucket
         → IsBucketChain (S.state space.old).records bucket.first xs
-        → IsHeadPlace bucket.slot.place → KeepsStore (S.state space.old)
-        → OnOk result (KeepsStore (S.state space.new)) }
+        → IsHeadPlace bucket.slot.place → IsWhole (S.state space.old)
+        → OnOk result (IsWhole (S.state space.new)) }
     ensures graph { S.tells → (xs free : List ℕ) → IsHead (S.state space.old).records bucket
         → IsBucketChain (S.state space.old).records bucket.first xs
         → IsHeadPlace bucket.slot.place → CanTake (S.state space.old) index_file free

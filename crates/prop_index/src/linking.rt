@@ -11,7 +11,6 @@ ghost use Rattle.prop_index.specs.Defining.{PutsInUse};
 ghost use Rattle.prop_index.specs.Entering.{IsIndexFull};
 ghost use Rattle.prop_index.specs.Heads.{BeginsRight, IsHead, IsHeadPlace};
 ghost use Rattle.prop_index.specs.Linking.{backed_entry, linked_entry};
-ghost use Rattle.prop_index.specs.Reading.{KeepsStore};
 ghost use Rattle.prop_index.specs.Sparing.{SparesDefinitions};
 ghost use Rattle.prop_index.specs.Touching.{
   TouchesFront,
@@ -26,6 +25,7 @@ ghost use Rattle.rec_bytes.specs.Key.{IsKey};
 ghost use Rattle.rec_bytes.specs.Space.{HasCause, SameButReads, meta_of};
 ghost use Rattle.store_rules.specs.IndexChange.{IsEntryMade};
 ghost use Rattle.store_rules.specs.Views.{high, key_in, kind_at};
+ghost use Rattle.store_rules.specs.Rules.{IsWhole};
 
 use crate::entry_record::entry_record;
 use crate::entry_row::Content;
@@ -47,16 +47,16 @@ pub(crate) fn put_in_front<S: Space>(
         → CanTake (S.state space.old) index_file free
         → IfOk result (λ id. IsEntryMade (S.state space.old).records (S.state space.new).records
         id bucket.slot.id bucket.slot.place content.node content.hash) }
-    ensures keeps { S.tells → KeepsStore (S.state space.old)
+    ensures keeps { S.tells → IsWhole (S.state space.old)
         → IsHead (S.state space.old).records bucket
         → BeginsRight (S.state space.old).records bucket → IsHeadPlace bucket.slot.place
         → content.node < high (S.state space.old).records nodes_file
-        → OnOk result (KeepsStore (S.state space.new)) }
+        → OnOk result (IsWhole (S.state space.new)) }
     ensures counted { S.tells → OnOk result ((meta_of (S.state space.new) index_file).live
         ≡ (meta_of (S.state space.old) index_file).live + 1) }
     ensures fresh { S.tells
         → IfOk result (λ id. kind_at (S.state space.old).records index_file id ≡ free_kind) }
-    ensures sound { S.tells → (free : List ℕ) → CanTake (S.state space.old) index_file free
+    ensures not_damaged { S.tells → (free : List ℕ) → CanTake (S.state space.old) index_file free
         → NotDamaged result }
     ensures full { S.tells → IfErr result (IsIndexFull (S.state space.old)) }
     ensures crowded { S.tells → IfErr result (IsIndexFull (S.state space.new)) }

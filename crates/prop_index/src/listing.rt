@@ -30,7 +30,8 @@ pub fn indexes<R: Reads>(alloc: Global, space: &mut R) -> Result<Vec<IndexPair>,
         → (ix : AreIndexed (R.state space.old).records wanted)
         → IfOk result (λ pairs. pairs.items
         ≡ map (pair_of (R.state space.old).records) ix.definitions) }
-    ensures sound { R.tells → (wanted : Entries) → AreIndexed (R.state space.old).records wanted
+    ensures not_damaged { R.tells → (wanted : Entries)
+        → AreIndexed (R.state space.old).records wanted
         → HasRoom (R.state space.old) index_file → NotDamaged result }
     ensures walked { R.tells → IfOk result
         (λ pairs. ArePairsMet (R.state space.old).records pairs.items) }

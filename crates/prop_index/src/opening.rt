@@ -33,7 +33,8 @@ pub(crate) fn open_bucket<R: Reads>(
         → IfOk result (IsBucketSought (R.state space.old).records ix.definitions label key hash) }
     ensures opened { R.tells
         → IfOk result (λ found. IfSome found (IsOpened (R.state space.old).records)) }
-    ensures sound { R.tells → (wanted : Entries) → AreIndexed (R.state space.old).records wanted
+    ensures not_damaged { R.tells → (wanted : Entries)
+        → AreIndexed (R.state space.old).records wanted
         → IsRanged (meta_of (R.state space.old) index_file)
         (room_of (R.state space.old).shape index_file) → NotDamaged result }
     ensures named { R.tells → (ds : List ℕ) → AreDefinitions (R.state space.old).records ds

@@ -30,7 +30,7 @@ pub(crate) fn record_at<R: Reads>(
         → OnOk result (rec.new ≡ index_rec (R.state space.old).records id) }
     ensures used { R.tells
         → OnOk result (kind_at (R.state space.old).records index_file id ≡ kind) }
-    ensures sound { R.tells → HasRoom (R.state space.old) index_file
+    ensures not_damaged { R.tells → HasRoom (R.state space.old) index_file
         → kind_at (R.state space.old).records index_file id ≡ kind → NotDamaged result }
     ensures damaged { R.tells → IfErr result (IsReadFault (R.state space.old) id kind named) }
     ensures state { OnOk result (R.state space.new ≡ after_get (R.state space.old)) }

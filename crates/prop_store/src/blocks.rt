@@ -38,7 +38,7 @@ pub(crate) fn block_ids<R: Reads>(
     ensures once { R.tells → IfOk result (AreUsedOnce (R.state space.old).records) }
     ensures damaged { R.tells → IsTextOf (R.state space.old).records property first size
         → IfErr result (IsTextFault (R.state space.old) property) }
-    ensures sound { R.tells → (text blocks : List ℕ)
+    ensures not_damaged { R.tells → (text blocks : List ℕ)
         → HasText (rec_at (R.state space.old).records strings_file) first size text blocks
         → AreGivenOut (R.state space.old).records strings_file blocks → NotDamaged result }
     ensures at_most { ReadsAtMost 22 (R.state space.old) (R.state space.new) }
@@ -84,7 +84,7 @@ pub(crate) fn read_text<R: Reads>(
     ensures size { IfOk result (λ bytes. length bytes.items ≡ size) }
     ensures damaged { R.tells → IsTextOf (R.state space.old).records property first size
         → IfErr result (IsTextFault (R.state space.old) property) }
-    ensures sound { R.tells → (text blocks : List ℕ)
+    ensures not_damaged { R.tells → (text blocks : List ℕ)
         → HasText (rec_at (R.state space.old).records strings_file) first size text blocks
         → AreGivenOut (R.state space.old).records strings_file blocks → NotDamaged result }
     ensures at_most { ReadsAtMost ((size + 47) / 48) (R.state space.old) (R.state space.new) }
@@ -142,7 +142,7 @@ fn read_block<R: Reads>(
         → OnOk result (rec.new ≡ rec_at (R.state space.old).records strings_file id) }
     ensures small { OnOk result (id < most_ids) }
     ensures form { OnOk result (HasBlockForm rec.new size) }
-    ensures sound { R.tells → IsGivenOut (R.state space.old).records strings_file id
+    ensures not_damaged { R.tells → IsGivenOut (R.state space.old).records strings_file id
         → HasBlockForm (rec_at (R.state space.old).records strings_file id) size
         → NotDamaged result }
     ensures block { R.tells → OnOk result (IsBlockOf (R.state space.old).records id size) }

@@ -28,7 +28,7 @@ pub(crate) fn drop_property<S: Space>(space: &mut S, row: &PropertyRow) -> Resul
     requires { IsRow row.now.id row.now }
     ensures dropped { S.tells → (e : Property) → IsHeld (S.state space.old) row.now e
         → IfOk result (DropsProperty (S.state space.old) (S.state space.new) e) }
-    ensures sound { S.tells → (e : Property) → IsHeld (S.state space.old) row.now e
+    ensures not_damaged { S.tells → (e : Property) → IsHeld (S.state space.old) row.now e
         → NotDamaged result }
     ensures gone { S.tells → OnOk result
         (kind_at (S.state space.new).records properties_file row.now.id ≡ free_kind) }
@@ -60,7 +60,7 @@ pub(crate) fn drop_chain<S: Space>(
     requires first { S.tells → first ≡ first_of (S.state space.old).records owner }
     ensures dropped { S.tells → (es : List Property) → AreHeld (S.state space.old) first es
         → IfOk result (DropsProperties (S.state space.old) (S.state space.new) es) }
-    ensures sound { S.tells → (es : List Property) → AreHeld (S.state space.old) first es
+    ensures not_damaged { S.tells → (es : List Property) → AreHeld (S.state space.old) first es
         → NotDamaged result }
     ensures few_properties { IfOk result (λ dropped. dropped.properties ≤ 32) }
     ensures few_blocks { IfOk result (λ dropped. dropped.blocks ≤ 704) }

@@ -33,7 +33,7 @@ pub(crate) fn find<R: Reads>(
         (first_of (R.state space.old).records owner) es
         → IfOk result (IsSought (R.state space.old).records owner es key row.new) }
     ensures met { R.tells → IfOk result (IsMet (R.state space.old).records owner key row.new) }
-    ensures sound { R.tells → (es : List Property)
+    ensures not_damaged { R.tells → (es : List Property)
         → HasProperties (R.state space.old).records owner es → NotDamaged result }
     ensures read { R.tells → IfOk result (IsReadAt (R.state space.old).records row.new) }
     ensures damaged { R.tells → IsInUse (R.state space.old).records owner
@@ -67,7 +67,7 @@ pub(crate) fn find_from<R: Reads>(
         (first_of (R.state space.old).records owner) es
         → IfOk result (IsSought (R.state space.old).records owner es key row.new) }
     ensures met { R.tells → IfOk result (IsMet (R.state space.old).records owner key row.new) }
-    ensures sound { R.tells → (es : List Property)
+    ensures not_damaged { R.tells → (es : List Property)
         → HasProperties (R.state space.old).records owner es → NotDamaged result }
     ensures read { R.tells → IfOk result (IsReadAt (R.state space.old).records row.new) }
     ensures damaged { R.tells → IsInUse (R.state space.old).records owner

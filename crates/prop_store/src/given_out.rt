@@ -11,7 +11,7 @@ use rec_bytes::{Fault, Key, META, MOST_IDS, RANGE_RULE, Reads};
 pub(crate) fn test_link<R: Reads>(space: &R, from: Key, file: u8, id: u32) -> Result<(), Fault>
     requires { is_meta_file file ≡ true }
     ensures given { OnOk result (IsGivenOut (R.state space.now).records file id) }
-    ensures sound { IsGivenOut (R.state space.now).records file id → IsOk result }
+    ensures not_damaged { IsGivenOut (R.state space.now).records file id → IsOk result }
     ensures damaged { IfErr result (IsLinkFault (R.state space.now) from file id) }
 {
     if id >= space.meta(file).high {

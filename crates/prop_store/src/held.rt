@@ -58,7 +58,7 @@ pub(crate) fn find_held<R: Reads>(space: &mut R, owner: Owner, first: u32) -> Re
     requires first { R.tells → first ≡ first_of (R.state space.old).records owner }
     ensures found { R.tells → (es : List Property)
         → HasProperties (R.state space.old).records owner es → IfOk result (AreHeldBy es) }
-    ensures sound { R.tells → (es : List Property)
+    ensures not_damaged { R.tells → (es : List Property)
         → HasProperties (R.state space.old).records owner es → NotDamaged result }
     ensures damaged { R.tells → IsInUse (R.state space.old).records owner
         → IfErr result (BlamesBroken (R.state space.old).records (R.state space.old).shape) }

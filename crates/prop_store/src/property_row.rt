@@ -46,7 +46,7 @@ pub(crate) fn property_at<R: Reads>(
     ensures row { OnOk result (IsRow id row.new) }
     ensures got { R.tells → OnOk result
         (row.new.rec ≡ rec_at (R.state space.old).records properties_file id) }
-    ensures sound { R.tells → IsGivenOut (R.state space.old).records properties_file id
+    ensures not_damaged { R.tells → IsGivenOut (R.state space.old).records properties_file id
         → HasContent (rec_at (R.state space.old).records properties_file id)
         → NotDamaged result }
     ensures read { R.tells → OnOk result (IsReadRow (R.state space.old).records row.new) }

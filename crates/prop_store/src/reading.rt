@@ -33,7 +33,7 @@ pub fn read_key<R: Reads>(
         → IfOk result (λ value. value ≡ value_of es key) }
     ensures met { R.tells → IfOk result
         (λ value. value ≡ value_of (properties_met (R.state space.old).records owner) key) }
-    ensures sound { R.tells → (es : List Property)
+    ensures not_damaged { R.tells → (es : List Property)
         → HasProperties (R.state space.old).records owner es → NotDamaged result }
     ensures damaged { R.tells → IsInUse (R.state space.old).records owner
         → IfErr result (BlamesBroken (R.state space.old).records (R.state space.old).shape) }
@@ -70,7 +70,7 @@ pub fn read_key_from<R: Reads>(
         → IfOk result (λ value. value ≡ value_of es key) }
     ensures met { R.tells → IfOk result
         (λ value. value ≡ value_of (properties_met (R.state space.old).records owner) key) }
-    ensures sound { R.tells → (es : List Property)
+    ensures not_damaged { R.tells → (es : List Property)
         → HasProperties (R.state space.old).records owner es → NotDamaged result }
     ensures damaged { R.tells → IsInUse (R.state space.old).records owner
         → IfErr result (BlamesBroken (R.state space.old).records (R.state space.old).shape) }
@@ -105,7 +105,7 @@ pub fn read_all<R: Reads>(alloc: Global, space: &mut R, owner: Owner) -> Result<
         → IfOk result (λ props. props.items ≡ map prop_of es) }
     ensures met { R.tells → IfOk result
         (λ props. props.items ≡ map prop_of (properties_met (R.state space.old).records owner)) }
-    ensures sound { R.tells → (es : List Property)
+    ensures not_damaged { R.tells → (es : List Property)
         → HasProperties (R.state space.old).records owner es → NotDamaged result }
     ensures damaged { R.tells → IsInUse (R.state space.old).records owner
         → IfErr result (BlamesBroken (R.state space.old).records (R.state space.old).shape) }
@@ -138,7 +138,7 @@ pub fn read_all_from<R: Reads>(
         → IfOk result (λ props. props.items ≡ map prop_of es) }
     ensures met { R.tells → IfOk result
         (λ props. props.items ≡ map prop_of (properties_met (R.state space.old).records owner)) }
-    ensures sound { R.tells → (es : List Property)
+    ensures not_damaged { R.tells → (es : List Property)
         → HasProperties (R.state space.old).records owner es → NotDamaged result }
     ensures damaged { R.tells → IsInUse (R.state space.old).records owner
         → IfErr result (BlamesBroken (R.state space.old).records (R.state space.old).shape) }

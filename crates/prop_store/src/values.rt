@@ -30,7 +30,7 @@ pub(crate) fn read_value<R: Reads>(
     requires { IsRow row.now.id row.now }
     ensures met { R.tells → IfOk result (λ value. value
         ≡ value_from (rec_at (R.state space.old).records strings_file) (content_of row.now.rec)) }
-    ensures sound { R.tells → (value : StoredValue) (blocks : List ℕ)
+    ensures not_damaged { R.tells → (value : StoredValue) (blocks : List ℕ)
         → HasValue (rec_at (R.state space.old).records strings_file) row.now.rec value blocks
         → AreGivenOut (R.state space.old).records strings_file blocks → NotDamaged result }
     ensures kept { IfOk result IsKept }
@@ -62,7 +62,7 @@ pub(crate) fn value_blocks<R: Reads>(space: &mut R, row: &PropertyRow) -> Result
     ensures followed { R.tells → (value : StoredValue) (blocks : List ℕ)
         → HasValue (rec_at (R.state space.old).records strings_file) row.now.rec value blocks
         → IfOk result (λ ids. ids ≡ blocks) }
-    ensures sound { R.tells → (value : StoredValue) (blocks : List ℕ)
+    ensures not_damaged { R.tells → (value : StoredValue) (blocks : List ℕ)
         → HasValue (rec_at (R.state space.old).records strings_file) row.now.rec value blocks
         → AreGivenOut (R.state space.old).records strings_file blocks → NotDamaged result }
     ensures has { R.tells → IsReadRow (R.state space.old).records row.now

@@ -14,7 +14,7 @@ pub fn load<R: Reads>(space: &mut R, id: u32) -> Result<Option<RelRow>, RowFault
     ensures found { R.tells → IfOk result (λ row. row ≡ row_at (R.state space.old).records id) }
     ensures damaged { R.tells → IfErr result (IsRelFault (R.state space.old) id) }
     ensures known { R.tells → OnOk result (IsKnown (R.state space.old) id) }
-    ensures sound { R.tells → IsReadable (R.state space.old) id → NotDamaged result }
+    ensures not_damaged { R.tells → IsReadable (R.state space.old) id → NotDamaged result }
     ensures key { IfOk result (λ row. IfSome row (λ _. IsKey (rel_key id))) }
     ensures state { R.state space.new ≡ after_load (R.state space.old) id }
     ensures onward { R.onward space.old space.new }

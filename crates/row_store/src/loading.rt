@@ -23,7 +23,7 @@ pub fn load<T: Row, R: Reads>(space: &mut R, id: u32) -> Result<Option<T>, RowFa
         (λ row. row ≡ row_at T.Row (R.state space.old).records id) }
     ensures damaged { R.tells → IfErr result (IsRowFault T.FILE (R.state space.old) id) }
     ensures known { R.tells → OnOk result (IsKnown T.FILE (R.state space.old) id) }
-    ensures sound { R.tells → IsReadable T.FILE (R.state space.old) id → NotDamaged result }
+    ensures not_damaged { R.tells → IsReadable T.FILE (R.state space.old) id → NotDamaged result }
     ensures key { IfOk result (λ row. IfSome row (λ _. IsKey (key_in T.FILE id))) }
     ensures state { R.state space.new ≡ after_load T.FILE (R.state space.old) id }
     ensures onward { R.onward space.old space.new }

@@ -11,6 +11,7 @@ use Rattle.store_rules.specs.Rows.{collect, ids}
 use Rattle.store_rules.specs.Views.{NodeRow, Records, RelRow, high, kind_at, node_at, rec_at}
 use Rattle.store_rules.specs.Views.{rel_at}
 use Rattle.store_rules.specs.Views.{text_of}
+use Rattle.rec_bytes.specs.Space.{State}
 
 abbrev pub node_from : (ℕ → Rec) → PropertyRecords → Option NodeRow → Option Node
 node_from name_file files None = None
@@ -79,3 +80,7 @@ graph_of records = record {
   names = names_of records;
   indexes = indexes_of records;
 }
+
+-- the graph of the records of a space
+abbrev pub graph_in : State → Graph
+graph_in s = graph_of s.records

@@ -8,7 +8,7 @@ use Rattle.rec_bytes.specs.declared.shape.Shape.{Shape}
 use Rattle.rec_bytes.specs.Format as format
 use Rattle.rec_bytes.specs.RecordFiles.{is_meta_file}
 use Rattle.rec_bytes.specs.Record.{field}
-use Rattle.rec_bytes.specs.Space.{meta_in}
+use Rattle.rec_bytes.specs.Space.{State, meta_in}
 use Rattle.plain_graph.specs.Names.{IsShortName}
 use Rattle.store_rules.specs.Chains.{In, IsChain, IsWalk, next_in, prev_in}
 use Rattle.store_rules.specs.Ranges.{AreInRange, is_reused}
@@ -345,3 +345,7 @@ pub record KeepsRules (records : Records) (shape : Shape) (most : ℕ) (empty : 
 -- the records of a well-formed store of this shape, whatever its indexes are
 abbrev pub IsWellFormed : Records → Shape → Type 0
 IsWellFormed records shape = KeepsRules records shape shape.threshold []
+
+-- so are the records of a space
+abbrev pub IsWhole : State → Type 0
+IsWhole s = IsWellFormed s.records s.shape

@@ -26,7 +26,8 @@ ghost use Rattle.traversal_run.specs.Source.{left_of};
 ghost use Rattle.plain_graph.specs.Graph.{Graph};
 ghost use Rattle.traversal_run.specs.Stage.{counts_past, is_count, limit_left, with_more};
 ghost use Rattle.traversal_run.specs.Stop.{HasStopCause, MayStop, StopsAtBroken};
-ghost use Rattle.traversal_run.specs.Owing.{Spends, SpendsIf, count_owes, feed_owes, filter_reads, rows_owe, stage_reads, vertex_reads};
+ghost use Rattle.traversal_run.specs.Owing.{Spends, SpendsIf, count_owes, feed_owes, filter_reads};
+ghost use Rattle.traversal_run.specs.Owing.{rows_owe, stage_reads, vertex_reads};
 ghost use Rattle.prop_store.specs.Reading.{ReadsAtMost};
 ghost use Rattle.store_rules.specs.Views.{Records};
 ghost use Rattle.plain_graph.specs.declared.item.Item.{Item};
@@ -359,7 +360,8 @@ fn passes_at<R: Reads>(
         ≡ passes (graph_of (R.state space.old).records) filter.now (items.Vertex id)) }
     ensures damaged { R.tells → IfErr result
         (BlamesBroken (R.state space.old).records (R.state space.old).shape) }
-    ensures at_most { ReadsAtMost (filter_reads filter.now) (R.state space.old) (R.state space.new) }
+    ensures at_most { ReadsAtMost (filter_reads filter.now)
+        (R.state space.old) (R.state space.new) }
     ensures read { IsRead R.Reads space.old space.new }
     ensures cause { HasFaultCause (R.faults space.old) (R.faults space.new) result }
 {

@@ -86,7 +86,8 @@ fn filtered<R: Reads>(
         ≡ filtered (graph_of (R.state space.old).records) filter.now item) }
     ensures damaged { R.tells → IfErr result
         (BlamesBroken (R.state space.old).records (R.state space.old).shape) }
-    ensures at_most { ReadsAtMost (filter_reads filter.now) (R.state space.old) (R.state space.new) }
+    ensures at_most { ReadsAtMost (filter_reads filter.now)
+        (R.state space.old) (R.state space.new) }
     ensures read { IsRead R.Reads space.old space.new }
     ensures cause { HasFaultCause (R.faults space.old) (R.faults space.new) result }
 {

@@ -25,7 +25,7 @@ use Rattle.recovery.specs.Finding.{IsMade, IsRecoverable}
 use Rattle.txn_core.specs.Config.{Suits, shape_of}
 use Rattle.txn_core.specs.Kept.{IsKept}
 use Rattle.record_file.specs.MetaFile.{AreMetasOf}
-use Rattle.txn_core.specs.Opening.{HasOnly, HasOpeningEntry, IsOldOrNew, IsOldOrRaised, IsRefusal, IsStore, OnlyDiffers}
+use Rattle.txn_core.specs.Opening.{HasOnly, HasOpeningEntry, HoldsStore, IsOldOrNew, IsOldOrRaised, IsRefusal, OnlyDiffers}
 use Rattle.txn_core.specs.Opening.{Opens, RefusesOpening, StaysAsItWas, made_over, raising_entries}
 use Rattle.txn_core.specs.declared.open_fault.OpenFault.{OpenFault}
 use Rattle.txn_core.specs.declared.open_fault.OpenFault.TheVariants.{Memory, Disk, NotAStore, Damaged, ConfigDiffers}
@@ -42,13 +42,14 @@ redoes_unique content a b one other =
 some_same : {X : Type 0} (x y : X) → let one : Option X = Some x in one ≡ Some y → x ≡ y
 some_same x y e = cc
 
-pub one_shape : (content : Files) (space : Key → Rec) (shape other : Shape) → IsStore content shape → Redoes content space → IsMade space other → other ≡ shape
+pub one_shape : (content : Files) (space : Key → Rec) (shape other : Shape) → HoldsStore content shape → Redoes content space → IsMade space other
+    → other ≡ shape
 one_shape content space shape other made redoes has =
     some_same other shape
     (sym has.own ∙ ap (λ (records : Key → Rec). shape_of_record (records own_key)) (redoes_unique content space made.space redoes made.redoes) ∙ made.made.own)
 
 -- where none was made there is none
-pub none_made : (content : Files) (shape : Shape) → IsUnmade content → IsStore content shape → ⊥
+pub none_made : (content : Files) (shape : Shape) → IsUnmade content → HoldsStore content shape → ⊥
 none_made content shape unmade made =
     let same : made.space ≡ record_at content = redoes_unique content made.space (record_at content) made.redoes
     (record { entries = []; tail = 0; log = unmade.log; makes = refl }) in
@@ -62,7 +63,8 @@ settled_read g old new reads told settled file below image left place = settled 
     ∙ sym (reads.keeps file place)
 
 -- the store that is read, as it is in the newest version
-pub made_opened : (content mid : Files) (config : Config) (shape found : Shape) (space : Key → Rec) (made : IsStore content found) → record_at mid ≡ made.space
+pub made_opened : (content mid : Files) (config : Config) (shape found : Shape) (space : Key → Rec) (made : HoldsStore content found)
+    → record_at mid ≡ made.space
     → shape ≡ found → Suits config found → space ≡ raised found (record_at mid) → Opens content config shape space
 made_opened content mid config shape found space made same found_is suits is =
     inr (
@@ -74,7 +76,7 @@ made_opened content mid config shape found space made same found_is suits is =
     )
 
 -- and what its log has then
-pub made_log : (content mid now : Files) (shape found : Shape) (made : IsStore content found) → record_at mid ≡ made.space → shape ≡ found
+pub made_log : (content mid now : Files) (shape found : Shape) (made : HoldsStore content found) → record_at mid ≡ made.space → shape ≡ found
     → HasOnly now (raising_entries found (record_at mid)) → HasOpeningEntry content shape now
 made_log content mid now shape found made same found_is log =
     inr (
@@ -156,14 +158,14 @@ if_ok_on (Ok x) P p = p
 if_ok_on (Err e) P p = tt
 
 -- a store of another shape than is asked for is refused so
-pub refuses_differs : (content : Files) (config : Config) (shape : Shape) (fault : OpenFault) → IsStore content shape → OnlyDiffers shape config fault
+pub refuses_differs : (content : Files) (config : Config) (shape : Shape) (fault : OpenFault) → HoldsStore content shape → OnlyDiffers shape config fault
     → RefusesOpening content config fault
 refuses_differs content config shape Memory store only = tt
 refuses_differs content config shape Disk store only = tt
 refuses_differs content config shape NotAStore store only = absurd only
 refuses_differs content config shape (Damaged damage) store only = absurd only
 refuses_differs content config shape (ConfigDiffers stored asked) store only =
-    (subst (IsStore content) (sym only.0) store, only.1, λ suits. only.2 (subst (Suits config) only.0 suits))
+    (subst (HoldsStore content) (sym only.0) store, only.1, λ suits. only.2 (subst (Suits config) only.0 suits))
 
 pub differs_untouched : {T : Type 0} (config : Config) (shape : Shape) (fault : OpenFault) → OnlyDiffers shape config fault → IsRefusal fault → T
 differs_untouched config shape Memory only is = absurd is

@@ -18,10 +18,10 @@ use Rattle.recovery.specs.RecoverFault.{meta_rule}
 use Rattle.recovery.specs.declared.recover_fault.RecoverFault.TheVariants as recover
 use Rattle.txn_core.specs.Base.{committed, content}
 use Rattle.txn_core.specs.Kept.{IsOnDisk}
-use Rattle.txn_core.specs.Opening.{IsStore}
 use Rattle.txn_core.specs.declared.again_fault.AgainFault.{AgainFault}
 use Rattle.txn_core.specs.declared.again_fault.AgainFault.TheVariants.{Disk, Damaged}
 use Rattle.txn_core.specs.declared.base.Base.{Base}
+use Rattle.txn_core.specs.Opening.{HoldsStore}
 
 -- the store's own record breaks the rule of the meta records
 abbrev pub own_damage : Damage
@@ -36,7 +36,7 @@ IsOld space = version_of (space own_key) < newest_version
 abbrev pub IsAnother : Files → Shape → Type 0
 IsAnother content shape =
     Refuses content recover.NotAStore
-    ⊎ (IsUnmade content ⊎ (((other : Shape) × IsStore content other × ¬ (other ≡ shape))
+    ⊎ (IsUnmade content ⊎ (((other : Shape) × HoldsStore content other × ¬ (other ≡ shape))
     ⊎ ((space : Key → Rec) × Redoes content space × IsOld space)))
 
 -- Why the store of this shape is not served again.
@@ -50,7 +50,7 @@ RefusesAgain content shape (Damaged damage) =
 pub record IsRecovered {D : Type 0} {g : Ghosts D} (old new : Base D g) : Type 0 where
   pub space : g.tells_reads → (space : Key → Rec) → Redoes (content old) space
       → committed new ≡ space
-  pub store : g.tells_reads → IsStore (content old) old.shape
+  pub store : g.tells_reads → HoldsStore (content old) old.shape
   pub newest : g.tells_reads → ¬ IsOld (committed new)
   pub changed : new.changed.pairs ≡ []
   pub tail : new.tail ≡ 0

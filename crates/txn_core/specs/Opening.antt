@@ -32,7 +32,7 @@ abbrev pub made_over : Files → Shape → Key → Rec
 made_over content shape = laid_over (record_at content) (creation_pairs shape)
 
 -- a store of this shape stands in the content
-pub record IsStore (content : Files) (shape : Shape) : Type 0 where
+pub record HoldsStore (content : Files) (shape : Shape) : Type 0 where
   pub space : Key → Rec
   pub redoes : Redoes content space
   pub made : IsMade space shape
@@ -80,7 +80,7 @@ RefusesOpening content config Disk = Unit {0}
 RefusesOpening content config NotAStore = Refuses content recover.NotAStore
 RefusesOpening content config (Damaged damage) = Refuses content (recover.Damaged damage)
 RefusesOpening content config (ConfigDiffers stored asked) =
-    IsStore content stored × (asked ≡ config) × ¬ Suits config stored
+    HoldsStore content stored × (asked ≡ config) × ¬ Suits config stored
 
 -- why a store that stands is not opened: memory or the disk, or another shape is asked for
 abbrev pub OnlyDiffers : Shape → Config → OpenFault → Type 0
@@ -118,7 +118,7 @@ pub record StaysAsItWas {D : Type 0} (g : Ghosts D) (old new : D) (space : Key �
 pub record IsClean (content : Files) : Type 0 where
   pub no_entry : content log_file 0 ≢ open_byte
   pub shape : Shape
-  pub store : IsStore content shape
+  pub store : HoldsStore content shape
   pub newest : newest_version ≤ version_of (store.space own_key)
 
 -- the files are refused for what they hold

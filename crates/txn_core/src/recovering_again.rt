@@ -23,7 +23,7 @@ ghost use Rattle.recovery.specs.Finding.{IsCareful, IsMade};
 ghost use Rattle.txn_core.specs.Again.{IsOld, IsRecovered, RefusesAgain, own_damage};
 ghost use Rattle.txn_core.specs.Base.{SameStore, content};
 ghost use Rattle.record_file.specs.MetaFile.{AreMetasOf};
-ghost use Rattle.txn_core.specs.Opening.{IsStore};
+ghost use Rattle.txn_core.specs.Opening.{HoldsStore};
 
 use crate::AgainFault;
 use crate::base::Base;
@@ -89,7 +89,7 @@ fn find_again<D: Disk>(disk: &mut D, shape: Shape) -> Result<MetaFile, AgainFaul
         → OnOk result (record_at (D.reads disk.new) ≡ space) }
     ensures emptied { D.tells_reads → OnOk result (HasEntries (D.reads disk.new) [] 0) }
     ensures settled { D.tells_reads → D.tells_images → OnOk result (IsAllSettled D.Disk disk.new) }
-    ensures store { D.tells_reads → OnOk result (IsStore (D.reads disk.old) shape) }
+    ensures store { D.tells_reads → OnOk result (HoldsStore (D.reads disk.old) shape) }
     ensures newest { D.tells_reads → OnOk result (¬ IsOld (record_at (D.reads disk.new))) }
     ensures metas { D.tells_reads
         → IfOk result (λ metas. AreMetasOf (record_at (D.reads disk.new)) metas.records) }

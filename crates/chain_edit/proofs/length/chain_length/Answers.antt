@@ -80,8 +80,8 @@ returns-in_err-read_next-clause-breaks g c = λ tells head key first owns right.
     c.loop-count.before c.loop-count.at
     c.in_err-read_next.field-0.0 c.loop-count.invariant.read c.if-at.false (c.loop-count.invariant.rest tells) (c.in_err-read_next.ensures.damaged tells)))
 
-pub returns-in_err-read_next-clause-sound : goal.returns-in_err-read_next-clause-sound
-returns-in_err-read_next-clause-sound g c = λ tells mark xs chain.
+pub returns-in_err-read_next-clause-not_damaged : goal.returns-in_err-read_next-clause-not_damaged
+returns-in_err-read_next-clause-not_damaged g c = λ tells mark xs chain.
     let s = g.R.Reads.state c.args.space.now in
     let p = err_from_is_err_and c.from_residual.result c.from_residual.ensures.1 in
     rw (p.1, p.2) (undamaged s c.args.chain.now.owner c.args.chain.now.first c.args.chain.now.node c.args.members xs c.in_err-read_next.field-0.0 mark chain
@@ -125,8 +125,8 @@ returns-then-not-is_member-clause-breaks g c = λ tells head key first owns righ
     (NoChain (no_member s c.args.chain.now.first c.args.chain.now.node c.args.members c.loop-count.before at c.read_next.new.rec c.if-at.false low got
     (sym c.is_member.ensures ∙ c.if-not-is_member.true) (c.loop-count.invariant.rest tells))))
 
-pub returns-then-not-is_member-clause-sound : goal.returns-then-not-is_member-clause-sound
-returns-then-not-is_member-clause-sound g c = λ tells mark xs chain.
+pub returns-then-not-is_member-clause-not_damaged : goal.returns-then-not-is_member-clause-not_damaged
+returns-then-not-is_member-clause-not_damaged g c = λ tells mark xs chain.
     let s = g.R.Reads.state c.args.space.now in
     let now = g.R.Reads.state c.loop-count.space in
     let n = c.loop-count.count in

@@ -160,8 +160,8 @@ returns-in_err-rec-clause-damaged g c _ = space_has _ tt tt c.from_residual.resu
 pub returns-in_err-rec-clause-breaks : goal.returns-in_err-rec-clause-breaks
 returns-in_err-rec-clause-breaks g c _ _ _ = space_has _ tt tt c.from_residual.result c.in_err-rec.field-0.0 c.from_residual.ensures.1
 
-pub returns-in_err-rec-clause-sound : goal.returns-in_err-rec-clause-sound
-returns-in_err-rec-clause-sound g c _ _ = space_has _ tt tt c.from_residual.result c.in_err-rec.field-0.0 c.from_residual.ensures.1
+pub returns-in_err-rec-clause-not_damaged : goal.returns-in_err-rec-clause-not_damaged
+returns-in_err-rec-clause-not_damaged g c _ _ = space_has _ tt tt c.from_residual.result c.in_err-rec.field-0.0 c.from_residual.ensures.1
 
 pub returns-in_err-rec-clause-unwritten : goal.returns-in_err-rec-clause-unwritten
 returns-in_err-rec-clause-unwritten g c = space_has _ tt tt c.from_residual.result c.in_err-rec.field-0.0 c.from_residual.ensures.1
@@ -172,8 +172,8 @@ returns-in_err-back-clause-damaged g c _ = space_has _ tt tt c.from_residual-in_
 pub returns-in_err-back-clause-breaks : goal.returns-in_err-back-clause-breaks
 returns-in_err-back-clause-breaks g c _ _ _ = space_has _ tt tt c.from_residual-in_err-back.result c.in_err-back.field-0.0 c.from_residual-in_err-back.ensures.1
 
-pub returns-in_err-back-clause-sound : goal.returns-in_err-back-clause-sound
-returns-in_err-back-clause-sound g c _ _ = space_has _ tt tt c.from_residual-in_err-back.result c.in_err-back.field-0.0 c.from_residual-in_err-back.ensures.1
+pub returns-in_err-back-clause-not_damaged : goal.returns-in_err-back-clause-not_damaged
+returns-in_err-back-clause-not_damaged g c _ _ = space_has _ tt tt c.from_residual-in_err-back.result c.in_err-back.field-0.0 c.from_residual-in_err-back.ensures.1
 
 pub returns-in_err-back-clause-unwritten : goal.returns-in_err-back-clause-unwritten
 returns-in_err-back-clause-unwritten g c = space_has _ tt tt c.from_residual-in_err-back.result c.in_err-back.field-0.0 c.from_residual-in_err-back.ensures.1
@@ -186,8 +186,8 @@ pub returns-in_err-set_next-clause-breaks : goal.returns-in_err-set_next-clause-
 returns-in_err-set_next-clause-breaks g c _ _ _ = space_has _ tt tt c.from_residual-in_err-set_next.result c.in_err-set_next.field-0.0
     c.from_residual-in_err-set_next.ensures.1
 
-pub returns-in_err-set_next-clause-sound : goal.returns-in_err-set_next-clause-sound
-returns-in_err-set_next-clause-sound g c _ _ = space_has _ tt tt c.from_residual-in_err-set_next.result c.in_err-set_next.field-0.0
+pub returns-in_err-set_next-clause-not_damaged : goal.returns-in_err-set_next-clause-not_damaged
+returns-in_err-set_next-clause-not_damaged g c _ _ = space_has _ tt tt c.from_residual-in_err-set_next.result c.in_err-set_next.field-0.0
     c.from_residual-in_err-set_next.ensures.1
 
 pub returns-in_err-set_next-clause-unwritten : goal.returns-in_err-set_next-clause-unwritten
@@ -200,8 +200,8 @@ returns-in_err-put-clause-damaged g c _ = space_has _ tt tt c.from_residual-in_e
 pub returns-in_err-put-clause-breaks : goal.returns-in_err-put-clause-breaks
 returns-in_err-put-clause-breaks g c _ _ _ = space_has _ tt tt c.from_residual-in_err-put.result c.in_err-put.field-0.0 c.from_residual-in_err-put.ensures.1
 
-pub returns-in_err-put-clause-sound : goal.returns-in_err-put-clause-sound
-returns-in_err-put-clause-sound g c _ _ = space_has _ tt tt c.from_residual-in_err-put.result c.in_err-put.field-0.0 c.from_residual-in_err-put.ensures.1
+pub returns-in_err-put-clause-not_damaged : goal.returns-in_err-put-clause-not_damaged
+returns-in_err-put-clause-not_damaged g c _ _ = space_has _ tt tt c.from_residual-in_err-put.result c.in_err-put.field-0.0 c.from_residual-in_err-put.ensures.1
 
 pub returns-in_err-put-clause-unwritten : goal.returns-in_err-put-clause-unwritten
 returns-in_err-put-clause-unwritten g c = space_has _ tt tt c.from_residual-in_err-put.result c.in_err-put.field-0.0 c.from_residual-in_err-put.ensures.1

@@ -114,8 +114,8 @@ returns-in_err-behind-clause-breaks g c = λ tells row live lone.
     (behind_blames s s1 (head_of c.args.head) c.args.node c.args.rel c.link-before.result c.link-after.result c.in_err-behind.field-0.0
     c.in_ok-rec.ensures.state before after (c.in_err-behind.ensures.damaged tells)))
 
-pub returns-in_err-behind-clause-sound : goal.returns-in_err-behind-clause-sound
-returns-in_err-behind-clause-sound g c = λ tells _ _ xs can.
+pub returns-in_err-behind-clause-not_damaged : goal.returns-in_err-behind-clause-not_damaged
+returns-in_err-behind-clause-not_damaged g c = λ tells _ _ xs can.
     let s = g.S.Reads.state c.args.space.now in
     let s1 = g.S.Reads.state c.get.new.self in
     let before : c.link-before.result ≡ prev_of s.records c.args.node c.args.rel =
@@ -157,8 +157,8 @@ returns-in_err-lead-clause-breaks g c = λ tells row live lone.
     rw (p.1, p.2) (blames_breaks s (head_of c.args.head) c.args.node c.args.rel row c.in_err-lead.field-0.0 live lone (lead_blames s s2 (head_of c.args.head)
     c.args.node c.args.rel c.link-before.result c.in_err-lead.field-0.0 same before (c.in_err-lead.ensures.damaged tells)))
 
-pub returns-in_err-lead-clause-sound : goal.returns-in_err-lead-clause-sound
-returns-in_err-lead-clause-sound g c = λ tells _ _ xs can.
+pub returns-in_err-lead-clause-not_damaged : goal.returns-in_err-lead-clause-not_damaged
+returns-in_err-lead-clause-not_damaged g c = λ tells _ _ xs can.
     let s = g.S.Reads.state c.args.space.now in
     let s1 = g.S.Reads.state c.get.new.self in
     let s2 = g.S.Reads.state c.read_behind.new.space in
@@ -702,8 +702,8 @@ returns-in_err-rec-clause-damaged g c _ = space_has _ tt tt c.from_residual.resu
 pub returns-in_err-rec-clause-breaks : goal.returns-in_err-rec-clause-breaks
 returns-in_err-rec-clause-breaks g c _ _ _ _ = space_has _ tt tt c.from_residual.result c.in_err-rec.field-0.0 c.from_residual.ensures.1
 
-pub returns-in_err-rec-clause-sound : goal.returns-in_err-rec-clause-sound
-returns-in_err-rec-clause-sound g c _ _ _ _ _ = space_has _ tt tt c.from_residual.result c.in_err-rec.field-0.0 c.from_residual.ensures.1
+pub returns-in_err-rec-clause-not_damaged : goal.returns-in_err-rec-clause-not_damaged
+returns-in_err-rec-clause-not_damaged g c _ _ _ _ _ = space_has _ tt tt c.from_residual.result c.in_err-rec.field-0.0 c.from_residual.ensures.1
 
 pub returns-in_err-rec-clause-unwritten : goal.returns-in_err-rec-clause-unwritten
 returns-in_err-rec-clause-unwritten g c = space_has _ tt tt c.from_residual.result c.in_err-rec.field-0.0 c.from_residual.ensures.1
@@ -714,8 +714,8 @@ returns-in_err-put-clause-damaged g c _ = space_has _ tt tt c.from_residual-in_e
 pub returns-in_err-put-clause-breaks : goal.returns-in_err-put-clause-breaks
 returns-in_err-put-clause-breaks g c _ _ _ _ = space_has _ tt tt c.from_residual-in_err-put.result c.in_err-put.field-0.0 c.from_residual-in_err-put.ensures.1
 
-pub returns-in_err-put-clause-sound : goal.returns-in_err-put-clause-sound
-returns-in_err-put-clause-sound g c _ _ _ _ _ = space_has _ tt tt c.from_residual-in_err-put.result c.in_err-put.field-0.0 c.from_residual-in_err-put.ensures.1
+pub returns-in_err-put-clause-not_damaged : goal.returns-in_err-put-clause-not_damaged
+returns-in_err-put-clause-not_damaged g c _ _ _ _ _ = space_has _ tt tt c.from_residual-in_err-put.result c.in_err-put.field-0.0 c.from_residual-in_err-put.ensures.1
 
 pub returns-in_err-put-clause-unwritten : goal.returns-in_err-put-clause-unwritten
 returns-in_err-put-clause-unwritten g c = space_has _ tt tt c.from_residual-in_err-put.result c.in_err-put.field-0.0 c.from_residual-in_err-put.ensures.1
@@ -728,8 +728,8 @@ pub returns-in_err-write_behind-clause-breaks : goal.returns-in_err-write_behind
 returns-in_err-write_behind-clause-breaks g c _ _ _ _ = space_has _ tt tt c.from_residual-in_err-write_behind.result c.in_err-write_behind.field-0.0
     c.from_residual-in_err-write_behind.ensures.1
 
-pub returns-in_err-write_behind-clause-sound : goal.returns-in_err-write_behind-clause-sound
-returns-in_err-write_behind-clause-sound g c _ _ _ _ _ = space_has _ tt tt c.from_residual-in_err-write_behind.result c.in_err-write_behind.field-0.0
+pub returns-in_err-write_behind-clause-not_damaged : goal.returns-in_err-write_behind-clause-not_damaged
+returns-in_err-write_behind-clause-not_damaged g c _ _ _ _ _ = space_has _ tt tt c.from_residual-in_err-write_behind.result c.in_err-write_behind.field-0.0
     c.from_residual-in_err-write_behind.ensures.1
 
 pub returns-in_err-write_behind-clause-unwritten : goal.returns-in_err-write_behind-clause-unwritten
@@ -744,8 +744,8 @@ pub returns-in_err-write_lead-clause-breaks : goal.returns-in_err-write_lead-cla
 returns-in_err-write_lead-clause-breaks g c _ _ _ _ = space_has _ tt tt c.from_residual-in_err-write_lead.result c.in_err-write_lead.field-0.0
     c.from_residual-in_err-write_lead.ensures.1
 
-pub returns-in_err-write_lead-clause-sound : goal.returns-in_err-write_lead-clause-sound
-returns-in_err-write_lead-clause-sound g c _ _ _ _ _ = space_has _ tt tt c.from_residual-in_err-write_lead.result c.in_err-write_lead.field-0.0
+pub returns-in_err-write_lead-clause-not_damaged : goal.returns-in_err-write_lead-clause-not_damaged
+returns-in_err-write_lead-clause-not_damaged g c _ _ _ _ _ = space_has _ tt tt c.from_residual-in_err-write_lead.result c.in_err-write_lead.field-0.0
     c.from_residual-in_err-write_lead.ensures.1
 
 pub returns-in_err-write_lead-clause-unwritten : goal.returns-in_err-write_lead-clause-unwritten

@@ -102,8 +102,8 @@ returns-in_err-read_next-clause-breaks g c = λ tells head key first owns enough
     (c.args.budget - c.loop.counter) c.loop.at c.in_err-read_next.field-0.0 c.loop.invariant.read c.if-at.false (c.loop.invariant.left tells)
     (c.in_err-read_next.ensures.damaged tells)))
 
-pub returns-in_err-read_next-clause-sound : goal.returns-in_err-read_next-clause-sound
-returns-in_err-read_next-clause-sound g c = λ tells mark xs sound.
+pub returns-in_err-read_next-clause-not_damaged : goal.returns-in_err-read_next-clause-not_damaged
+returns-in_err-read_next-clause-not_damaged g c = λ tells mark xs sound.
     let s = g.R.Reads.state c.args.space.now in
     let p = err_from_is_err_and c.from_residual.result c.from_residual.ensures.1 in
     rw (p.1, p.2) (undamaged s c.args.chain.now.owner c.args.chain.now.first c.args.chain.now.node c.args.budget xs c.in_err-read_next.field-0.0 mark sound
@@ -194,8 +194,8 @@ returns-in_err-push-clause-damaged g c _ = same_has _ c.from_residual-in_err-pus
 pub returns-in_err-push-clause-breaks : goal.returns-in_err-push-clause-breaks
 returns-in_err-push-clause-breaks g c _ _ _ _ _ _ = same_has _ c.from_residual-in_err-push.result _ c.from_residual-in_err-push.ensures.1 tt
 
-pub returns-in_err-push-clause-sound : goal.returns-in_err-push-clause-sound
-returns-in_err-push-clause-sound g c _ _ _ _ = same_has _ c.from_residual-in_err-push.result _ c.from_residual-in_err-push.ensures.1 tt
+pub returns-in_err-push-clause-not_damaged : goal.returns-in_err-push-clause-not_damaged
+returns-in_err-push-clause-not_damaged g c _ _ _ _ = same_has _ c.from_residual-in_err-push.result _ c.from_residual-in_err-push.ensures.1 tt
 
 pub returns-in_err-read_next-clause-onward : goal.returns-in_err-read_next-clause-onward
 returns-in_err-read_next-clause-onward g c = g.met.R.Reads.further_onward _ _ _ c.loop.invariant.onward c.in_err-read_next.ensures.onward

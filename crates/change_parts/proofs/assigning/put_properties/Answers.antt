@@ -139,10 +139,10 @@ loop-assignment-preserved g c =
       later = let a = inv.later in let b = c.add.ensures.cause.later in omega arith;
     }
 
-pub returns-in_err-add-clause-sound : goal.returns-in_err-add-clause-sound
-returns-in_err-add-clause-sound g c tells names target is can room =
+pub returns-in_err-add-clause-not_damaged : goal.returns-in_err-add-clause-not_damaged
+returns-in_err-add-clause-not_damaged g c tells names target is can room =
     let inv = c.loop-assignment.invariant in
-    let at = (goal.at.returns-in_err-add-clause-sound g c).After-index-pairs-assignment in
+    let at = (goal.at.returns-in_err-add-clause-not_damaged g c).After-index-pairs-assignment in
     let s = g.S.Reads.state c.args.space.now in
     let t = g.S.Reads.state c.loop-assignment.space in
     let pairs = c.args.pairs.now in

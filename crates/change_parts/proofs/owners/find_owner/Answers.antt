@@ -1,6 +1,5 @@
 use Rattle.std.proofs.Common.{◌≡◌, true, ◌∙◌, subst, sym, rules}
 use Rattle.plain_graph.specs.Graph.{has_element}
-use Rattle.change_parts.specs.Store.{graph_in}
 use Rattle.change_parts.specs.ChangeFault.{of_row}
 use Rattle.change_parts.specs.Damage.{BlamesBroken}
 use Rattle.change_parts.specs.Owners.{MayMiss}
@@ -11,6 +10,7 @@ use Rattle.change_parts.specs.Owners.{IsAbsent}
 use Rattle.change_parts.proofs.Causes.{edge_absent, node_absent}
 use Rattle.rec_bytes.proofs.Causes.{never_ok}
 use Rattle.change_parts.proofs.owners.find_owner.Goals as goal
+use Rattle.store_rules.specs.Graph.{graph_in}
 
 pub returns-in-Some-clause-there : goal.returns-in-Some-clause-there
 returns-in-Some-clause-there g c tells =

@@ -10,7 +10,7 @@ use Rattle.change_parts.specs.Assigning.{HasPropertyRoom, IsReserveFault, assign
 use Rattle.change_parts.specs.Change.{IsCounted, IsRefusedBy}
 use Rattle.change_parts.specs.ChangeFault.{LeavesSpace, of_intern}
 use Rattle.change_parts.specs.Preparing.{IsLineCause, line_reasons}
-use Rattle.change_parts.specs.Store.{IsMidway, KeepsElements, graph_in}
+use Rattle.change_parts.specs.Store.{IsMidway, KeepsElements}
 use Rattle.change_parts.proofs.Counted.{assign_counted, count_full, reserve_counted}
 use Rattle.change_parts.proofs.Exits.{fault_exit, late_leaves}
 use Rattle.change_parts.proofs.Interned.{keeps_interned, keeps_then, metas_interned, metas_then, name_written, one_written}
@@ -27,6 +27,7 @@ use Rattle.rec_bytes.proofs.Causes.{never_ok, ok_cause}
 use Rattle.change_parts.proofs.preparing.prepare.Goals as goal
 use Rattle.change_parts.proofs.preparing.prepare.Goals.{After-assign_pairs, After-intern, In_ok-assigned, In_ok-label}
 use Rattle.change_parts.proofs.preparing.prepare.Given.{Over}
+use Rattle.store_rules.specs.Graph.{graph_in}
 
 pub returns-in_err-label-clause-refused : goal.returns-in_err-label-clause-refused
 returns-in_err-label-clause-refused g c tells store =

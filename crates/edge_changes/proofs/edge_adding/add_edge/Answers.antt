@@ -21,7 +21,7 @@ use Rattle.edge_changes.specs.EdgeEnds.{AtEach, source_of, target_of}
 use Rattle.edge_changes.specs.EdgePlacing.{HadFewGroups, IsEdgeBetween, PutsEdge}
 use Rattle.change_parts.specs.Degrees.{HasDegree}
 use Rattle.change_parts.specs.Preparing.{IsPrepared}
-use Rattle.change_parts.specs.Store.{IsMidway, graph_in}
+use Rattle.change_parts.specs.Store.{IsMidway}
 use Rattle.store_rules.specs.Indexes.{AreIndexed, wanted_in}
 use Rattle.edge_changes.proofs.EdgeAdded.{can_put, degree_kept, edges_refused, lacks_full, line_refused, made, not_full, put_room, room_kept}
 use Rattle.change_parts.proofs.Counted.{absent_counted, counted_read, outside_counted, room_counted}
@@ -52,6 +52,7 @@ use Rattle.edge_changes.proofs.edge_adding.add_edge.Goals.{After-put_properties,
 use Rattle.edge_changes.proofs.edge_adding.add_edge.Goals.{In_err-put_properties, In_ok-ends, In_ok-id, In_ok-prepared}
 use Rattle.edge_changes.proofs.edge_adding.add_edge.Goals.{In_ok-put_properties, In_ok-test_room}
 use Rattle.edge_changes.proofs.edge_adding.add_edge.Given.{Over}
+use Rattle.store_rules.specs.Graph.{graph_in}
 
 -- ---- an end is no node
 pub returns-in_err-ends-clause-refused : goal.returns-in_err-ends-clause-refused
@@ -160,7 +161,7 @@ edge_outside : (g : Over) (c : In_err-id g) → g.S.Reads.tells → IsMidway (g.
 edge_outside g c tells store =
     let at = goal.at.In_err-id g c in
     let hand = at_hand g at.In_ok-prepared tells store in
-    c.in_err-id.ensures.sound tells (limit_kept g at.In_ok-prepared tells store) c.prepare.new.names.names c.args.label.now hand.kept.store hand.label_is
+    c.in_err-id.ensures.not_damaged tells (limit_kept g at.In_ok-prepared tells store) c.prepare.new.names.names c.args.label.now hand.kept.store hand.label_is
     (degrees_kept g at.In_ok-prepared tells store)
     (room_kept (g.S.Reads.state c.end_degrees.new.space) c.args.names.now.names (kept g at.In_ok-ends tells store) (g.S.Reads.state c.prepare.new.space)
     c.prepare.new.names.names hand.kept c.in_ok-test_room.ensures.room)
@@ -218,7 +219,7 @@ properties_outside : (g : Over) (c : In_err-put_properties g) → g.S.Reads.tell
     → IsOutside c.in_err-put_properties.field-0.0
 properties_outside g c tells store =
     let at = goal.at.In_err-put_properties g c in
-    c.in_err-put_properties.ensures.sound tells c.prepare.new.names.names (targets.Edge c.in_ok-id.id) c.edge_owner.ensures
+    c.in_err-put_properties.ensures.not_damaged tells c.prepare.new.names.names (targets.Edge c.in_ok-id.id) c.edge_owner.ensures
     (can g at.After-put_properties tells store)
     (subst (λ l. HasPropertyRoom (g.S.Reads.state c.put_edge.new.space) (length l) (assigned_blocks c.as_slice-pairs.result.now l)) (sym c.deref.ensures.0)
     (put_room (g.S.Reads.state c.end_degrees.new.space) (g.S.Reads.state c.prepare.new.space) (g.S.Reads.state c.put_edge.new.space) c.args.names.now.names

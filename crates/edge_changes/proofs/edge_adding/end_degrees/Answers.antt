@@ -7,7 +7,6 @@ use Rattle.change_parts.specs.Change.{IsRefusal}
 use Rattle.edge_changes.specs.EdgeAdding.{IsUsedNode}
 use Rattle.change_parts.specs.Degrees.{HasDegree}
 use Rattle.change_parts.specs.Owners.{IsAbsent}
-use Rattle.change_parts.specs.Store.{graph_in}
 use Rattle.change_parts.specs.declared.change_fault.ChangeFault.{ChangeFault}
 use Rattle.change_parts.proofs.Causes.{absent_read}
 use Rattle.change_parts.proofs.DiskCauses.{change_cause_passed, later_on}
@@ -17,6 +16,7 @@ use Rattle.change_parts.proofs.Exits.{fault_exit}
 use Rattle.change_parts.proofs.Readings.{refused_read, store_read}
 use Rattle.rec_bytes.proofs.Causes.{never_ok, ok_cause}
 use Rattle.edge_changes.proofs.edge_adding.end_degrees.Goals as goal
+use Rattle.store_rules.specs.Graph.{graph_in}
 
 -- ---- an end is no node
 pub returns-in_err-from_degree-clause-refused : goal.returns-in_err-from_degree-clause-refused

@@ -15,7 +15,7 @@ use Rattle.store_rules.specs.Writes.{WritesAtMost, WritesBeside}
 use Rattle.change_parts.specs.Change.{IsRefusal}
 use Rattle.change_parts.specs.ChangeFault.{LeavesSpace, of_fault, of_row}
 use Rattle.edge_changes.specs.EdgeDeleting.{HasBareRow}
-use Rattle.change_parts.specs.Store.{IsMidway, graph_in}
+use Rattle.change_parts.specs.Store.{IsMidway}
 use Rattle.change_parts.proofs.KeptIndexes.{midway}
 use Rattle.edge_changes.proofs.Deleting.{edge_element, edge_lacked, edge_made, left_bare, left_store}
 use Rattle.change_parts.proofs.Elements.{edge_missing, same_rel}
@@ -40,6 +40,7 @@ use Rattle.rec_bytes.proofs.Causes.{never_ok, ok_cause}
 use Rattle.edge_changes.proofs.edge_deleting.delete_edge.Goals as goal
 use Rattle.edge_changes.proofs.edge_deleting.delete_edge.Goals.{After-drop_all, After-load, After-take_edge}
 use Rattle.edge_changes.proofs.edge_deleting.delete_edge.Given.{Over}
+use Rattle.store_rules.specs.Graph.{graph_in}
 
 pub returns-in_default-clause-refused : goal.returns-in_default-clause-refused
 returns-in_default-clause-refused g c tells store =
@@ -68,7 +69,7 @@ returns-in_err-dropped-clause-refused g c tells whole =
     fault_exit of_fault (IsRefusal s.shape.limit (graph_in s) (commands.Delete (targets.Edge c.args.id))) c.in_err-dropped.field-0.0
     c.from_residual-in_err-dropped.result c.from_residual-in_err-dropped.ensures.1
     (prop_refused s.shape.limit (graph_in s) (commands.Delete (targets.Edge c.args.id)) c.in_err-dropped.field-0.0
-    (c.in_err-dropped.ensures.sound tells (subst (HasElement v) (sym c.edge_owner.ensures) element)))
+    (c.in_err-dropped.ensures.not_damaged tells (subst (HasElement v) (sym c.edge_owner.ensures) element)))
 
 -- the edge before it is taken out of the chains
 module _ (g : Over) (c : After-take_edge g) (tells : g.S.Reads.tells) (store : IsMidway (g.S.Reads.state c.args.space.now) c.args.names.now.names) where
@@ -107,7 +108,7 @@ returns-in_err-take_edge-clause-refused g c tells whole =
     fault_exit (λ f. f) (IsRefusal s.shape.limit (graph_in s) (commands.Delete (targets.Edge c.args.id))) c.in_err-take_edge.field-0.0
     c.from_residual-in_err-take_edge.result c.from_residual-in_err-take_edge.ensures.1
     (outside_refused change_reasons s.shape.limit (graph_in s) (commands.Delete (targets.Edge c.args.id)) c.in_err-take_edge.field-0.0
-    (c.in_err-take_edge.ensures.sound tells c.args.names.now.names (left g at tells store) (bare g at tells store)))
+    (c.in_err-take_edge.ensures.not_damaged tells c.args.names.now.names (left g at tells store) (bare g at tells store)))
 
 pub returns-in_err-take_edge-clause-leaves : goal.returns-in_err-take_edge-clause-leaves
 returns-in_err-take_edge-clause-leaves g c =

@@ -19,18 +19,19 @@ use Rattle.rec_bytes.proofs.Causes.{never_ok, ok_cause}
 use Rattle.edge_changes.proofs.edge_deleting.edge_end.Goals as goal
 
 -- ---- why it fails
-pub returns-in_err-degree-clause-sound : goal.returns-in_err-degree-clause-sound
-returns-in_err-degree-clause-sound g c tells names store there which =
+pub returns-in_err-degree-clause-not_damaged : goal.returns-in_err-degree-clause-not_damaged
+returns-in_err-degree-clause-not_damaged g c tells names store there which =
     let s = g.S.Reads.state c.args.space.now in
     let end = end_readable s names c.args.id c.args.rel store there c.args.node which in
-    fault_exit (λ f. f) IsOutside c.in_err-degree.field-0.0 c.from_residual.result c.from_residual.ensures.1 (c.in_err-degree.ensures.sound tells end.0 end.1)
+    fault_exit (λ f. f) IsOutside c.in_err-degree.field-0.0 c.from_residual.result c.from_residual.ensures.1
+        (c.in_err-degree.ensures.not_damaged tells end.0 end.1)
 
-pub returns-in_err-head-clause-sound : goal.returns-in_err-head-clause-sound
-returns-in_err-head-clause-sound g c tells names store there which =
+pub returns-in_err-head-clause-not_damaged : goal.returns-in_err-head-clause-not_damaged
+returns-in_err-head-clause-not_damaged g c tells names store there which =
     let s = g.S.Reads.state c.args.space.now in
     let m = g.S.Reads.state c.end_degree.new.space in
     fault_exit of_fault IsOutside c.in_err-head.field-0.0 c.from_residual-in_err-head.result c.from_residual-in_err-head.ensures.1
-    (fault_outside Head c.in_err-head.field-0.0 (c.in_err-head.ensures.sound tells m.shape.threshold [] c.args.id _
+    (fault_outside Head c.in_err-head.field-0.0 (c.in_err-head.ensures.not_damaged tells m.shape.threshold [] c.args.id _
     (end_of s names c.args.id c.args.rel store there c.args.node which m c.end_degree.ensures.state c.at-side.result c.at-side.ensures)))
 
 pub returns-in_err-head-clause-failure : goal.returns-in_err-head-clause-failure

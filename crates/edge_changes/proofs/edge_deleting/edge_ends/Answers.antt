@@ -16,18 +16,19 @@ use Rattle.edge_changes.proofs.EdgeSought.{row_later}
 use Rattle.edge_changes.proofs.edge_deleting.edge_ends.Goals as goal
 
 -- ---- why it fails
-pub returns-in_err-source-clause-sound : goal.returns-in_err-source-clause-sound
-returns-in_err-source-clause-sound g c tells names store there =
+pub returns-in_err-source-clause-not_damaged : goal.returns-in_err-source-clause-not_damaged
+returns-in_err-source-clause-not_damaged g c tells names store there =
     fault_exit (λ f. f) IsOutside c.in_err-source.field-0.0 c.from_residual.result c.from_residual.ensures.1
-    (c.in_err-source.ensures.sound tells names store there (inl refl))
+    (c.in_err-source.ensures.not_damaged tells names store there (inl refl))
 
-pub returns-in_err-target-clause-sound : goal.returns-in_err-target-clause-sound
-returns-in_err-target-clause-sound g c tells names store there =
+pub returns-in_err-target-clause-not_damaged : goal.returns-in_err-target-clause-not_damaged
+returns-in_err-target-clause-not_damaged g c tells names store there =
     let s = g.S.Reads.state c.args.space.now in
     let t = g.S.Reads.state c.edge_end.new.space in
     let first = c.in_ok-source.ensures.found tells names store there (inl refl) in
     fault_exit (λ f. f) IsOutside c.in_err-target.field-0.0 c.from_residual-in_err-target.result c.from_residual-in_err-target.ensures.1
-    (c.in_err-target.ensures.sound tells names first.store (there_then s t names c.args.id c.args.rel there c.in_ok-source.source c.in_ok-source.ensures.node
+    (c.in_err-target.ensures.not_damaged tells names first.store
+        (there_then s t names c.args.id c.args.rel there c.in_ok-source.source c.in_ok-source.ensures.node
     first) (inr refl))
 
 -- ---- what it leaves

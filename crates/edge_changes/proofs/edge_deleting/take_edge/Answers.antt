@@ -13,14 +13,15 @@ use Rattle.rec_bytes.proofs.Causes.{never_ok}
 use Rattle.edge_changes.proofs.edge_deleting.take_edge.Goals as goal
 
 -- ---- why it fails
-pub returns-in_err-ends-clause-sound : goal.returns-in_err-ends-clause-sound
-returns-in_err-ends-clause-sound g c tells names store there =
-    fault_exit (λ f. f) IsOutside c.in_err-ends.field-0.0 c.from_residual.result c.from_residual.ensures.1 (c.in_err-ends.ensures.sound tells names store there)
+pub returns-in_err-ends-clause-not_damaged : goal.returns-in_err-ends-clause-not_damaged
+returns-in_err-ends-clause-not_damaged g c tells names store there =
+    fault_exit (λ f. f) IsOutside c.in_err-ends.field-0.0 c.from_residual.result c.from_residual.ensures.1
+        (c.in_err-ends.ensures.not_damaged tells names store there)
 
-pub returns-clause-sound : goal.returns-clause-sound
-returns-clause-sound g c tells names store there =
+pub returns-clause-not_damaged : goal.returns-clause-not_damaged
+returns-clause-not_damaged g c tells names store there =
     let found = c.in_ok-ends.ensures.found tells names store there in
-    c.unlink_edge.ensures.sound tells names found.store found.bare
+    c.unlink_edge.ensures.not_damaged tells names found.store found.bare
 
 -- ---- what it leaves
 pub returns-clause-taken : goal.returns-clause-taken

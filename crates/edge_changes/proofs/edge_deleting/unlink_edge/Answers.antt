@@ -19,33 +19,33 @@ use Rattle.rec_bytes.proofs.Causes.{never_ok}
 use Rattle.edge_changes.proofs.edge_deleting.unlink_edge.Goals as goal
 
 -- ---- why it fails
-pub returns-in_err-part_edge-clause-sound : goal.returns-in_err-part_edge-clause-sound
-returns-in_err-part_edge-clause-sound g c tells names store bare =
+pub returns-in_err-part_edge-clause-not_damaged : goal.returns-in_err-part_edge-clause-not_damaged
+returns-in_err-part_edge-clause-not_damaged g c tells names store bare =
     fault_exit (λ f. f) IsOutside c.in_err-part_edge.field-0.0 c.from_residual.result c.from_residual.ensures.1
-    (c.in_err-part_edge.ensures.sound tells names store bare)
+    (c.in_err-part_edge.ensures.not_damaged tells names store bare)
 
-pub returns-in_err-close_chain-in-Loop-clause-sound : goal.returns-in_err-close_chain-in-Loop-clause-sound
-returns-in_err-close_chain-in-Loop-clause-sound g c tells names store bare =
+pub returns-in_err-close_chain-in-Loop-clause-not_damaged : goal.returns-in_err-close_chain-in-Loop-clause-not_damaged
+returns-in_err-close_chain-in-Loop-clause-not_damaged g c tells names store bare =
     let s = g.S.Reads.state c.args.space.now in
     let u = g.S.Reads.state c.part_edge.new.space in
     let parts = subst (PartsEdge s u names c.args.id) c.in-Loop.is (c.in_ok-part_edge.ensures.parted tells names store bare) in
     fault_exit of_fault IsOutside c.in_err-close_chain-in-Loop.field-0.0 c.from_residual-in_err-close_chain-in-Loop.result
     c.from_residual-in_err-close_chain-in-Loop.ensures.1
-    (fault_outside Unit c.in_err-close_chain-in-Loop.field-0.0 (c.in_err-close_chain-in-Loop.ensures.sound tells _ _
+    (fault_outside Unit c.in_err-close_chain-in-Loop.field-0.0 (c.in_err-close_chain-in-Loop.ensures.not_damaged tells _ _
     (source_closes s u names c.args.id (Loop c.in-Loop.end) (subst (IsBareEdge s c.args.id) c.in-Loop.is bare) parts)))
 
-pub returns-in_err-close_chain-in-Two-clause-sound : goal.returns-in_err-close_chain-in-Two-clause-sound
-returns-in_err-close_chain-in-Two-clause-sound g c tells names store bare =
+pub returns-in_err-close_chain-in-Two-clause-not_damaged : goal.returns-in_err-close_chain-in-Two-clause-not_damaged
+returns-in_err-close_chain-in-Two-clause-not_damaged g c tells names store bare =
     let s = g.S.Reads.state c.args.space.now in
     let u = g.S.Reads.state c.part_edge.new.space in
     let parts = subst (PartsEdge s u names c.args.id) c.in-Two.is (c.in_ok-part_edge.ensures.parted tells names store bare) in
     fault_exit of_fault IsOutside c.in_err-close_chain-in-Two.field-0.0 c.from_residual-in_err-close_chain-in-Two.result
     c.from_residual-in_err-close_chain-in-Two.ensures.1
-    (fault_outside Unit c.in_err-close_chain-in-Two.field-0.0 (c.in_err-close_chain-in-Two.ensures.sound tells _ _
+    (fault_outside Unit c.in_err-close_chain-in-Two.field-0.0 (c.in_err-close_chain-in-Two.ensures.not_damaged tells _ _
     (source_closes s u names c.args.id (Two c.in-Two.source c.in-Two.target) (subst (IsBareEdge s c.args.id) c.in-Two.is bare) parts)))
 
-pub returns-in_err-close_chain-in-Two-2-clause-sound : goal.returns-in_err-close_chain-in-Two-2-clause-sound
-returns-in_err-close_chain-in-Two-2-clause-sound g c tells names store bare =
+pub returns-in_err-close_chain-in-Two-2-clause-not_damaged : goal.returns-in_err-close_chain-in-Two-2-clause-not_damaged
+returns-in_err-close_chain-in-Two-2-clause-not_damaged g c tells names store bare =
     let s = g.S.Reads.state c.args.space.now in
     let u = g.S.Reads.state c.part_edge.new.space in
     let v = g.S.Reads.state c.close_chain-in-Two.new.space in
@@ -55,7 +55,7 @@ returns-in_err-close_chain-in-Two-2-clause-sound g c tells names store bare =
     let differ : c.in-Two.source.node ≢ c.in-Two.target.node = subst (AreApart (λ (end : EdgeEnd). end.node)) c.in-Two.is c.requires.ends.apart in
     fault_exit of_fault IsOutside c.in_err-close_chain-in-Two-2.field-0.0 c.from_residual-in_err-close_chain-in-Two-2.result
     c.from_residual-in_err-close_chain-in-Two-2.ensures.1
-    (fault_outside Unit c.in_err-close_chain-in-Two-2.field-0.0 (c.in_err-close_chain-in-Two-2.ensures.sound tells _ _
+    (fault_outside Unit c.in_err-close_chain-in-Two-2.field-0.0 (c.in_err-close_chain-in-Two-2.ensures.not_damaged tells _ _
     (target_closes s u names c.args.id ends here parts v (c.in_ok-close_chain-in-Two.ensures.closed tells _ _ (source_closes s u names c.args.id ends here
     parts)) differ refl)))
 

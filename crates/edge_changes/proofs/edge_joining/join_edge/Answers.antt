@@ -20,18 +20,18 @@ use Rattle.edge_changes.proofs.EdgeFound.{chain_more, found_then, placed_then}
 use Rattle.edge_changes.proofs.FreeEdges.{ends_free, placed_takes, taken_before}
 use Rattle.edge_changes.proofs.edge_joining.join_edge.Goals as goal
 
-pub returns-in_err-id-clause-sound : goal.returns-in_err-id-clause-sound
-returns-in_err-id-clause-sound g c tells names text can at room =
+pub returns-in_err-id-clause-not_damaged : goal.returns-in_err-id-clause-not_damaged
+returns-in_err-id-clause-not_damaged g c tells names text can at room =
     fault_exit (λ f. f) IsOutside c.in_err-id.field-0.0 c.from_residual.result c.from_residual.ensures.1
-    (c.in_err-id.ensures.sound tells _ can.empty can.keeps room)
+    (c.in_err-id.ensures.not_damaged tells _ can.empty can.keeps room)
 
-pub returns-in_err-join_ends-clause-sound : goal.returns-in_err-join_ends-clause-sound
-returns-in_err-join_ends-clause-sound g c tells names text can at room =
+pub returns-in_err-join_ends-clause-not_damaged : goal.returns-in_err-join_ends-clause-not_damaged
+returns-in_err-join_ends-clause-not_damaged g c tells names text can at room =
     let s = g.S.Reads.state c.args.space.now in
     let t = g.S.Reads.state c.place.new.space in
     let placed = subst (λ (p : ℕ × ℕ). HasPlaced s t c.args.label p.0 p.1 c.in_ok-id.id) c.nodes-from.ensures (c.in_ok-id.ensures.placed tells) in
     fault_exit (λ f. f) IsOutside c.in_err-join_ends.field-0.0 c.from_residual-in_err-join_ends.result c.from_residual-in_err-join_ends.ensures.1
-    (c.in_err-join_ends.ensures.sound tells (firsts_right s t names c.args.label text c.args.ends c.in_ok-id.id can at placed))
+    (c.in_err-join_ends.ensures.not_damaged tells (firsts_right s t names c.args.label text c.args.ends c.in_ok-id.id can at placed))
 
 pub returns-clause-joined : goal.returns-clause-joined
 returns-clause-joined g c tells names text can at =

@@ -31,9 +31,10 @@ use Rattle.edge_changes.proofs.edge_joining.place.Goals as goal
 use Rattle.edge_changes.proofs.edge_joining.place.Goals.{After-save, In_ok-id}
 use Rattle.edge_changes.proofs.edge_joining.place.Given.{Over}
 
-pub returns-in_err-id-clause-sound : goal.returns-in_err-id-clause-sound
-returns-in_err-id-clause-sound g c tells most empty keeps room =
-    fault_exit (λ f. f) IsOutside c.in_err-id.field-0.0 c.from_residual.result c.from_residual.ensures.1 (c.in_err-id.ensures.sound tells most empty keeps room)
+pub returns-in_err-id-clause-not_damaged : goal.returns-in_err-id-clause-not_damaged
+returns-in_err-id-clause-not_damaged g c tells most empty keeps room =
+    fault_exit (λ f. f) IsOutside c.in_err-id.field-0.0 c.from_residual.result c.from_residual.ensures.1
+        (c.in_err-id.ensures.not_damaged tells most empty keeps room)
 
 -- the shape after the identifier was taken
 took : (g : Over) (c : In_ok-id g) → g.S.Reads.tells → (g.S.Reads.state c.take_id.new.space).shape ≡ (g.S.Reads.state c.args.space.now).shape

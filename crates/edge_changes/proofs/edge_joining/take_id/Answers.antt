@@ -13,10 +13,10 @@ use Rattle.group_store.proofs.Leadings.{taken_grown}
 use Rattle.rel_store.specs.Loading.{rel_mark}
 use Rattle.edge_changes.proofs.edge_joining.take_id.Goals as goal
 
-pub returns-in-Err-Damaged-clause-sound : goal.returns-in-Err-Damaged-clause-sound
-returns-in-Err-Damaged-clause-sound g c tells most empty keeps room =
+pub returns-in-Err-Damaged-clause-not_damaged : goal.returns-in-Err-Damaged-clause-not_damaged
+returns-in-Err-Damaged-clause-not_damaged g c tells most empty keeps room =
     subst (λ (f : TakeFault). NotDamaged {T = ℕ} (Err f)) c.in-Err-Damaged.field-0-is
-    (c.in-Err-Damaged.ensures.sound tells _ (kept_can_take (g.S.Reads.state c.args.space.now) format.relationships_file refl refl keeps))
+    (c.in-Err-Damaged.ensures.not_damaged tells _ (kept_can_take (g.S.Reads.state c.args.space.now) format.relationships_file refl refl keeps))
 
 -- ---- which record is blamed
 pub returns-in-Err-Full-clause-damaged : goal.returns-in-Err-Full-clause-damaged

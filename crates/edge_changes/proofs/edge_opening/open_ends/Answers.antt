@@ -34,13 +34,13 @@ use Rattle.edge_changes.proofs.edge_opening.open_ends.Goals.{In_ok-first-in-Two}
 use Rattle.edge_changes.proofs.edge_opening.open_ends.Given.{Over}
 
 -- ---- a loop
-pub returns-in_err-only-in-Loop-clause-sound : goal.returns-in_err-only-in-Loop-clause-sound
-returns-in_err-only-in-Loop-clause-sound g c tells names can room =
+pub returns-in_err-only-in-Loop-clause-not_damaged : goal.returns-in_err-only-in-Loop-clause-not_damaged
+returns-in_err-only-in-Loop-clause-not_damaged g c tells names can room =
     let s = g.S.Reads.state c.args.space.now in
     let joint = joint_of c.args.joint (Loop c.in-Loop.end) in
     let here = can_link s names c.args.joint (Loop c.in-Loop.end) c.in-Loop.is can in
     fault_exit (λ f. f) IsOutside c.in_err-only-in-Loop.field-0.0 c.from_residual.result c.from_residual.ensures.1
-    (c.in_err-only-in-Loop.ensures.sound tells _ [] (source_can s names joint here sides.Loop (loop_side c.in-Loop.end.node) 0)
+    (c.in_err-only-in-Loop.ensures.not_damaged tells _ [] (source_can s names joint here sides.Loop (loop_side c.in-Loop.end.node) 0)
     (source_room s names joint here room))
 
 pub returns-in_ok-only-in-Loop-clause-opened : goal.returns-in_ok-only-in-Loop-clause-opened
@@ -85,8 +85,8 @@ returns-in_ok-last-in-Two-clause-meta_record g c tells =
     ∙ meta_beside s t c.in-Two.source.node (c.in_ok-first-in-Two.ensures.leaves_others tells)
 
 -- ---- two nodes
-pub returns-in_err-first-in-Two-clause-sound : goal.returns-in_err-first-in-Two-clause-sound
-returns-in_err-first-in-Two-clause-sound g c tells names can room =
+pub returns-in_err-first-in-Two-clause-not_damaged : goal.returns-in_err-first-in-Two-clause-not_damaged
+returns-in_err-first-in-Two-clause-not_damaged g c tells names can room =
     let s = g.S.Reads.state c.args.space.now in
     let a = c.in-Two.source in
     let b = c.in-Two.target in
@@ -94,7 +94,7 @@ returns-in_err-first-in-Two-clause-sound g c tells names can room =
     let here = can_link s names c.args.joint (Two a b) c.in-Two.is can in
     let differ : a.node ≢ b.node = subst (AreApart (λ (end : EndDegree). end.node)) c.in-Two.is c.requires.apart in
     fault_exit (λ f. f) IsOutside c.in_err-first-in-Two.field-0.0 c.from_residual-in_err-first-in-Two.result c.from_residual-in_err-first-in-Two.ensures.1
-    (c.in_err-first-in-Two.ensures.sound tells _ [] (source_can s names joint here sides.Out (out_side a.node b.node differ) 0)
+    (c.in_err-first-in-Two.ensures.not_damaged tells _ [] (source_can s names joint here sides.Out (out_side a.node b.node differ) 0)
     (source_room s names joint here room))
 
 -- the ends are at two nodes
@@ -114,9 +114,9 @@ first_open g c tells names can id =
     c.in_ok-first-in-Two.ensures.opened tells _ [] (source_can (g.S.Reads.state c.args.space.now) names (joint_of c.args.joint
     (Two c.in-Two.source c.in-Two.target)) (here_can g c names can) sides.Out (out_side c.in-Two.source.node c.in-Two.target.node (differs g c)) id)
 
-pub returns-in_err-last-in-Two-clause-sound : goal.returns-in_err-last-in-Two-clause-sound
-returns-in_err-last-in-Two-clause-sound g c tells names can room =
-    let at = (goal.at.returns-in_err-last-in-Two-clause-sound g c).In_ok-first-in-Two in
+pub returns-in_err-last-in-Two-clause-not_damaged : goal.returns-in_err-last-in-Two-clause-not_damaged
+returns-in_err-last-in-Two-clause-not_damaged g c tells names can room =
+    let at = (goal.at.returns-in_err-last-in-Two-clause-not_damaged g c).In_ok-first-in-Two in
     let s = g.S.Reads.state c.args.space.now in
     let t = g.S.Reads.state c.open_end-in-Two.new.space in
     let joint = joint_of c.args.joint (Two c.in-Two.source c.in-Two.target) in
@@ -125,7 +125,8 @@ returns-in_err-last-in-Two-clause-sound g c tells names can room =
     let one = first_open g at tells names can in
     let differ = differs g at in
     fault_exit (λ f. f) IsOutside c.in_err-last-in-Two.field-0.0 c.from_residual-in_err-last-in-Two.result c.from_residual-in_err-last-in-Two.ensures.1
-    (c.in_err-last-in-Two.ensures.sound tells _ _ (target_can s names joint here t head one differ sides.In (in_side c.in-Two.source.node c.in-Two.target.node
+    (c.in_err-last-in-Two.ensures.not_damaged tells _ _ (target_can s names joint here t head one differ sides.In
+        (in_side c.in-Two.source.node c.in-Two.target.node
     differ) 0) (target_room s names joint here t head one differ room))
 
 pub returns-in_ok-last-in-Two-clause-opened : goal.returns-in_ok-last-in-Two-clause-opened

@@ -13,14 +13,14 @@ use Rattle.edge_changes.proofs.EdgeBlames.{groups_given, groups_then, heads_give
 use Rattle.rec_bytes.proofs.Causes.{never_ok, ok_cause}
 use Rattle.edge_changes.proofs.edge_parting.part_edge.Goals as goal
 
-pub returns-in_err-part_ends-clause-sound : goal.returns-in_err-part_ends-clause-sound
-returns-in_err-part_ends-clause-sound g c tells names store bare =
+pub returns-in_err-part_ends-clause-not_damaged : goal.returns-in_err-part_ends-clause-not_damaged
+returns-in_err-part_ends-clause-not_damaged g c tells names store bare =
     let s = g.S.Reads.state c.args.space.now in
     fault_exit (λ f. f) IsOutside c.in_err-part_ends.field-0.0 c.from_residual.result c.from_residual.ensures.1
-    (c.in_err-part_ends.ensures.sound tells (links_right s names c.args.id c.args.ends store bare c.requires.ends.apart))
+    (c.in_err-part_ends.ensures.not_damaged tells (links_right s names c.args.id c.args.ends store bare c.requires.ends.apart))
 
-pub returns-in_err-give-clause-sound : goal.returns-in_err-give-clause-sound
-returns-in_err-give-clause-sound g c tells names store bare =
+pub returns-in_err-give-clause-not_damaged : goal.returns-in_err-give-clause-not_damaged
+returns-in_err-give-clause-not_damaged g c tells names store bare =
     fault_exit of_space IsOutside c.in_err-give.field-0.0 c.from_residual-in_err-give.result c.from_residual-in_err-give.ensures.1
     (space_outside c.in_err-give.field-0.0)
 

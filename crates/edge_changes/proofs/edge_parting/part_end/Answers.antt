@@ -25,10 +25,10 @@ returns-in_err-set_number-clause-cause g c =
     space_cause_passed _ _ _ c.from_residual-in_err-set_number.result c.in_err-set_number.field-0.0 c.in_ok-unlink_counted.ensures.cause.later
     c.in_err-set_number.ensures.cause c.from_residual-in_err-set_number.ensures.1
 
-pub returns-in_err-unlink_counted-clause-sound : goal.returns-in_err-unlink_counted-clause-sound
-returns-in_err-unlink_counted-clause-sound g c tells links =
+pub returns-in_err-unlink_counted-clause-not_damaged : goal.returns-in_err-unlink_counted-clause-not_damaged
+returns-in_err-unlink_counted-clause-not_damaged g c tells links =
     fault_exit of_fault IsOutside c.in_err-unlink_counted.field-0.0 c.from_residual.result c.from_residual.ensures.1
-    (fault_outside (Unit {0}) c.in_err-unlink_counted.field-0.0 (c.in_err-unlink_counted.ensures.sound tells links.0 links.1 links.2 links.3))
+    (fault_outside (Unit {0}) c.in_err-unlink_counted.field-0.0 (c.in_err-unlink_counted.ensures.not_damaged tells links.0 links.1 links.2 links.3))
 
 -- ---- which record is blamed, and heads that stay
 pub returns-in_err-unlink_counted-clause-damaged : goal.returns-in_err-unlink_counted-clause-damaged

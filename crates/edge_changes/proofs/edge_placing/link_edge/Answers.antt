@@ -32,11 +32,11 @@ use Rattle.rec_bytes.proofs.Causes.{never_ok}
 use Rattle.edge_changes.proofs.FreeEdges.{taken_after}
 use Rattle.edge_changes.proofs.edge_placing.link_edge.Goals as goal
 
-pub returns-in_err-ends-clause-sound : goal.returns-in_err-ends-clause-sound
-returns-in_err-ends-clause-sound g c tells limit names text store at degrees room =
+pub returns-in_err-ends-clause-not_damaged : goal.returns-in_err-ends-clause-not_damaged
+returns-in_err-ends-clause-not_damaged g c tells limit names text store at degrees room =
     let s = g.S.Reads.state c.args.space.now in
     fault_exit (λ f. f) IsOutside c.in_err-ends.field-0.0 c.from_residual.result c.from_residual.ensures.1
-    (c.in_err-ends.ensures.sound tells names (record {
+    (c.in_err-ends.ensures.not_damaged tells names (record {
       limit = limit;
       store = store;
       named = (number_in s.records names c.args.joint.label text store.names
@@ -76,8 +76,8 @@ returns-clause-is g c tells =
 pub returns-in_err-ends-clause-is : goal.returns-in_err-ends-clause-is
 returns-in_err-ends-clause-is g c _ = never_ok c.from_residual.result _ _ c.from_residual.ensures.1
 
-pub returns-clause-sound : goal.returns-clause-sound
-returns-clause-sound g c tells limit names text store at degrees room =
+pub returns-clause-not_damaged : goal.returns-clause-not_damaged
+returns-clause-not_damaged g c tells limit names text store at degrees room =
     let s = g.S.Reads.state c.args.space.now in
     let t = g.S.Reads.state c.open_ends.new.space in
     let opens = c.in_ok-ends.ensures.opened tells names (record {
@@ -87,7 +87,7 @@ returns-clause-sound g c tells limit names text store at degrees room =
           store.names at).0;
       degrees = degrees;
     }) in
-    c.join_edge.ensures.sound tells names text opens.can at
+    c.join_edge.ensures.not_damaged tells names text opens.can at
     (room_still s t format.relationships_file 1 (ap (λ (m : Meta). m.live) (opens.keeps.metas format.relationships_file (λ e. omega arith))) opens.keeps.shape
     room)
 

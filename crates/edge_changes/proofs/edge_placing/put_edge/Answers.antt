@@ -3,10 +3,10 @@ use Rattle.edge_changes.specs.EdgeOpening.{from_of, to_of}
 use Rattle.edge_changes.proofs.FullGroups.{told_broken, told_cause, told_fault, told_few, told_outside, told_put}
 use Rattle.edge_changes.proofs.edge_placing.put_edge.Goals as goal
 
-pub returns-in-Err-clause-sound : goal.returns-in-Err-clause-sound
-returns-in-Err-clause-sound g c tells limit names text store at degrees room =
+pub returns-in-Err-clause-not_damaged : goal.returns-in-Err-clause-not_damaged
+returns-in-Err-clause-not_damaged g c tells limit names text store at degrees room =
     told_outside (g.S.Reads.state c.link_edge.new.space) c.in-Err.fault c.tell_full.result c.tell_full.ensures
-    (c.in-Err.ensures.sound tells limit names text store at degrees room)
+    (c.in-Err.ensures.not_damaged tells limit names text store at degrees room)
 
 pub returns-in-Err-clause-damaged : goal.returns-in-Err-clause-damaged
 returns-in-Err-clause-damaged g c tells used limit room =

@@ -6,22 +6,24 @@ use Rattle.rec_bytes.specs.Space.{State}
 use Rattle.store_rules.specs.Rows.{option_list}
 use Rattle.expand.specs.declared.expand_fault.ExpandFault.{ExpandFault}
 use Rattle.expand.specs.Degrees.{rows_count}
-use Rattle.expand.specs.Expanding.{AreNameNumbers, IsRowOf, IsStore, graph_in, name_of, rows_of}
+use Rattle.expand.specs.Expanding.{AreNameNumbers, IsRowOf, name_of, rows_of}
 use Rattle.expand.specs.Matching.{rows_at}
 use Rattle.expand.proofs.DenseDegrees.{if_degree}
 use Rattle.expand.proofs.ModelEdges.{names_stand, rows_at_are}
 use Rattle.expand.proofs.RowCounts.{count_rows_at}
 use Rattle.expand.proofs.degrees.degree.Goals as goal
+use Rattle.store_rules.specs.Rules.{IsWhole}
+use Rattle.store_rules.specs.Graph.{graph_in}
 
 module _ (s : State) (direction : Direction) (node : ℕ) (r : Result ℕ ExpandFault) where
   -- the number, by its type or for all
   abbrev Counted : Option ℕ → Type 0
-  Counted label = IfOk r (λ count. IsStore s → count ≡ rows_count direction (option_list label) node (rows_of s.records))
+  Counted label = IfOk r (λ count. IsWhole s → count ≡ rows_count direction (option_list label) node (rows_of s.records))
 
-  listed : (label : Option ℕ) → Counted label → IfOk r (λ count. IsStore s → count ≡ length (rows_at direction (option_list label) node (rows_of s.records)))
+  listed : (label : Option ℕ) → Counted label → IfOk r (λ count. IsWhole s → count ≡ length (rows_at direction (option_list label) node (rows_of s.records)))
   listed label = if_degree r (λ count h store. h store ∙ count_rows_at direction (option_list label) node (rows_of s.records))
 
-  edged : (label : Option ℕ) → Counted label → IfOk r (λ count. IsStore s → AreNameNumbers s.records (option_list label) → count ≡ length (edges_at (graph_in s)
+  edged : (label : Option ℕ) → Counted label → IfOk r (λ count. IsWhole s → AreNameNumbers s.records (option_list label) → count ≡ length (edges_at (graph_in s)
       direction (map (name_of s.records) (option_list label)) node))
   edged label = if_degree r (λ count h store names.
       let labels = option_list label in

@@ -5,10 +5,10 @@ use Rattle.rel_store.specs.Loading.{rel_mark}
 use Rattle.chain_edit.proofs.Causes.{same_has}
 use Rattle.group_store.specs.Loading.{group_mark}
 use Rattle.expand.specs.Costs.{type_count}
-use Rattle.expand.specs.Expanding.{graph_in}
 use Rattle.expand.proofs.Causes.{same_cause_passed}
 use Rattle.expand.proofs.UnknownTypes.{no_count, one_first, one_more, one_most}
 use Rattle.expand.proofs.degrees.degree_of.Goals as goal
+use Rattle.store_rules.specs.Graph.{graph_in}
 
 -- ---- no number is a name's, and the node isn't found out about
 

@@ -9,7 +9,7 @@ use Rattle.chain_edit.specs.Walking.{ReadsAtMost}
 use Rattle.group_store.specs.Loading.{group_mark}
 use Rattle.expand.specs.Costs.{type_count}
 use Rattle.expand.specs.Degrees.{as_number, rows_count}
-use Rattle.expand.specs.Expanding.{graph_in, rows_of}
+use Rattle.expand.specs.Expanding.{rows_of}
 use Rattle.expand.proofs.DenseDegrees.{if_degree, loaded_counted, loaded_degree, number_is, one_read}
 use Rattle.expand.proofs.LoadedRows.{can_walk, chain_fault, chain_tells, dense_at_most, dense_fault, dense_most}
 use Rattle.expand.proofs.LoadedRows.{load_most, mid_row, dense_tells, dense_test, members, none_there, one_there}
@@ -19,6 +19,7 @@ use Rattle.expand.proofs.RowCounts.{part_count}
 use Rattle.rec_bytes.proofs.Causes.{never_ok, ok_cause}
 use Rattle.expand.proofs.Causes.{expand_cause_passed, row_cause_passed}
 use Rattle.expand.proofs.degrees.met_count.Goals as goal
+use Rattle.store_rules.specs.Graph.{graph_in}
 
 pub returns-in_err-row-clause-damaged : goal.returns-in_err-row-clause-damaged
 returns-in_err-row-clause-damaged g c = λ tells.

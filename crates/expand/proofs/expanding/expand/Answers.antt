@@ -9,12 +9,13 @@ use Rattle.rel_store.specs.Loading.{rel_mark}
 use Rattle.chain_edit.specs.Walking.{ReadsAtMost}
 use Rattle.chain_edit.proofs.Causes.{same_has}
 use Rattle.group_store.specs.Loading.{group_mark}
-use Rattle.expand.specs.Expanding.{AreRowsOf, graph_in, name_of}
+use Rattle.expand.specs.Expanding.{AreRowsOf, name_of}
 use Rattle.expand.proofs.Causes.{same_cause_passed}
 use Rattle.expand.proofs.ManyEdges.{most_is_dense}
 use Rattle.expand.proofs.ModelEdges.{names_stand, rows_at_are}
 use Rattle.expand.proofs.UnknownTypes.{no_rows, one_dense, one_more, one_most}
 use Rattle.expand.proofs.expanding.expand.Goals as goal
+use Rattle.store_rules.specs.Graph.{graph_in}
 
 -- ---- no number is a name's, and the node isn't found out about
 

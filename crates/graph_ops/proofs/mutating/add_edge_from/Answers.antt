@@ -1,13 +1,13 @@
 use Rattle.std.proofs.Common.{◌∷◌, [], ⊎_elim, ap, sym, subst}
 use Rattle.std.specs.Prelude.{IfErr}
 use Rattle.plain_graph.specs.declared.item.Item.{Item}
-use Rattle.change_parts.specs.Store.{graph_in}
 use Rattle.graph_ops.specs.Mutating.{IsListCaused, IsListRefusal, command_from, steps_for}
 use Rattle.plain_graph.specs.Mutations.{changes_of, vertex_id}
 use Rattle.graph_ops.proofs.Parts.{none_from, result_refused}
 use Rattle.rec_bytes.specs.Format as format
 use Rattle.graph_ops.proofs.NewIds.{shows_none}
 use Rattle.graph_ops.proofs.mutating.add_edge_from.Goals as goal
+use Rattle.store_rules.specs.Graph.{graph_in}
 
 pub returns-in-Vertex-clause-refused : goal.returns-in-Vertex-clause-refused
 returns-in-Vertex-clause-refused g c told store =

@@ -3,7 +3,6 @@ use Rattle.std.proofs.lemmas.List.{take_all}
 use Rattle.plain_graph.specs.Reply.{Reply}
 use Rattle.plain_graph.specs.declared.command.Command.{Command}
 use Rattle.plain_graph.specs.declared.item.Item.{Item}
-use Rattle.change_parts.specs.Store.{graph_in}
 use Rattle.graph_ops.specs.Mutating.{IsListCaused, MakesPart, steps_for}
 use Rattle.change_parts.proofs.Exits.{fault_exit}
 use Rattle.plain_graph.specs.Mutations.{changes_of, new_elements}
@@ -14,6 +13,7 @@ use Rattle.rec_bytes.proofs.Causes.{never_ok, ok_cause}
 use Rattle.rec_bytes.specs.Format as format
 use Rattle.graph_ops.proofs.NewIds.{shows_then}
 use Rattle.graph_ops.proofs.mutating.add_edges.Goals as goal
+use Rattle.store_rules.specs.Graph.{graph_in}
 
 pub returns-in_err-more-clause-refused : goal.returns-in_err-more-clause-refused
 returns-in_err-more-clause-refused g c told store =

@@ -6,9 +6,9 @@ use Rattle.plain_graph.specs.declared.command.Command.TheVariants as commands
 use Rattle.plain_graph.specs.declared.command.Target.{Target}
 use Rattle.graph_ops.specs.Mutating.{MakesPart, any_replies}
 use Rattle.change_parts.specs.Change.{IsRefusal}
-use Rattle.change_parts.specs.Store.{graph_in}
 use Rattle.graph_ops.proofs.Parts.{one_result}
 use Rattle.graph_ops.proofs.mutating.delete.Goals as goal
+use Rattle.store_rules.specs.Graph.{graph_in}
 
 pub returns-in-Node-clause-part : goal.returns-in-Node-clause-part
 returns-in-Node-clause-part g c =

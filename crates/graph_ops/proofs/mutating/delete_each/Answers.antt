@@ -7,8 +7,8 @@ use Rattle.change_parts.proofs.Exits.{fault_exit}
 use Rattle.graph_ops.proofs.Parts.{making_more, next_exit, next_caused, none_part, one_caused, one_refused}
 use Rattle.graph_ops.proofs.Spreading.{deletions_spread}
 use Rattle.store_rules.proofs.RowLaws.{append_none}
-use Rattle.change_parts.specs.Store.{graph_in}
 use Rattle.graph_ops.proofs.mutating.delete_each.Goals as goal
+use Rattle.store_rules.specs.Graph.{graph_in}
 
 pub returns-in_err-more-clause-refused : goal.returns-in_err-more-clause-refused
 returns-in_err-more-clause-refused g c told store =

@@ -4,7 +4,6 @@ use Rattle.plain_graph.specs.Reply.{Reply}
 use Rattle.plain_graph.specs.declared.command.Command.TheVariants as commands
 use Rattle.plain_graph.specs.declared.item.Item.{Item}
 use Rattle.plain_graph.specs.declared.pairs.Pair.{Pair}
-use Rattle.change_parts.specs.Store.{graph_in}
 use Rattle.change_parts.proofs.Exits.{fault_exit}
 use Rattle.graph_ops.specs.Mutating.{IsListCaused, IsListRefusal, MakesMutation, MakesPart, any_replies}
 use Rattle.plain_graph.specs.Mutations.{changes_of, new_elements}
@@ -16,6 +15,7 @@ use Rattle.rec_bytes.specs.Format as format
 use Rattle.graph_ops.specs.NewIds.{GetsFreeIds}
 use Rattle.graph_ops.proofs.NewIds.{shown_have, vertex_has}
 use Rattle.graph_ops.proofs.mutating.make_changes.Goals as goal
+use Rattle.store_rules.specs.Graph.{graph_in}
 
 pub returns-in_err-weight-in-AddV-clause-refused :
     goal.returns-in_err-weight-in-AddV-clause-refused

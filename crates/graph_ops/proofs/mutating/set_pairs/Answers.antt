@@ -4,7 +4,6 @@ use Rattle.plain_graph.specs.Names.{IsShortName}
 use Rattle.plain_graph.specs.Reply.{Done}
 use Rattle.plain_graph.specs.declared.command.Command.TheVariants as commands
 use Rattle.plain_graph.specs.declared.pairs.Pair.{Pair}
-use Rattle.change_parts.specs.Store.{graph_in}
 use Rattle.change_parts.proofs.Assigned.{pair_form}
 use Rattle.graph_ops.specs.Mutating.{IsListCaused, any_replies}
 use Rattle.change_parts.proofs.Exits.{fault_exit}
@@ -13,6 +12,7 @@ use Rattle.graph_ops.proofs.Parts.{making_more, next_exit, next_caused, one_caus
 use Rattle.graph_ops.proofs.Spreading.{pairs_spread}
 use Rattle.rec_bytes.proofs.Causes.{never_ok, ok_cause}
 use Rattle.graph_ops.proofs.mutating.set_pairs.Goals as goal
+use Rattle.store_rules.specs.Graph.{graph_in}
 
 pub set-requires : goal.set-requires
 set-requires g c = subst (λ (p : Pair). IsShortName p.key × IsKept p.value) (sym c.pair-item.is)

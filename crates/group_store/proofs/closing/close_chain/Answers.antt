@@ -19,12 +19,12 @@ use Rattle.group_store.proofs.closing.close_chain.Goals as goal
 use Rattle.group_store.proofs.closing.close_chain.Goals.{After-drop_if_empty}
 use Rattle.group_store.proofs.closing.close_chain.Given.{Over}
 
-pub returns-in_err-drop_if_empty-clause-sound : goal.returns-in_err-drop_if_empty-clause-sound
-returns-in_err-drop_if_empty-clause-sound g c = λ tells most empty can.
+pub returns-in_err-drop_if_empty-clause-not_damaged : goal.returns-in_err-drop_if_empty-clause-not_damaged
+returns-in_err-drop_if_empty-clause-not_damaged g c = λ tells most empty can.
     let s = g.S.Reads.state c.args.space.now in
     let p = err_from_is_err_and c.from_residual.result c.from_residual.ensures.1 in
     let on = closable s c.args.head.key.file c.args.head.key.id c.args.head.field c.args.node most empty c.if-head-eq-GROUPS.true can in
-    rw (p.1, p.2) (handed Bool Unit c.in_err-drop_if_empty.field-0.0 (c.in_err-drop_if_empty.ensures.sound tells on.0 on.1))
+    rw (p.1, p.2) (handed Bool Unit c.in_err-drop_if_empty.field-0.0 (c.in_err-drop_if_empty.ensures.not_damaged tells on.0 on.1))
 
 -- the group's key is that of the head
 written : (g : Over) (c : After-drop_if_empty g) → (before after : ℕ) × WritesOnly (g.S.Reads.state c.args.space.now)

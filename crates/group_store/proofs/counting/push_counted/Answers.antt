@@ -43,8 +43,9 @@ returns-in_err-first-clause-unwritten g c = same_has _ c.from_residual.result _ 
 pub returns-in_err-first-clause-breaks : goal.returns-in_err-first-clause-breaks
 returns-in_err-first-clause-breaks g c tells n owns = same_has _ c.from_residual.result _ c.from_residual.ensures.1 (c.in_err-first.ensures.breaks tells n owns)
 
-pub returns-in_err-first-clause-sound : goal.returns-in_err-first-clause-sound
-returns-in_err-first-clause-sound g c tells right = same_has _ c.from_residual.result _ c.from_residual.ensures.1 (c.in_err-first.ensures.sound tells right)
+pub returns-in_err-first-clause-not_damaged : goal.returns-in_err-first-clause-not_damaged
+returns-in_err-first-clause-not_damaged g c tells right = same_has _ c.from_residual.result _ c.from_residual.ensures.1
+    (c.in_err-first.ensures.not_damaged tells right)
 
 pub returns-in_err-first-clause-writes : goal.returns-in_err-first-clause-writes
 returns-in_err-first-clause-writes g c = c.in_err-first.ensures.writes
@@ -64,8 +65,8 @@ pub returns-in_err-count_more-clause-breaks : goal.returns-in_err-count_more-cla
 returns-in_err-count_more-clause-breaks g c _ _ _ = space_has _ tt tt c.from_residual-in_err-count_more.result c.in_err-count_more.field-0.0
     c.from_residual-in_err-count_more.ensures.1
 
-pub returns-in_err-count_more-clause-sound : goal.returns-in_err-count_more-clause-sound
-returns-in_err-count_more-clause-sound g c _ _ = space_has _ tt tt c.from_residual-in_err-count_more.result c.in_err-count_more.field-0.0
+pub returns-in_err-count_more-clause-not_damaged : goal.returns-in_err-count_more-clause-not_damaged
+returns-in_err-count_more-clause-not_damaged g c _ _ = space_has _ tt tt c.from_residual-in_err-count_more.result c.in_err-count_more.field-0.0
     c.from_residual-in_err-count_more.ensures.1
 
 pub returns-in_err-count_more-clause-shape : goal.returns-in_err-count_more-clause-shape

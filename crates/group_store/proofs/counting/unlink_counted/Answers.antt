@@ -41,9 +41,9 @@ returns-in_err-unlink_named-clause-damaged g c tells = same_has _ c.from_residua
 pub returns-in_err-unlink_named-clause-unwritten : goal.returns-in_err-unlink_named-clause-unwritten
 returns-in_err-unlink_named-clause-unwritten g c = same_has _ c.from_residual.result _ c.from_residual.ensures.1 c.in_err-unlink_named.ensures.unwritten
 
-pub returns-in_err-unlink_named-clause-sound : goal.returns-in_err-unlink_named-clause-sound
-returns-in_err-unlink_named-clause-sound g c tells before after xs can =
-    same_has _ c.from_residual.result _ c.from_residual.ensures.1 (c.in_err-unlink_named.ensures.sound tells before after xs can)
+pub returns-in_err-unlink_named-clause-not_damaged : goal.returns-in_err-unlink_named-clause-not_damaged
+returns-in_err-unlink_named-clause-not_damaged g c tells before after xs can =
+    same_has _ c.from_residual.result _ c.from_residual.ensures.1 (c.in_err-unlink_named.ensures.not_damaged tells before after xs can)
 
 pub returns-in_err-unlink_named-clause-writes : goal.returns-in_err-unlink_named-clause-writes
 returns-in_err-unlink_named-clause-writes g c = c.in_err-unlink_named.ensures.writes
@@ -63,8 +63,8 @@ pub returns-in_err-count_less-clause-breaks : goal.returns-in_err-count_less-cla
 returns-in_err-count_less-clause-breaks g c _ _ _ _ = space_has _ tt tt c.from_residual-in_err-count_less.result c.in_err-count_less.field-0.0
     c.from_residual-in_err-count_less.ensures.1
 
-pub returns-in_err-count_less-clause-sound : goal.returns-in_err-count_less-clause-sound
-returns-in_err-count_less-clause-sound g c _ _ _ _ _ = space_has _ tt tt c.from_residual-in_err-count_less.result c.in_err-count_less.field-0.0
+pub returns-in_err-count_less-clause-not_damaged : goal.returns-in_err-count_less-clause-not_damaged
+returns-in_err-count_less-clause-not_damaged g c _ _ _ _ _ = space_has _ tt tt c.from_residual-in_err-count_less.result c.in_err-count_less.field-0.0
     c.from_residual-in_err-count_less.ensures.1
 
 pub returns-in_err-count_less-clause-shape : goal.returns-in_err-count_less-clause-shape

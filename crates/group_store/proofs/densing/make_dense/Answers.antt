@@ -332,21 +332,21 @@ returns-clause-made g c = λ tells most empty can.
     left_none (g.S.Reads.state c.args.space.now) (g.S.Reads.state c.loop.space) c.args.node c.loop.at c.loop.counter most empty c.loop.moved.relationships.items
     c.loop.moved.groups.items c.if-at-2.false (c.loop.invariant.left tells most empty can)
 
-pub returns-then-row-clause-sound : goal.returns-then-row-clause-sound
-returns-then-row-clause-sound g c = λ tells most empty can room.
+pub returns-then-row-clause-not_damaged : goal.returns-then-row-clause-not_damaged
+returns-then-row-clause-not_damaged g c = λ tells most empty can room.
     not_dense_row (g.S.Reads.state c.args.space.now) c.args.node c.in-Some.row most empty (sym c.in-Some.is ∙ c.in_ok-row.ensures.found tells) can c.if-row.true
 
-pub returns-in_err-turn-clause-sound : goal.returns-in_err-turn-clause-sound
-returns-in_err-turn-clause-sound g c = λ tells most empty can room.
+pub returns-in_err-turn-clause-not_damaged : goal.returns-in_err-turn-clause-not_damaged
+returns-in_err-turn-clause-not_damaged g c = λ tells most empty can room.
     let s = g.S.Reads.state c.args.space.now in
     let now = g.S.Reads.state c.loop.space in
     let p = err_from_is_err_and c.from_residual-in_err-turn.result c.from_residual-in_err-turn.ensures.1 in
     rw (p.1, p.2) (handed Turn Unit c.in_err-turn.field-0.0 (left_first s now c.args.node c.loop.at c.loop.counter most c.args.threshold empty
     c.loop.moved.relationships.items c.loop.moved.groups.items c.if-at.false
-    (c.loop.invariant.left tells most empty can) room (c.in_err-turn.ensures.sound tells)))
+    (c.loop.invariant.left tells most empty can) room (c.in_err-turn.ensures.not_damaged tells)))
 
-pub returns-then-not-note-clause-sound : goal.returns-then-not-note-clause-sound
-returns-then-not-note-clause-sound g c = λ tells most empty can room.
+pub returns-then-not-note-clause-not_damaged : goal.returns-then-not-note-clause-not_damaged
+returns-then-not-note-clause-not_damaged g c = λ tells most empty can room.
     let s = g.S.Reads.state c.args.space.now in
     let now = g.S.Reads.state c.loop.space in
     let end = g.S.Reads.state c.move_one.new.space in
@@ -354,20 +354,20 @@ returns-then-not-note-clause-sound g c = λ tells most empty can room.
     c.loop.moved.relationships.items c.loop.moved.groups.items c.in_ok-turn.turn c.if-at.false
     (c.in_ok-turn.ensures.own tells) (c.loop.invariant.left tells most empty can)))
 
-pub returns-then-at-2-clause-sound : goal.returns-then-at-2-clause-sound
-returns-then-at-2-clause-sound g c = λ tells most empty can room.
+pub returns-then-at-2-clause-not_damaged : goal.returns-then-at-2-clause-not_damaged
+returns-then-at-2-clause-not_damaged g c = λ tells most empty can room.
     let e = row_degree (g.S.Reads.state c.args.space.now) c.args.node c.in-Some.row (sym c.in-Some.is ∙ c.in_ok-row.ensures.found tells) in
     none_over (g.S.Reads.state c.args.space.now) (g.S.Reads.state c.loop.space) c.args.node c.loop.at c.loop.counter most empty c.loop.moved.relationships.items
     c.loop.moved.groups.items c.if-at-2.true
     (c.loop.invariant.left tells most empty can) (omega (arith, c.loop-test.false, c.if-row-threshold.false, e, room.few))
 
-pub returns-then-row-threshold-clause-sound : goal.returns-then-row-threshold-clause-sound
-returns-then-row-threshold-clause-sound g c = λ tells most empty can room.
+pub returns-then-row-threshold-clause-not_damaged : goal.returns-then-row-threshold-clause-not_damaged
+returns-then-row-threshold-clause-not_damaged g c = λ tells most empty can room.
     let e = row_degree (g.S.Reads.state c.args.space.now) c.args.node c.in-Some.row (sym c.in-Some.is ∙ c.in_ok-row.ensures.found tells) in
     omega (arith, c.if-row-threshold.true, e, room.few)
 
-pub returns-in_err-test_chain-clause-sound : goal.returns-in_err-test_chain-clause-sound
-returns-in_err-test_chain-clause-sound g c = λ tells most empty can room.
+pub returns-in_err-test_chain-clause-not_damaged : goal.returns-in_err-test_chain-clause-not_damaged
+returns-in_err-test_chain-clause-not_damaged g c = λ tells most empty can room.
     let s = g.S.Reads.state c.args.space.now in
     let l = g.S.Reads.state c.load.new.space in
     let same = only_loads_node s l c.args.node c.load.ensures.state in
@@ -464,7 +464,8 @@ pub returns-in_err-row-clause-never : goal.returns-in_err-row-clause-never
 returns-in_err-row-clause-never g c = λ tells members free can room.
     let p = err_from_is_err_and c.from_residual.result c.from_residual.ensures.1 in
     not_damaged_at c.from_residual.result p.0 (of_row c.in_err-row.field-0.0) p.1 p.2
-    (row_sound c.in_err-row.field-0.0 (c.in_err-row.ensures.sound tells (sparse_read (g.S.Reads.state c.args.space.now) c.args.node c.args.threshold members
+    (row_sound c.in_err-row.field-0.0 (c.in_err-row.ensures.not_damaged tells (sparse_read
+        (g.S.Reads.state c.args.space.now) c.args.node c.args.threshold members
     free can room)))
 
 pub returns-in_default-clause-never : goal.returns-in_default-clause-never
@@ -490,7 +491,7 @@ returns-in_err-test_chain-clause-never g c = λ tells members free can room.
     let found = sym c.in-Some.is ∙ c.in_ok-row.ensures.found tells in
     let e = row_degree s c.args.node c.in-Some.row found in
     let p = err_from_is_err_and c.from_residual-in_err-test_chain.result c.from_residual-in_err-test_chain.ensures.1 in
-    rw (p.1, p.2) (handed Unit Unit c.in_err-test_chain.field-0.0 (c.in_err-test_chain.ensures.sound tells
+    rw (p.1, p.2) (handed Unit Unit c.in_err-test_chain.field-0.0 (c.in_err-test_chain.ensures.not_damaged tells
     (subst (λ (q : State). c.in-Some.row.first ≡ first_link q.records c.args.node) (sym same) (first_is s.records c.args.node c.in-Some.row found))
     members (subst (λ (q : State). IsHeadChain q.records (node_head c.args.node) c.args.node members) (sym same) can.chain)
     (readable_after s l members same (members_read s c.args.node c.args.threshold members room)) (omega (arith, e, room.exact))))
@@ -756,8 +757,8 @@ returns-in_err-turn-clause-leaves_others g c _ = never_ok c.from_residual-in_err
 pub returns-in_err-turn-clause-wrote : goal.returns-in_err-turn-clause-wrote
 returns-in_err-turn-clause-wrote g c = never_ok c.from_residual-in_err-turn.result _ _ c.from_residual-in_err-turn.ensures.1
 
-pub returns-in_err-clear-clause-sound : goal.returns-in_err-clear-clause-sound
-returns-in_err-clear-clause-sound g c _ _ _ _ _ = space_has _ tt tt c.from_residual-in_err-clear.result c.in_err-clear.field-0.0
+pub returns-in_err-clear-clause-not_damaged : goal.returns-in_err-clear-clause-not_damaged
+returns-in_err-clear-clause-not_damaged g c _ _ _ _ _ = space_has _ tt tt c.from_residual-in_err-clear.result c.in_err-clear.field-0.0
     c.from_residual-in_err-clear.ensures.1
 
 pub returns-in_err-clear-clause-never : goal.returns-in_err-clear-clause-never

@@ -195,7 +195,7 @@ pub returns-in_err-row-clause-never : goal.returns-in_err-row-clause-never
 returns-in_err-row-clause-never g c = λ tells came rest groups free spreading node readable full.
     let p = err_from_is_err_and c.from_residual.result c.from_residual.ensures.1 in
     not_damaged_at c.from_residual.result p.0 (of_row c.in_err-row.field-0.0) p.1 p.2
-    (row_sound c.in_err-row.field-0.0 (c.in_err-row.ensures.sound tells readable))
+    (row_sound c.in_err-row.field-0.0 (c.in_err-row.ensures.not_damaged tells readable))
 
 pub returns-in_default-clause-never : goal.returns-in_default-clause-never
 returns-in_default-clause-never g c = λ tells came rest groups free spreading node readable full.
@@ -221,42 +221,42 @@ returns-in_err-first-clause-never g c = λ tells came rest groups free spreading
     let t = g.S.Reads.state c.free_previous.new.space in
     let key = subst (λ (o : Option RelRow). IfSome o (λ _. IsKey (rel_key c.args.rel))) c.in-Some.is c.in_ok-row.ensures.key in
     let p = err_from_is_err_and c.from_residual-in_err-first.result c.from_residual-in_err-first.ensures.1 in
-    rw (p.1, p.2) (handed ℕ Turn c.in_err-first.field-0.0 (c.in_err-first.ensures.sound tells
+    rw (p.1, p.2) (handed ℕ Turn c.in_err-first.field-0.0 (c.in_err-first.ensures.not_damaged tells
     (push_finds s l (g.S.Reads.state c.own_group.new.space) c.args.node c.args.rel c.in-Some.row c.in_ok-own.own
     (only_loads s l c.args.rel c.load.ensures.state) (sym c.in-Some.is ∙ c.in_ok-row.ensures.found tells)
     (c.in_ok-own.ensures.local tells) (c.in_ok-own.ensures.dense tells) key.id came rest groups free spreading t (head_of c.group_head-head.result)
     (c.in_ok-free_previous.ensures.ok tells)
     (c.group_head-head.ensures.is ∙ ap (λ (side : Side). group_head c.in_ok-own.own.row.id side) c.at.ensures) readable.mark)))
 
-pub returns-in_err-row-clause-sound : goal.returns-in_err-row-clause-sound
-returns-in_err-row-clause-sound g c = λ tells rest most empty spread room.
+pub returns-in_err-row-clause-not_damaged : goal.returns-in_err-row-clause-not_damaged
+returns-in_err-row-clause-not_damaged g c = λ tells rest most empty spread room.
     let s = g.S.Reads.state c.args.space.now in
     let p = err_from_is_err_and c.from_residual.result c.from_residual.ensures.1 in
     not_damaged_at c.from_residual.result p.0 (of_row c.in_err-row.field-0.0) p.1 p.2
-    (row_sound c.in_err-row.field-0.0 (c.in_err-row.ensures.sound tells (IsReadable-AreInRange s c.args.rel spread.keeps.others.ranges)))
+    (row_sound c.in_err-row.field-0.0 (c.in_err-row.ensures.not_damaged tells (IsReadable-AreInRange s c.args.rel spread.keeps.others.ranges)))
 
-pub returns-in_default-clause-sound : goal.returns-in_default-clause-sound
-returns-in_default-clause-sound g c = λ tells rest most empty spread room.
+pub returns-in_default-clause-not_damaged : goal.returns-in_default-clause-not_damaged
+returns-in_default-clause-not_damaged g c = λ tells rest most empty spread room.
     rel_there (g.S.Reads.state c.args.space.now) c.args.node c.args.rel rest most empty spread (sym (c.in_ok-row.ensures.found tells) ∙ c.in_default.is)
 
-pub returns-in_err-own-clause-sound : goal.returns-in_err-own-clause-sound
-returns-in_err-own-clause-sound g c = λ tells rest most empty spread room.
+pub returns-in_err-own-clause-not_damaged : goal.returns-in_err-own-clause-not_damaged
+returns-in_err-own-clause-not_damaged g c = λ tells rest most empty spread room.
     let s = g.S.Reads.state c.args.space.now in
     let l = g.S.Reads.state c.load.new.space in
     let same = only_loads s l c.args.rel c.load.ensures.state in
     let p = err_from_is_err_and c.from_residual-in_err-own.result c.from_residual-in_err-own.ensures.1 in
     rw (p.1, p.2) (handed OwnGroup Turn c.in_err-own.field-0.0
-    (c.in_err-own.ensures.sound tells (c.args.rel ∷ rest) most empty (keeps_then s l c.args.node (c.args.rel ∷ rest) most empty same spread.keeps)
+    (c.in_err-own.ensures.not_damaged tells (c.args.rel ∷ rest) most empty (keeps_then s l c.args.node (c.args.rel ∷ rest) most empty same spread.keeps)
     (subst (λ (q : State). IsDense q.records c.args.node) (sym same) spread.dense)
     (has_room s l c.args.node c.args.rel rest most empty same spread room)))
 
-pub returns-in_err-first-clause-sound : goal.returns-in_err-first-clause-sound
-returns-in_err-first-clause-sound g c = λ tells rest most empty spread room.
+pub returns-in_err-first-clause-not_damaged : goal.returns-in_err-first-clause-not_damaged
+returns-in_err-first-clause-not_damaged g c = λ tells rest most empty spread room.
     let s = g.S.Reads.state c.args.space.now in
     let l = g.S.Reads.state c.load.new.space in
     let t = g.S.Reads.state c.free_previous.new.space in
     let p = err_from_is_err_and c.from_residual-in_err-first.result c.from_residual-in_err-first.ensures.1 in
-    rw (p.1, p.2) (handed ℕ Turn c.in_err-first.field-0.0 (c.in_err-first.ensures.sound tells
+    rw (p.1, p.2) (handed ℕ Turn c.in_err-first.field-0.0 (c.in_err-first.ensures.not_damaged tells
     (push_right s l (g.S.Reads.state c.own_group.new.space) c.args.node c.args.rel c.in-Some.row c.in_ok-own.own.row.id
     (only_loads s l c.args.rel c.load.ensures.state) (sym c.in-Some.is ∙ c.in_ok-row.ensures.found tells)
     (c.in_ok-own.ensures.opened tells) rest most empty spread t (head_of c.group_head-head.result) (c.in_ok-free_previous.ensures.ok tells)
@@ -522,8 +522,8 @@ returns-in_err-first-clause-leaves_others g c _ = never_ok c.from_residual-in_er
 pub returns-in_err-first-clause-wrote : goal.returns-in_err-first-clause-wrote
 returns-in_err-first-clause-wrote g c = never_ok c.from_residual-in_err-first.result _ _ c.from_residual-in_err-first.ensures.1
 
-pub returns-in_err-free_previous-clause-sound : goal.returns-in_err-free_previous-clause-sound
-returns-in_err-free_previous-clause-sound g c _ _ _ _ _ _ = space_has _ tt tt c.from_residual-in_err-free_previous.result c.in_err-free_previous.field-0.0
+pub returns-in_err-free_previous-clause-not_damaged : goal.returns-in_err-free_previous-clause-not_damaged
+returns-in_err-free_previous-clause-not_damaged g c _ _ _ _ _ _ = space_has _ tt tt c.from_residual-in_err-free_previous.result c.in_err-free_previous.field-0.0
     c.from_residual-in_err-free_previous.ensures.1
 
 pub returns-in_err-free_previous-clause-never : goal.returns-in_err-free_previous-clause-never

@@ -118,16 +118,16 @@ returns-in-None-clause-writes g c =
     let k = c.make_own.ensures.writes in
     (k.1, k.0, writes_after s now end _ (same_read _ s now c.find_group.ensures.at_most) k.2)
 
-pub returns-in_err-row-clause-sound : goal.returns-in_err-row-clause-sound
-returns-in_err-row-clause-sound g c = λ tells rest most empty keeps dense room.
+pub returns-in_err-row-clause-not_damaged : goal.returns-in_err-row-clause-not_damaged
+returns-in_err-row-clause-not_damaged g c = λ tells rest most empty keeps dense room.
     let s = g.S.Reads.state c.args.space.now in
     let p = err_from_is_err_and c.from_residual.result c.from_residual.ensures.1 in
     rw (p.1, p.2) (handed (Option GroupRow) OwnGroup c.in_err-row.field-0.0
-    (c.in_err-row.ensures.sound tells (node_known s c.args.node rest most empty keeps dense) (chain_ids s c.args.node rest most empty keeps dense)
+    (c.in_err-row.ensures.not_damaged tells (node_known s c.args.node rest most empty keeps dense) (chain_ids s c.args.node rest most empty keeps dense)
     (can_walk s c.args.node rest most empty keeps dense)))
 
-pub returns-in-None-clause-sound : goal.returns-in-None-clause-sound
-returns-in-None-clause-sound g c = λ tells rest most empty keeps dense full.
+pub returns-in-None-clause-not_damaged : goal.returns-in-None-clause-not_damaged
+returns-in-None-clause-not_damaged g c = λ tells rest most empty keeps dense full.
     let s = g.S.Reads.state c.args.space.now in
     let now = g.S.Reads.state c.find_group.new.space in
     let same = same_read _ s now c.find_group.ensures.at_most in
@@ -136,7 +136,7 @@ returns-in-None-clause-sound g c = λ tells rest most empty keeps dense full.
     (λ xs chain. c.in_ok-row.ensures.none tells dense xs chain) in
     let keeps_now = keeps_then s now node rest most empty same keeps in
     let dense_now = subst (λ (t : State). IsDense t.records node) (sym same) dense in
-    c.make_own.ensures.sound tells (node_known now node rest most empty keeps_now dense_now) (free_ids now node rest most empty keeps_now dense_now)
+    c.make_own.ensures.not_damaged tells (node_known now node rest most empty keeps_now dense_now) (free_ids now node rest most empty keeps_now dense_now)
     (chain_ids now node rest most empty keeps_now dense_now)
     (can_make now node rest most empty keeps_now dense_now c.args.label (subst (λ (t : State). LacksGroup t.records node c.args.label) (sym same) lacks))
     dense_now
@@ -168,7 +168,7 @@ pub returns-in_err-row-clause-never : goal.returns-in_err-row-clause-never
 returns-in_err-row-clause-never g c = λ tells groups free dense chain can readable full.
     let s = g.S.Reads.state c.args.space.now in
     let p = err_from_is_err_and c.from_residual.result c.from_residual.ensures.1 in
-    rw (p.1, p.2) (handed (Option GroupRow) OwnGroup c.in_err-row.field-0.0 (c.in_err-row.ensures.sound tells readable groups
+    rw (p.1, p.2) (handed (Option GroupRow) OwnGroup c.in_err-row.field-0.0 (c.in_err-row.ensures.not_damaged tells readable groups
     (walkable s c.args.node groups free chain can)))
 
 pub returns-in-None-clause-never : goal.returns-in-None-clause-never
@@ -178,7 +178,7 @@ returns-in-None-clause-never g c = λ tells groups free dense chain can readable
     let same = same_read _ s now c.find_group.ensures.at_most in
     let node = c.args.node in
     let lacks = (c.in_ok-row.ensures.none tells dense groups chain).0 c.in-None.is in
-    c.make_own.ensures.sound tells (node_read s now node same readable) free groups
+    c.make_own.ensures.not_damaged tells (node_read s now node same readable) free groups
     (make_read s now node c.args.label groups free same chain (λ k i. lacks k (chain.only k i)) can)
     (subst (λ (t : State). IsDense t.records node) (sym same) dense) (subst (λ (t : State). (meta_of t groups_file).live ≢ room t groups_file) (sym same) full)
 

@@ -102,26 +102,28 @@ returns-clause-is g c = λ tells.
     ap not (sym (filled_is s.records c.args.group c.in_ok-rec.rec c.is_filled.result false (c.in_ok-rec.ensures.got tells) c.is_filled.ensures
     c.if-is_filled.false))
 
-pub returns-in_err-rec-clause-sound : goal.returns-in_err-rec-clause-sound
-returns-in_err-rec-clause-sound g c = λ tells xs on.
+pub returns-in_err-rec-clause-not_damaged : goal.returns-in_err-rec-clause-not_damaged
+returns-in_err-rec-clause-not_damaged g c = λ tells xs on.
     let p = err_from_is_err_and c.from_residual.result c.from_residual.ensures.1 in
     not_damaged_at c.from_residual.result p.0 c.in_err-rec.field-0.0 p.1 p.2
     (is_undamaged (g.S.Reads.state c.args.space.now) c.args.node c.args.group xs c.in_err-rec.field-0.0 on (c.in_err-rec.ensures.damaged tells))
 
-pub returns-in_err-test_link-clause-sound : goal.returns-in_err-test_link-clause-sound
-returns-in_err-test_link-clause-sound g c = λ tells xs on.
+pub returns-in_err-test_link-clause-not_damaged : goal.returns-in_err-test_link-clause-not_damaged
+returns-in_err-test_link-clause-not_damaged g c = λ tells xs on.
     let s = g.S.Reads.state c.args.space.now in
     let before = number_read s.records c.args.group group_previous c.number-before.result c.in_ok-rec.rec (c.in_ok-rec.ensures.got tells)
     c.number-before.ensures in
-    let is_ok = c.in_err-test_link.ensures.sound (right_previous s (g.S.Reads.state c.read_member.new.space) c.args.node c.args.group c.number-before.result xs
+    let is_ok = c.in_err-test_link.ensures.not_damaged (right_previous s
+        (g.S.Reads.state c.read_member.new.space) c.args.node c.args.group c.number-before.result xs
     c.in_ok-rec.ensures.read before on) in
     absurd (false≢true is_ok)
 
-pub returns-in_err-test_link-2-clause-sound : goal.returns-in_err-test_link-2-clause-sound
-returns-in_err-test_link-2-clause-sound g c = λ tells xs on.
+pub returns-in_err-test_link-2-clause-not_damaged : goal.returns-in_err-test_link-2-clause-not_damaged
+returns-in_err-test_link-2-clause-not_damaged g c = λ tells xs on.
     let s = g.S.Reads.state c.args.space.now in
     let after = number_read s.records c.args.group group_next c.number-after.result c.in_ok-rec.rec (c.in_ok-rec.ensures.got tells) c.number-after.ensures in
-    let is_ok = c.in_err-test_link-2.ensures.sound (right_next s (g.S.Reads.state c.read_member.new.space) c.args.node c.args.group c.number-after.result xs
+    let is_ok = c.in_err-test_link-2.ensures.not_damaged (right_next s
+        (g.S.Reads.state c.read_member.new.space) c.args.node c.args.group c.number-after.result xs
     c.in_ok-rec.ensures.read after on) in
     absurd (false≢true is_ok)
 
@@ -194,8 +196,8 @@ returns-in_err-behind-clause-breaks g c = λ tells row is owner.
     c.in_err-behind.field-0.0 (behind_loose s s1 c.args.node c.args.group c.number-before.result c.number-after.result c.in_err-behind.field-0.0
     c.in_ok-rec.ensures.read before after (c.in_err-behind.ensures.damaged tells))))
 
-pub returns-in_err-behind-clause-sound : goal.returns-in_err-behind-clause-sound
-returns-in_err-behind-clause-sound g c = λ tells xs on.
+pub returns-in_err-behind-clause-not_damaged : goal.returns-in_err-behind-clause-not_damaged
+returns-in_err-behind-clause-not_damaged g c = λ tells xs on.
     let s = g.S.Reads.state c.args.space.now in
     let s1 = g.S.Reads.state c.read_member.new.space in
     let before = number_read s.records c.args.group group_previous c.number-before.result c.in_ok-rec.rec (c.in_ok-rec.ensures.got tells)
@@ -232,8 +234,8 @@ returns-in_err-lead-clause-breaks g c = λ tells row is owner.
     rw (p.1, p.2) (drop_breaks s c.args.node c.args.group row is owner c.in_err-lead.field-0.0 (loose_told s c.args.node c.args.group c.in_err-lead.field-0.0
     (lead_loose s s2 c.args.node c.args.group c.number-before.result c.in_err-lead.field-0.0 same before (c.in_err-lead.ensures.damaged tells))))
 
-pub returns-in_err-lead-clause-sound : goal.returns-in_err-lead-clause-sound
-returns-in_err-lead-clause-sound g c = λ tells xs on.
+pub returns-in_err-lead-clause-not_damaged : goal.returns-in_err-lead-clause-not_damaged
+returns-in_err-lead-clause-not_damaged g c = λ tells xs on.
     let s = g.S.Reads.state c.args.space.now in
     let s1 = g.S.Reads.state c.read_member.new.space in
     let s2 = g.S.Reads.state c.read_behind.new.space in
@@ -606,8 +608,8 @@ pub returns-in_err-write_behind-clause-breaks : goal.returns-in_err-write_behind
 returns-in_err-write_behind-clause-breaks g c _ _ _ _ = space_has _ tt tt c.from_residual-in_err-write_behind.result c.in_err-write_behind.field-0.0
     c.from_residual-in_err-write_behind.ensures.1
 
-pub returns-in_err-write_behind-clause-sound : goal.returns-in_err-write_behind-clause-sound
-returns-in_err-write_behind-clause-sound g c _ _ _ = space_has _ tt tt c.from_residual-in_err-write_behind.result c.in_err-write_behind.field-0.0
+pub returns-in_err-write_behind-clause-not_damaged : goal.returns-in_err-write_behind-clause-not_damaged
+returns-in_err-write_behind-clause-not_damaged g c _ _ _ = space_has _ tt tt c.from_residual-in_err-write_behind.result c.in_err-write_behind.field-0.0
     c.from_residual-in_err-write_behind.ensures.1
 
 pub returns-in_err-write_behind-clause-unwritten : goal.returns-in_err-write_behind-clause-unwritten
@@ -622,8 +624,8 @@ pub returns-in_err-write_lead-clause-breaks : goal.returns-in_err-write_lead-cla
 returns-in_err-write_lead-clause-breaks g c _ _ _ _ = space_has _ tt tt c.from_residual-in_err-write_lead.result c.in_err-write_lead.field-0.0
     c.from_residual-in_err-write_lead.ensures.1
 
-pub returns-in_err-write_lead-clause-sound : goal.returns-in_err-write_lead-clause-sound
-returns-in_err-write_lead-clause-sound g c _ _ _ = space_has _ tt tt c.from_residual-in_err-write_lead.result c.in_err-write_lead.field-0.0
+pub returns-in_err-write_lead-clause-not_damaged : goal.returns-in_err-write_lead-clause-not_damaged
+returns-in_err-write_lead-clause-not_damaged g c _ _ _ = space_has _ tt tt c.from_residual-in_err-write_lead.result c.in_err-write_lead.field-0.0
     c.from_residual-in_err-write_lead.ensures.1
 
 pub returns-in_err-write_lead-clause-unwritten : goal.returns-in_err-write_lead-clause-unwritten
@@ -637,8 +639,8 @@ pub returns-in_err-give-clause-breaks : goal.returns-in_err-give-clause-breaks
 returns-in_err-give-clause-breaks g c _ _ _ _ = space_has _ tt tt c.from_residual-in_err-give.result c.in_err-give.field-0.0
     c.from_residual-in_err-give.ensures.1
 
-pub returns-in_err-give-clause-sound : goal.returns-in_err-give-clause-sound
-returns-in_err-give-clause-sound g c _ _ _ = space_has _ tt tt c.from_residual-in_err-give.result c.in_err-give.field-0.0 c.from_residual-in_err-give.ensures.1
+pub returns-in_err-give-clause-not_damaged : goal.returns-in_err-give-clause-not_damaged
+returns-in_err-give-clause-not_damaged g c _ _ _ = space_has _ tt tt c.from_residual-in_err-give.result c.in_err-give.field-0.0 c.from_residual-in_err-give.ensures.1
 
 pub returns-in_err-give-clause-unwritten : goal.returns-in_err-give-clause-unwritten
 returns-in_err-give-clause-unwritten g c = space_has _ tt tt c.from_residual-in_err-give.result c.in_err-give.field-0.0 c.from_residual-in_err-give.ensures.1

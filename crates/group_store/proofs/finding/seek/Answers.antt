@@ -144,8 +144,8 @@ returns-in_err-rec-clause-damaged g c = λ tells.
     c.loop.at c.in_err-rec.field-0.0
     c.loop.invariant.read c.if-at.false (c.loop.invariant.left tells) (c.in_err-rec.ensures.damaged tells))
 
-pub returns-in_err-rec-clause-sound : goal.returns-in_err-rec-clause-sound
-returns-in_err-rec-clause-sound g c = λ tells xs can.
+pub returns-in_err-rec-clause-not_damaged : goal.returns-in_err-rec-clause-not_damaged
+returns-in_err-rec-clause-not_damaged g c = λ tells xs can.
     let s = g.R.Reads.state c.args.space.now in
     let p = err_from_is_err_and c.from_residual.result c.from_residual.ensures.1 in
     not_damaged_at c.from_residual.result p.0 c.in_err-rec.field-0.0 p.1 p.2 (undamaged s c.args.node c.args.first xs c.in_err-rec.field-0.0 can
@@ -184,8 +184,8 @@ returns-then-at-2-clause-reads g c = λ tells xs can.
     absurd (c.if-at-2.true (left_none s.records (c.meta-budget.result.high - c.loop.counter) c.loop.at xs (omega arith)
     (c.loop.invariant.left tells xs can.list.walk (few_groups s.records c.args.node c.args.first xs can.list))))
 
-pub returns-then-at-2-clause-sound : goal.returns-then-at-2-clause-sound
-returns-then-at-2-clause-sound g c = λ tells xs can.
+pub returns-then-at-2-clause-not_damaged : goal.returns-then-at-2-clause-not_damaged
+returns-then-at-2-clause-not_damaged g c = λ tells xs can.
     let s = g.R.Reads.state c.args.space.now in
     let ge = c.loop-test.false in
     absurd (c.if-at-2.true (left_none s.records (c.meta-budget.result.high - c.loop.counter) c.loop.at xs (omega arith)

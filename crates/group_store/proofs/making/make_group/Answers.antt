@@ -33,9 +33,9 @@ returns-in_err-own-clause-wrote g c = never_ok c.from_residual.result _ _ c.from
 pub returns-in_err-own-clause-damaged : goal.returns-in_err-own-clause-damaged
 returns-in_err-own-clause-damaged g c tells = same_has _ c.from_residual.result _ c.from_residual.ensures.1 (c.in_err-own.ensures.damaged tells)
 
-pub returns-in_err-own-clause-sound : goal.returns-in_err-own-clause-sound
-returns-in_err-own-clause-sound g c tells readable free xs can dense some =
-    same_has _ c.from_residual.result _ c.from_residual.ensures.1 (c.in_err-own.ensures.sound tells readable free xs can dense some)
+pub returns-in_err-own-clause-not_damaged : goal.returns-in_err-own-clause-not_damaged
+returns-in_err-own-clause-not_damaged g c tells readable free xs can dense some =
+    same_has _ c.from_residual.result _ c.from_residual.ensures.1 (c.in_err-own.ensures.not_damaged tells readable free xs can dense some)
 
 pub returns-in_err-own-clause-unwritten : goal.returns-in_err-own-clause-unwritten
 returns-in_err-own-clause-unwritten g c = same_has _ c.from_residual.result _ c.from_residual.ensures.1 c.in_err-own.ensures.unwritten

@@ -66,12 +66,13 @@ returns-in_err-test_link-clause-damaged g c = λ tells.
     (first_link s.records c.args.node) (link_damage c.args.node) c.in_err-test_link.field-0.0
     reads.is first.1 c.in_err-test_link.ensures.damaged))
 
-pub returns-in_err-test_link-clause-sound : goal.returns-in_err-test_link-clause-sound
-returns-in_err-test_link-clause-sound g c = λ tells readable free xs can dense room.
+pub returns-in_err-test_link-clause-not_damaged : goal.returns-in_err-test_link-clause-not_damaged
+returns-in_err-test_link-clause-not_damaged g c = λ tells readable free xs can dense room.
     let s = g.S.Reads.state c.args.space.now in
     let first = subst (IsFirst s.records c.args.node) c.in-Some.is (c.in_ok-first.ensures.first tells) in
     let reads = c.in_ok-first.ensures.at_most in
-    let is_ok = c.in_err-test_link.ensures.sound (right_first s (g.S.Reads.state c.first_group.new.space) reads.count c.args.node c.args.label c.in-Some.first
+    let is_ok = c.in_err-test_link.ensures.not_damaged (right_first s
+        (g.S.Reads.state c.first_group.new.space) reads.count c.args.node c.args.label c.in-Some.first
     free xs reads.is first.1 can) in
     absurd (false≢true is_ok)
 
@@ -336,8 +337,8 @@ returns-in_err-lead-clause-wrote g c = never_ok c.from_residual-in_err-lead.resu
 pub returns-in_err-lead-clause-damaged : goal.returns-in_err-lead-clause-damaged
 returns-in_err-lead-clause-damaged g c _ = space_has _ tt tt c.from_residual-in_err-lead.result c.in_err-lead.field-0.0 c.from_residual-in_err-lead.ensures.1
 
-pub returns-in_err-lead-clause-sound : goal.returns-in_err-lead-clause-sound
-returns-in_err-lead-clause-sound g c _ _ _ _ _ _ _ = space_has _ tt tt c.from_residual-in_err-lead.result c.in_err-lead.field-0.0
+pub returns-in_err-lead-clause-not_damaged : goal.returns-in_err-lead-clause-not_damaged
+returns-in_err-lead-clause-not_damaged g c _ _ _ _ _ _ _ = space_has _ tt tt c.from_residual-in_err-lead.result c.in_err-lead.field-0.0
     c.from_residual-in_err-lead.ensures.1
 
 pub returns-in_err-lead-clause-unwritten : goal.returns-in_err-lead-clause-unwritten

@@ -52,13 +52,14 @@ returns-then-branch-clause-opened g c = λ tells.
     (f row empty (group_can s z same c.args.node c.args.degree c.args.threshold c.args.label c.args.side row empty can dense))) (c.open_group.ensures.opened
     tells)
 
-pub returns-then-branch-clause-sound : goal.returns-then-branch-clause-sound
-returns-then-branch-clause-sound g c = λ tells row empty can room.
+pub returns-then-branch-clause-not_damaged : goal.returns-then-branch-clause-not_damaged
+returns-then-branch-clause-not_damaged g c = λ tells row empty can room.
     let s = g.S.Reads.state c.args.space.now in
     let z = g.S.Reads.state c.is_dense.new.space in
     let same = c.in_ok-is_dense.ensures.state in
     let dense = (c.in_ok-is_dense.ensures.is tells).0 c.if-branch.true in
-    c.open_group.ensures.sound tells row empty (group_can s z same c.args.node c.args.degree c.args.threshold c.args.label c.args.side row empty can dense)
+    c.open_group.ensures.not_damaged tells row empty
+        (group_can s z same c.args.node c.args.degree c.args.threshold c.args.label c.args.side row empty can dense)
     (room_same s z same c.args.node c.args.degree c.args.threshold c.args.label c.args.side row empty can room)
 
 pub returns-then-degree-threshold-clause-opened : goal.returns-then-degree-threshold-clause-opened
@@ -70,14 +71,14 @@ returns-then-degree-threshold-clause-opened g c = λ tells row empty can.
     subst (λ (h : Head). OpensChain s z h c.args.node row empty) (sym c.node_head.ensures.is)
     (opens_node s z same c.args.node c.args.degree c.args.threshold c.args.label c.args.side row empty can thin c.if-degree-threshold.true)
 
-pub returns-in_err-make_dense-clause-sound : goal.returns-in_err-make_dense-clause-sound
-returns-in_err-make_dense-clause-sound g c = λ tells row empty can room.
+pub returns-in_err-make_dense-clause-not_damaged : goal.returns-in_err-make_dense-clause-not_damaged
+returns-in_err-make_dense-clause-not_damaged g c = λ tells row empty can room.
     let s = g.S.Reads.state c.args.space.now in
     let z = g.S.Reads.state c.is_dense.new.space in
     let same = c.in_ok-is_dense.ensures.state in
     let thin : ¬ IsDense s.records c.args.node = λ d. false≢true (sym c.if-branch.false ∙ (c.in_ok-is_dense.ensures.is tells).1 d) in
     let p = err_from_is_err_and c.from_residual-in_err-make_dense.result c.from_residual-in_err-make_dense.ensures.1 in
-    rw (p.1, p.2) (handed Unit ChainHead c.in_err-make_dense.field-0.0 (c.in_err-make_dense.ensures.sound tells s.shape.threshold empty
+    rw (p.1, p.2) (handed Unit ChainHead c.in_err-make_dense.field-0.0 (c.in_err-make_dense.ensures.not_damaged tells s.shape.threshold empty
     (dense_can s z same c.args.node c.args.degree c.args.threshold c.args.label c.args.side row empty can thin)
     (dense_room s z same c.args.node c.args.degree c.args.threshold c.args.label c.args.side row empty can thin room)))
 
@@ -105,8 +106,8 @@ returns-clause-opened g c = λ tells.
     (f row empty (dense_group_can s z same c.args.node c.args.degree c.args.threshold c.args.label c.args.side row empty can u becomes)))
     (c.open_group-2.ensures.opened tells)
 
-pub returns-clause-sound : goal.returns-clause-sound
-returns-clause-sound g c = λ tells row empty can room.
+pub returns-clause-not_damaged : goal.returns-clause-not_damaged
+returns-clause-not_damaged g c = λ tells row empty can room.
     let s = g.S.Reads.state c.args.space.now in
     let z = g.S.Reads.state c.is_dense.new.space in
     let u = g.S.Reads.state c.make_dense.new.space in
@@ -114,7 +115,8 @@ returns-clause-sound g c = λ tells row empty can room.
     let thin : ¬ IsDense s.records c.args.node = λ d. false≢true (sym c.if-branch.false ∙ (c.in_ok-is_dense.ensures.is tells).1 d) in
     let becomes = c.in_ok-make_dense.ensures.made tells s.shape.threshold empty
     (dense_can s z same c.args.node c.args.degree c.args.threshold c.args.label c.args.side row empty can thin) in
-    c.open_group-2.ensures.sound tells row empty (dense_group_can s z same c.args.node c.args.degree c.args.threshold c.args.label c.args.side row empty can u
+    c.open_group-2.ensures.not_damaged tells row empty
+        (dense_group_can s z same c.args.node c.args.degree c.args.threshold c.args.label c.args.side row empty can u
     becomes)
     (dense_group_room s z same c.args.node c.args.degree c.args.threshold c.args.label c.args.side row empty can u becomes room)
 

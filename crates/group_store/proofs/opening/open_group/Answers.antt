@@ -34,11 +34,11 @@ use Rattle.id_freelist.proofs.ListSteps.{harms_none_then}
 use Rattle.group_store.proofs.GroupMetas.{count_metas, grows_counted}
 use Rattle.group_store.proofs.opening.open_group.Goals as goal
 
-pub returns-in_err-own-clause-sound : goal.returns-in_err-own-clause-sound
-returns-in_err-own-clause-sound g c = λ tells row empty can room.
+pub returns-in_err-own-clause-not_damaged : goal.returns-in_err-own-clause-not_damaged
+returns-in_err-own-clause-not_damaged g c = λ tells row empty can room.
     let s = g.S.Reads.state c.args.space.now in
     let p = err_from_is_err_and c.from_residual.result c.from_residual.ensures.1 in
-    rw (p.1, p.2) (handed OwnGroup ChainHead c.in_err-own.field-0.0 (c.in_err-own.ensures.sound tells [] s.shape.threshold empty
+    rw (p.1, p.2) (handed OwnGroup ChainHead c.in_err-own.field-0.0 (c.in_err-own.ensures.not_damaged tells [] s.shape.threshold empty
     (all_but s.records s.shape c.args.node s.shape.threshold empty can.keeps) can.dense (not_full s c.args.node s.shape.threshold empty can.keeps room)))
 
 pub returns-in_err-own-clause-writes : goal.returns-in_err-own-clause-writes
@@ -46,15 +46,15 @@ returns-in_err-own-clause-writes g c =
     let w = c.own_group.ensures.writes in
     made_writes (g.S.Reads.state c.args.space.now) (g.S.Reads.state c.own_group.new.space) c.args.node w.1 w.0 w.2
 
-pub returns-in_err-count_group-clause-sound : goal.returns-in_err-count_group-clause-sound
-returns-in_err-count_group-clause-sound g c = λ tells row empty can room.
+pub returns-in_err-count_group-clause-not_damaged : goal.returns-in_err-count_group-clause-not_damaged
+returns-in_err-count_group-clause-not_damaged g c = λ tells row empty can room.
     let s = g.S.Reads.state c.args.space.now in
     let m = g.S.Reads.state c.own_group.new.space in
     let keeps = all_but s.records s.shape c.args.node s.shape.threshold empty can.keeps in
     let o = c.in_ok-own.ensures.opened tells [] s.shape.threshold empty keeps can.dense in
     let is = c.in_ok-own.ensures.row tells [] s.shape.threshold empty keeps can.dense in
     let p = err_from_is_err_and c.from_residual-in_err-count_group.result c.from_residual-in_err-count_group.ensures.1 in
-    rw (p.1, p.2) (handed Unit ChainHead c.in_err-count_group.field-0.0 (c.in_err-count_group.ensures.sound tells s.shape.threshold
+    rw (p.1, p.2) (handed Unit ChainHead c.in_err-count_group.field-0.0 (c.in_err-count_group.ensures.not_damaged tells s.shape.threshold
     (c.in_ok-own.own.row.id ∷ empty)
     (can_raise s m c.args.node c.args.label c.in_ok-own.own.row c.args.side row empty can o.0 o.1 is)))
 

@@ -37,8 +37,8 @@ returns-then-not-branch-clause-found g c = λ tells most empty x row end.
     subst (λ (h : Head). FindsChain s z h c.args.node row most empty) (sym c.node_head.ensures.is)
     (finds_node s z c.in_ok-is_dense.ensures.state c.args.node c.args.label c.args.side most empty x row end thin)
 
-pub returns-in_err-group-clause-sound : goal.returns-in_err-group-clause-sound
-returns-in_err-group-clause-sound g c = λ tells most empty x row end.
+pub returns-in_err-group-clause-not_damaged : goal.returns-in_err-group-clause-not_damaged
+returns-in_err-group-clause-not_damaged g c = λ tells most empty x row end.
     let s = g.S.Reads.state c.args.space.now in
     let z = g.S.Reads.state c.is_dense.new.space in
     let same = c.in_ok-is_dense.ensures.state in
@@ -46,18 +46,18 @@ returns-in_err-group-clause-sound g c = λ tells most empty x row end.
     let keeps = keeps_read s z same most empty end.keeps in
     let dense_z = subst (λ (r : Records). IsDense r c.args.node) (sym (same_records s z same)) dense in
     let p = err_from_is_err_and c.from_residual-in_err-group.result c.from_residual-in_err-group.ensures.1 in
-    rw (p.1, p.2) (handed (Option GroupRow) ChainHead c.in_err-group.field-0.0 (c.in_err-group.ensures.sound tells (node_readable z keeps c.args.node)
+    rw (p.1, p.2) (handed (Option GroupRow) ChainHead c.in_err-group.field-0.0 (c.in_err-group.ensures.not_damaged tells (node_readable z keeps c.args.node)
     (chain_of z.records z.shape keeps c.args.node dense_z) (walkable z keeps c.args.node dense_z)))
 
-pub returns-in_err-count_group-clause-sound : goal.returns-in_err-count_group-clause-sound
-returns-in_err-count_group-clause-sound g c = λ tells most empty x row end.
+pub returns-in_err-count_group-clause-not_damaged : goal.returns-in_err-count_group-clause-not_damaged
+returns-in_err-count_group-clause-not_damaged g c = λ tells most empty x row end.
     let s = g.S.Reads.state c.args.space.now in
     let z = g.S.Reads.state c.is_dense.new.space in
     let y = g.S.Reads.state c.find_group.new.space in
     let found = subst (IsFound z.records c.args.node c.args.label) c.in-Some.is (c.in_ok-group.ensures.found tells) in
     let same = only_read z y (1 + group_mark z) c.in_ok-group.ensures.at_most in
     let p = err_from_is_err_and c.from_residual-in_err-count_group.result c.from_residual-in_err-count_group.ensures.1 in
-    rw (p.1, p.2) (handed Unit ChainHead c.in_err-count_group.field-0.0 (c.in_err-count_group.ensures.sound tells most empty
+    rw (p.1, p.2) (handed Unit ChainHead c.in_err-count_group.field-0.0 (c.in_err-count_group.ensures.not_damaged tells most empty
     (found_raise s z y c.in_ok-is_dense.ensures.state same c.args.node c.args.label c.in-Some.group most empty end.keeps found)))
 
 pub returns-clause-found : goal.returns-clause-found
@@ -73,8 +73,8 @@ returns-clause-found g c = λ tells most empty x row end.
     (finds_group s z y c.in_ok-is_dense.ensures.state same c.args.node c.args.label c.in-Some.group t c.args.side most empty x row end found can
     (c.in_ok-count_group.ensures.raised tells most empty can))
 
-pub returns-in_default-clause-sound : goal.returns-in_default-clause-sound
-returns-in_default-clause-sound g c = λ tells most empty x row end.
+pub returns-in_default-clause-not_damaged : goal.returns-in_default-clause-not_damaged
+returns-in_default-clause-not_damaged g c = λ tells most empty x row end.
     let s = g.S.Reads.state c.args.space.now in
     let z = g.S.Reads.state c.is_dense.new.space in
     let same = c.in_ok-is_dense.ensures.state in

@@ -13,34 +13,34 @@ use Rattle.rec_bytes.proofs.Causes.{never_ok}
 use Rattle.chain_edit.proofs.Causes.{same_has}
 use Rattle.group_store.proofs.raising.count_chains.Goals as goal
 
-pub returns-in_err-out-clause-sound : goal.returns-in_err-out-clause-sound
-returns-in_err-out-clause-sound g c = λ tells is most empty can.
+pub returns-in_err-out-clause-not_damaged : goal.returns-in_err-out-clause-not_damaged
+returns-in_err-out-clause-not_damaged g c = λ tells is most empty can.
     let s = g.R.Reads.state c.args.space.now in
     let p = err_from_is_err_and c.from_residual.result c.from_residual.ensures.1 in
     let chain = side_chain s c.args.node c.args.row.now most empty can Out in
-    rw (p.1, p.2) (handed ℕ Counts c.in_err-out.field-0.0 (c.in_err-out.ensures.sound tells (can.keeps.ranges.metas 2 refl).high chain.0 chain.1))
+    rw (p.1, p.2) (handed ℕ Counts c.in_err-out.field-0.0 (c.in_err-out.ensures.not_damaged tells (can.keeps.ranges.metas 2 refl).high chain.0 chain.1))
 
-pub returns-in_err-into-clause-sound : goal.returns-in_err-into-clause-sound
-returns-in_err-into-clause-sound g c = λ tells is most empty can.
+pub returns-in_err-into-clause-not_damaged : goal.returns-in_err-into-clause-not_damaged
+returns-in_err-into-clause-not_damaged g c = λ tells is most empty can.
     let s = g.R.Reads.state c.args.space.now in
     let z = g.R.Reads.state c.side_length.new.space in
     let now = can_read s z c.args.node c.args.row.now most empty c.in_ok-out.ensures.state can in
     let p = err_from_is_err_and c.from_residual-in_err-into.result c.from_residual-in_err-into.ensures.1 in
     let chain = side_chain z c.args.node c.args.row.now most empty now Into in
-    rw (p.1, p.2) (handed ℕ Counts c.in_err-into.field-0.0 (c.in_err-into.ensures.sound tells (now.keeps.ranges.metas 2 refl).high chain.0 chain.1))
+    rw (p.1, p.2) (handed ℕ Counts c.in_err-into.field-0.0 (c.in_err-into.ensures.not_damaged tells (now.keeps.ranges.metas 2 refl).high chain.0 chain.1))
 
-pub returns-in_err-loops-clause-sound : goal.returns-in_err-loops-clause-sound
-returns-in_err-loops-clause-sound g c = λ tells is most empty can.
+pub returns-in_err-loops-clause-not_damaged : goal.returns-in_err-loops-clause-not_damaged
+returns-in_err-loops-clause-not_damaged g c = λ tells is most empty can.
     let s = g.R.Reads.state c.args.space.now in
     let y = g.R.Reads.state c.side_length.new.space in
     let z = g.R.Reads.state c.side_length-2.new.space in
     let now = can_read s z c.args.node c.args.row.now most empty (same_twice s y z c.in_ok-out.ensures.state c.in_ok-into.ensures.state) can in
     let p = err_from_is_err_and c.from_residual-in_err-loops.result c.from_residual-in_err-loops.ensures.1 in
     let chain = side_chain z c.args.node c.args.row.now most empty now Loop in
-    rw (p.1, p.2) (handed ℕ Counts c.in_err-loops.field-0.0 (c.in_err-loops.ensures.sound tells (now.keeps.ranges.metas 2 refl).high chain.0 chain.1))
+    rw (p.1, p.2) (handed ℕ Counts c.in_err-loops.field-0.0 (c.in_err-loops.ensures.not_damaged tells (now.keeps.ranges.metas 2 refl).high chain.0 chain.1))
 
-pub returns-then-limit-out-clause-sound : goal.returns-then-limit-out-clause-sound
-returns-then-limit-out-clause-sound g c = λ tells is most empty can.
+pub returns-then-limit-out-clause-not_damaged : goal.returns-then-limit-out-clause-not_damaged
+returns-then-limit-out-clause-not_damaged g c = λ tells is most empty can.
     let s = g.R.Reads.state c.args.space.now in
     let y = g.R.Reads.state c.side_length.new.space in
     let z = g.R.Reads.state c.side_length-2.new.space in

@@ -122,8 +122,8 @@ returns-in_err-set_counts-clause-leaves_others g c _ _ = never_ok c.from_residua
 pub returns-in_err-set_counts-clause-counts : goal.returns-in_err-set_counts-clause-counts
 returns-in_err-set_counts-clause-counts g c _ _ = never_ok c.from_residual-in_err-set_counts.result _ _ c.from_residual-in_err-set_counts.ensures.1
 
-pub returns-in_err-rec-clause-sound : goal.returns-in_err-rec-clause-sound
-returns-in_err-rec-clause-sound g c _ _ _ _ = space_has _ tt tt c.from_residual.result c.in_err-rec.field-0.0 c.from_residual.ensures.1
+pub returns-in_err-rec-clause-not_damaged : goal.returns-in_err-rec-clause-not_damaged
+returns-in_err-rec-clause-not_damaged g c _ _ _ _ = space_has _ tt tt c.from_residual.result c.in_err-rec.field-0.0 c.from_residual.ensures.1
 
 pub returns-in_err-rec-clause-breaks : goal.returns-in_err-rec-clause-breaks
 returns-in_err-rec-clause-breaks g c _ _ = space_has _ tt tt c.from_residual.result c.in_err-rec.field-0.0 c.from_residual.ensures.1
@@ -134,8 +134,8 @@ returns-in_err-rec-clause-names g c _ = space_has _ tt tt c.from_residual.result
 pub returns-in_err-rec-clause-unwritten : goal.returns-in_err-rec-clause-unwritten
 returns-in_err-rec-clause-unwritten g c = space_has _ tt tt c.from_residual.result c.in_err-rec.field-0.0 c.from_residual.ensures.1
 
-pub returns-in_err-set_counts-clause-sound : goal.returns-in_err-set_counts-clause-sound
-returns-in_err-set_counts-clause-sound g c _ _ _ _ = space_has _ tt tt c.from_residual-in_err-set_counts.result c.in_err-set_counts.field-0.0
+pub returns-in_err-set_counts-clause-not_damaged : goal.returns-in_err-set_counts-clause-not_damaged
+returns-in_err-set_counts-clause-not_damaged g c _ _ _ _ = space_has _ tt tt c.from_residual-in_err-set_counts.result c.in_err-set_counts.field-0.0
     c.from_residual-in_err-set_counts.ensures.1
 
 pub returns-in_err-set_counts-clause-breaks : goal.returns-in_err-set_counts-clause-breaks

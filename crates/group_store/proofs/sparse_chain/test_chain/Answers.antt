@@ -96,8 +96,8 @@ returns-then-at-2-clause-chain g c = λ tells.
 
 -- ---- none is told of a right chain
 
-pub returns-in_err-next-clause-sound : goal.returns-in_err-next-clause-sound
-returns-in_err-next-clause-sound g c = λ tells is members chain readable few.
+pub returns-in_err-next-clause-not_damaged : goal.returns-in_err-next-clause-not_damaged
+returns-in_err-next-clause-not_damaged g c = λ tells is members chain readable few.
     let s = g.R.Reads.state c.args.space.now in
     let was = c.loop.invariant in
     let p = err_from_is_err_and c.from_residual.result c.from_residual.ensures.1 in
@@ -105,8 +105,8 @@ returns-in_err-next-clause-sound g c = λ tells is members chain readable few.
     (step_sound s (g.R.Reads.state c.loop.space) c.args.node c.loop.before c.loop.at c.loop.counter members was.same c.if-at.false readable
     (was.tail tells is members chain) c.in_err-next.field-0.0 (c.in_err-next.ensures.damaged tells)))
 
-pub returns-in_err-meet-clause-sound : goal.returns-in_err-meet-clause-sound
-returns-in_err-meet-clause-sound g c = λ tells is members chain readable few.
+pub returns-in_err-meet-clause-not_damaged : goal.returns-in_err-meet-clause-not_damaged
+returns-in_err-meet-clause-not_damaged g c = λ tells is members chain readable few.
     let s = g.R.Reads.state c.args.space.now in
     let was = c.loop.invariant in
     let p = err_from_is_err_and c.from_residual-in_err-meet.result c.from_residual-in_err-meet.ensures.1 in
@@ -114,8 +114,8 @@ returns-in_err-meet-clause-sound g c = λ tells is members chain readable few.
     (step_sound s (g.R.Reads.state c.loop.space) c.args.node c.loop.before c.loop.at c.loop.counter members was.same c.if-at-2.false readable
     (was.tail tells is members chain) c.in_err-meet.field-0.0 (c.in_err-meet.ensures.damaged tells)))
 
-pub returns-clause-sound : goal.returns-clause-sound
-returns-clause-sound g c = λ tells is members chain readable few.
+pub returns-clause-not_damaged : goal.returns-clause-not_damaged
+returns-clause-not_damaged g c = λ tells is members chain readable few.
     let s = g.R.Reads.state c.args.space.now in
     let low = tail_low s c.args.node c.loop.before c.loop.at c.loop.counter members c.if-at-2.false (c.loop.invariant.tail tells is members chain) in
     omega (arith, low, few, c.loop-test.false, c.loop.auto.counter-end)

@@ -98,8 +98,8 @@ returns-in_err-rec-clause-damaged g c = λ tells.
     (c.meta-budget.result.high - c.loop.counter) c.loop.at c.in_err-rec.field-0.0
     c.loop.invariant.read c.if-at.false (c.loop.invariant.left tells) (c.in_err-rec.ensures.damaged tells))
 
-pub returns-in_err-rec-clause-sound : goal.returns-in_err-rec-clause-sound
-returns-in_err-rec-clause-sound g c = λ tells xs can.
+pub returns-in_err-rec-clause-not_damaged : goal.returns-in_err-rec-clause-not_damaged
+returns-in_err-rec-clause-not_damaged g c = λ tells xs can.
     let s = g.R.Reads.state c.args.space.now in
     let p = err_from_is_err_and c.from_residual.result c.from_residual.ensures.1 in
     not_damaged_at c.from_residual.result p.0 c.in_err-rec.field-0.0 p.1 p.2 (undamaged s c.args.row.now.id c.args.row.now.first xs c.in_err-rec.field-0.0 can
@@ -162,8 +162,8 @@ returns-in_err-push-clause-few_reads g c = λ tells xs can.
     reads_more s (g.R.Reads.state c.loop.space) (g.R.Reads.state c.read_member.new.space) (length c.loop.rows.items) 1 (length xs) (omega arith)
     c.loop.invariant.read c.in_ok-rec.ensures.at_most
 
-pub returns-then-at-2-clause-sound : goal.returns-then-at-2-clause-sound
-returns-then-at-2-clause-sound g c = λ tells xs can.
+pub returns-then-at-2-clause-not_damaged : goal.returns-then-at-2-clause-not_damaged
+returns-then-at-2-clause-not_damaged g c = λ tells xs can.
     let s = g.R.Reads.state c.args.space.now in
     let ge = c.loop-test.false in
     absurd (c.if-at-2.true (left_none s.records (c.meta-budget.result.high - c.loop.counter) c.loop.at xs (omega arith)
@@ -192,8 +192,8 @@ returns-in_err-push-clause-reads g c = never_ok c.from_residual-in_err-push.resu
 pub returns-in_err-push-clause-damaged : goal.returns-in_err-push-clause-damaged
 returns-in_err-push-clause-damaged g c _ = same_has _ c.from_residual-in_err-push.result _ c.from_residual-in_err-push.ensures.1 tt
 
-pub returns-in_err-push-clause-sound : goal.returns-in_err-push-clause-sound
-returns-in_err-push-clause-sound g c _ _ _ = same_has _ c.from_residual-in_err-push.result _ c.from_residual-in_err-push.ensures.1 tt
+pub returns-in_err-push-clause-not_damaged : goal.returns-in_err-push-clause-not_damaged
+returns-in_err-push-clause-not_damaged g c _ _ _ = same_has _ c.from_residual-in_err-push.result _ c.from_residual-in_err-push.ensures.1 tt
 
 pub returns-in_err-rec-clause-onward : goal.returns-in_err-rec-clause-onward
 returns-in_err-rec-clause-onward g c = g.met.R.Reads.further_onward _ _ _ c.loop.invariant.onward c.in_err-rec.ensures.onward

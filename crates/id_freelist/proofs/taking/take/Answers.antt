@@ -32,8 +32,8 @@ returns-then-not-is_ranged-clause-refused g c tells =
     (tested s c.args.file c.meta-meta.result c.shape.result c.room_of-room.result c.is_ranged.result false c.meta-meta.ensures c.shape.ensures.is
     c.room_of-room.ensures c.is_ranged.ensures c.if-not-is_ranged.true))
 
-pub returns-then-not-is_ranged-clause-sound : goal.returns-then-not-is_ranged-clause-sound
-returns-then-not-is_ranged-clause-sound g c tells free can =
+pub returns-then-not-is_ranged-clause-not_damaged : goal.returns-then-not-is_ranged-clause-not_damaged
+returns-then-not-is_ranged-clause-not_damaged g c tells free can =
     let s = g.S.Reads.state c.args.space.now in
     sound_of s c.args.file (Err c.damaged.result) (subst (IsTakeFault s c.args.file) (sym c.damaged.ensures) (unranged s c.args.file
     (tested s c.args.file c.meta-meta.result c.shape.result c.room_of-room.result c.is_ranged.result false c.meta-meta.ensures c.shape.ensures.is
@@ -42,12 +42,12 @@ returns-then-not-is_ranged-clause-sound g c tells free can =
 pub returns-then-not-is_counted-clause-refused : goal.returns-then-not-is_counted-clause-refused
 returns-then-not-is_counted-clause-refused g c tells = c.in_ok-damage.ensures.is tells
 
-pub returns-then-not-is_counted-clause-sound : goal.returns-then-not-is_counted-clause-sound
-returns-then-not-is_counted-clause-sound g c tells free can =
+pub returns-then-not-is_counted-clause-not_damaged : goal.returns-then-not-is_counted-clause-not_damaged
+returns-then-not-is_counted-clause-not_damaged g c tells free can =
     sound_of (g.S.Reads.state c.args.space.now) c.args.file (Err (Damaged c.in_ok-damage.damage)) (c.in_ok-damage.ensures.is tells) free can
 
-pub returns-else-meta-clause-sound : goal.returns-else-meta-clause-sound
-returns-else-meta-clause-sound g c tells free can = sound_of (g.S.Reads.state c.args.space.now) c.args.file c.take_free.result
+pub returns-else-meta-clause-not_damaged : goal.returns-else-meta-clause-not_damaged
+returns-else-meta-clause-not_damaged g c tells free can = sound_of (g.S.Reads.state c.args.space.now) c.args.file c.take_free.result
     (c.take_free.ensures.refused tells) free can
 
 pub returns-else-meta-clause-undamaged : goal.returns-else-meta-clause-undamaged

@@ -85,14 +85,14 @@ returns-in_err-damage-clause-read g c =
 pub returns-in_err-damage-2-clause-decided : goal.returns-in_err-damage-2-clause-decided
 returns-in_err-damage-2-clause-decided g c _ = never_ok c.from_residual-in_err-damage-2.result _ _ c.from_residual-in_err-damage-2.ensures.1
 
-pub returns-in_err-damage-clause-sound : goal.returns-in_err-damage-clause-sound
-returns-in_err-damage-clause-sound g c _ _ = space_exit c.from_residual.result c.in_err-damage.field-0.0 c.from_residual.ensures.1
+pub returns-in_err-damage-clause-not_damaged : goal.returns-in_err-damage-clause-not_damaged
+returns-in_err-damage-clause-not_damaged g c _ _ = space_exit c.from_residual.result c.in_err-damage.field-0.0 c.from_residual.ensures.1
 
 pub returns-in_err-damage-clause-cause : goal.returns-in_err-damage-clause-cause
 returns-in_err-damage-clause-cause g c =
     space_cause_passed _ _ _ c.from_residual.result c.in_err-damage.field-0.0 (omega arith) c.in_err-damage.ensures.cause c.from_residual.ensures.1
 
-pub returns-in_err-damage-2-clause-sound : goal.returns-in_err-damage-2-clause-sound
-returns-in_err-damage-2-clause-sound g c tells readable =
+pub returns-in_err-damage-2-clause-not_damaged : goal.returns-in_err-damage-2-clause-not_damaged
+returns-in_err-damage-2-clause-not_damaged g c tells readable =
     sound_exit c.from_residual-in_err-damage-2.result c.in_err-damage-2.field-0.0 c.from_residual-in_err-damage-2.ensures.1
-    (c.in_err-damage-2.ensures.sound tells (subst AreReadable (sym (c.in_ok-damage.ensures.read.records)) readable))
+    (c.in_err-damage-2.ensures.not_damaged tells (subst AreReadable (sym (c.in_ok-damage.ensures.read.records)) readable))

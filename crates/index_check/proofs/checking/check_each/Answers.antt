@@ -53,10 +53,10 @@ returns-clause-right g c = λ tells d m.
     let i = c.loop-definition.definition-index in
     c.loop-definition.invariant.right tells d (subst (λ (ds : List Definition). In d (map id_of ds)) (sym (take_all i all (omega arith))) m)
 
-pub returns-in_err-damage-clause-sound : goal.returns-in_err-damage-clause-sound
-returns-in_err-damage-clause-sound g c = λ tells readable.
+pub returns-in_err-damage-clause-not_damaged : goal.returns-in_err-damage-clause-not_damaged
+returns-in_err-damage-clause-not_damaged g c = λ tells readable.
     sound_exit c.from_residual.result c.in_err-damage.field-0.0 c.from_residual.ensures.1
-    (c.in_err-damage.ensures.sound tells (subst AreReadable (sym c.loop-definition.invariant.read.records) readable))
+    (c.in_err-damage.ensures.not_damaged tells (subst AreReadable (sym c.loop-definition.invariant.read.records) readable))
 
 pub returns-in_err-damage-clause-read : goal.returns-in_err-damage-clause-read
 returns-in_err-damage-clause-read g c =

@@ -17,11 +17,11 @@ returns-in-Ok-clause-only g c = λ tells ix. never_broken (g.R.Reads.state c.arg
 pub returns-in-Err-Damaged-clause-only : goal.returns-in-Err-Damaged-clause-only
 returns-in-Err-Damaged-clause-only g c = λ tells ix.
     let s = g.R.Reads.state c.args.space.now in
-    let sound = c.in-Err-Damaged.ensures.sound tells (readable_of s.records s.shape (c.requires.rules tells)) in
+    let sound = c.in-Err-Damaged.ensures.not_damaged tells (readable_of s.records s.shape (c.requires.rules tells)) in
     absurd (subst (λ (f : Fault). IfSome (damage_of f) (λ _. ⊥)) c.in-Err-Damaged.field-0-is sound)
 
 pub returns-in-Err-Damaged-clause-decided : goal.returns-in-Err-Damaged-clause-decided
 returns-in-Err-Damaged-clause-decided g c = λ tells.
     let s = g.R.Reads.state c.args.space.now in
-    let sound = c.in-Err-Damaged.ensures.sound tells (readable_of s.records s.shape (c.requires.rules tells)) in
+    let sound = c.in-Err-Damaged.ensures.not_damaged tells (readable_of s.records s.shape (c.requires.rules tells)) in
     absurd (subst (λ (f : Fault). IfSome (damage_of f) (λ _. ⊥)) c.in-Err-Damaged.field-0-is sound)

@@ -40,15 +40,15 @@ returns-in_err-ids-clause-read g c =
 pub returns-in_err-definitions-clause-decided : goal.returns-in_err-definitions-clause-decided
 returns-in_err-definitions-clause-decided g c _ = never_ok c.from_residual-in_err-definitions.result _ _ c.from_residual-in_err-definitions.ensures.1
 
-pub returns-in_err-ids-clause-sound : goal.returns-in_err-ids-clause-sound
-returns-in_err-ids-clause-sound g c _ _ = space_exit c.from_residual.result c.in_err-ids.field-0.0 c.from_residual.ensures.1
+pub returns-in_err-ids-clause-not_damaged : goal.returns-in_err-ids-clause-not_damaged
+returns-in_err-ids-clause-not_damaged g c _ _ = space_exit c.from_residual.result c.in_err-ids.field-0.0 c.from_residual.ensures.1
 
 pub returns-in_err-ids-clause-cause : goal.returns-in_err-ids-clause-cause
 returns-in_err-ids-clause-cause g c =
     space_cause_passed _ _ _ c.from_residual.result c.in_err-ids.field-0.0 (omega arith) c.in_err-ids.ensures.cause c.from_residual.ensures.1
 
-pub returns-in_err-definitions-clause-sound : goal.returns-in_err-definitions-clause-sound
-returns-in_err-definitions-clause-sound g c _ _ = space_exit c.from_residual-in_err-definitions.result c.in_err-definitions.field-0.0
+pub returns-in_err-definitions-clause-not_damaged : goal.returns-in_err-definitions-clause-not_damaged
+returns-in_err-definitions-clause-not_damaged g c _ _ = space_exit c.from_residual-in_err-definitions.result c.in_err-definitions.field-0.0
     c.from_residual-in_err-definitions.ensures.1
 
 pub returns-in_default-clause-cause : goal.returns-in_default-clause-cause
@@ -57,8 +57,8 @@ returns-in_default-clause-cause g c = ok_cause _ _ _ _ c.in_ok-ids.ensures.cause
 pub returns-in_default-clause-read : goal.returns-in_default-clause-read
 returns-in_default-clause-read g c = c.in_ok-ids.ensures.read
 
-pub returns-in_default-clause-sound : goal.returns-in_default-clause-sound
-returns-in_default-clause-sound g c tells readable = tt
+pub returns-in_default-clause-not_damaged : goal.returns-in_default-clause-not_damaged
+returns-in_default-clause-not_damaged g c tells readable = tt
 
 pub returns-clause-cause : goal.returns-clause-cause
 returns-clause-cause g c =

@@ -134,22 +134,23 @@ returns-in_err-node-in-Nodes-clause-right g c _ = never_ok c.from_residual-in_er
 pub returns-in_err-node-in-Nodes-clause-broken : goal.returns-in_err-node-in-Nodes-clause-broken
 returns-in_err-node-in-Nodes-clause-broken g c _ = never_ok c.from_residual-in_err-node-in-Nodes.result _ _ c.from_residual-in_err-node-in-Nodes.ensures.1
 
-pub returns-in_err-entries-clause-sound : goal.returns-in_err-entries-clause-sound
-returns-in_err-entries-clause-sound g c _ _ = space_exit c.from_residual.result c.in_err-entries.field-0.0 c.from_residual.ensures.1
+pub returns-in_err-entries-clause-not_damaged : goal.returns-in_err-entries-clause-not_damaged
+returns-in_err-entries-clause-not_damaged g c _ _ = space_exit c.from_residual.result c.in_err-entries.field-0.0 c.from_residual.ensures.1
 
 pub returns-in_err-entries-clause-cause : goal.returns-in_err-entries-clause-cause
 returns-in_err-entries-clause-cause g c =
     space_cause_passed _ _ _ c.from_residual.result c.in_err-entries.field-0.0 (omega arith) c.in_err-entries.ensures.cause c.from_residual.ensures.1
 
-pub returns-in_err-id-clause-sound : goal.returns-in_err-id-clause-sound
-returns-in_err-id-clause-sound g c tells readable =
+pub returns-in_err-id-clause-not_damaged : goal.returns-in_err-id-clause-not_damaged
+returns-in_err-id-clause-not_damaged g c tells readable =
     sound_exit c.from_residual-in_err-id.result c.in_err-id.field-0.0 c.from_residual-in_err-id.ensures.1
-    (c.in_err-id.ensures.sound tells (subst AreReadable (sym (c.in_ok-entries.ensures.read.records)) readable))
+    (c.in_err-id.ensures.not_damaged tells (subst AreReadable (sym (c.in_ok-entries.ensures.read.records)) readable))
 
-pub returns-in_err-node-in-Nodes-clause-sound : goal.returns-in_err-node-in-Nodes-clause-sound
-returns-in_err-node-in-Nodes-clause-sound g c tells readable =
+pub returns-in_err-node-in-Nodes-clause-not_damaged : goal.returns-in_err-node-in-Nodes-clause-not_damaged
+returns-in_err-node-in-Nodes-clause-not_damaged g c tells readable =
     sound_exit c.from_residual-in_err-node-in-Nodes.result c.in_err-node-in-Nodes.field-0.0 c.from_residual-in_err-node-in-Nodes.ensures.1
-    (c.in_err-node-in-Nodes.ensures.sound tells (subst AreReadable (sym (c.in_ok-id.ensures.read.records ∙ c.in_ok-entries.ensures.read.records)) readable))
+    (c.in_err-node-in-Nodes.ensures.not_damaged tells (subst AreReadable (sym (c.in_ok-id.ensures.read.records
+        ∙ c.in_ok-entries.ensures.read.records)) readable))
 
 pub returns-in_default-clause-cause : goal.returns-in_default-clause-cause
 returns-in_default-clause-cause g c = ok_cause _ _ _ _ c.in_ok-entries.ensures.cause.later

@@ -15,8 +15,8 @@ pub returns-in_err-seen-clause-read : goal.returns-in_err-seen-clause-read
 returns-in_err-seen-clause-read g c =
     is_read-none g.R.Reads g.met.R.Reads.stays_onward c.args.space.now
 
-pub returns-in_err-seen-clause-sound : goal.returns-in_err-seen-clause-sound
-returns-in_err-seen-clause-sound g c _ _ = same_has _ c.from_residual.result _ c.from_residual.ensures.1 tt
+pub returns-in_err-seen-clause-not_damaged : goal.returns-in_err-seen-clause-not_damaged
+returns-in_err-seen-clause-not_damaged g c _ _ = same_has _ c.from_residual.result _ c.from_residual.ensures.1 tt
 
 pub returns-in_err-seen-clause-cause : goal.returns-in_err-seen-clause-cause
 returns-in_err-seen-clause-cause g c =

@@ -62,10 +62,10 @@ returns-clause-none g c = λ tells n h.
     let mark : c.meta-node-end.result.high ≡ high records format.nodes_file = ap (λ (m : Meta). m.high) c.meta-node-end.ensures in
     c.loop-node.invariant.met tells n (omega arith) h
 
-pub returns-in_err-is_missing-clause-sound : goal.returns-in_err-is_missing-clause-sound
-returns-in_err-is_missing-clause-sound g c = λ tells readable.
+pub returns-in_err-is_missing-clause-not_damaged : goal.returns-in_err-is_missing-clause-not_damaged
+returns-in_err-is_missing-clause-not_damaged g c = λ tells readable.
     sound_exit c.from_residual.result c.in_err-is_missing.field-0.0 c.from_residual.ensures.1
-    (c.in_err-is_missing.ensures.sound tells (subst AreReadable (sym c.loop-node.invariant.read.records) readable))
+    (c.in_err-is_missing.ensures.not_damaged tells (subst AreReadable (sym c.loop-node.invariant.read.records) readable))
 
 pub returns-in_err-is_missing-clause-cause : goal.returns-in_err-is_missing-clause-cause
 returns-in_err-is_missing-clause-cause g c =

@@ -35,9 +35,9 @@ pub returns-in_err-value-clause-read : goal.returns-in_err-value-clause-read
 returns-in_err-value-clause-read g c =
     c.in_err-value.ensures.read
 
-pub returns-in_err-value-clause-sound : goal.returns-in_err-value-clause-sound
-returns-in_err-value-clause-sound g c tells readable =
-    sound_exit c.from_residual.result c.in_err-value.field-0.0 c.from_residual.ensures.1 (c.in_err-value.ensures.sound tells readable)
+pub returns-in_err-value-clause-not_damaged : goal.returns-in_err-value-clause-not_damaged
+returns-in_err-value-clause-not_damaged g c tells readable =
+    sound_exit c.from_residual.result c.in_err-value.field-0.0 c.from_residual.ensures.1 (c.in_err-value.ensures.not_damaged tells readable)
 
 pub returns-in_err-value-clause-cause : goal.returns-in_err-value-clause-cause
 returns-in_err-value-clause-cause g c =

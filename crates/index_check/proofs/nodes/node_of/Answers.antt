@@ -91,13 +91,13 @@ returns-in_err-value-clause-unwanted g c _ = never_ok c.from_residual-in_err-val
 pub returns-in_err-value-clause-low : goal.returns-in_err-value-clause-low
 returns-in_err-value-clause-low g c = never_ok c.from_residual-in_err-value.result _ _ c.from_residual-in_err-value.ensures.1
 
-pub returns-in_err-rec-clause-sound : goal.returns-in_err-rec-clause-sound
-returns-in_err-rec-clause-sound g c _ _ = space_exit c.from_residual.result c.in_err-rec.field-0.0 c.from_residual.ensures.1
+pub returns-in_err-rec-clause-not_damaged : goal.returns-in_err-rec-clause-not_damaged
+returns-in_err-rec-clause-not_damaged g c _ _ = space_exit c.from_residual.result c.in_err-rec.field-0.0 c.from_residual.ensures.1
 
-pub returns-in_err-value-clause-sound : goal.returns-in_err-value-clause-sound
-returns-in_err-value-clause-sound g c tells readable =
+pub returns-in_err-value-clause-not_damaged : goal.returns-in_err-value-clause-not_damaged
+returns-in_err-value-clause-not_damaged g c tells readable =
     sound_exit c.from_residual-in_err-value.result c.in_err-value.field-0.0 c.from_residual-in_err-value.ensures.1
-    (c.in_err-value.ensures.sound tells (subst AreReadable (sym (ap (λ (s : State). s.records) c.in_ok-rec.ensures.state)) readable))
+    (c.in_err-value.ensures.not_damaged tells (subst AreReadable (sym (ap (λ (s : State). s.records) c.in_ok-rec.ensures.state)) readable))
 
 pub returns-clause-cause : goal.returns-clause-cause
 returns-clause-cause g c = ok_cause _ _ _ _ (later_on c.in_ok-rec.ensures.cause.later c.in_ok-value.ensures.cause.later)

@@ -97,10 +97,10 @@ pub returns-in_err-node-clause-cause : goal.returns-in_err-node-clause-cause
 returns-in_err-node-clause-cause g c =
     cause_passed _ _ _ c.from_residual.result c.in_err-node.field-0.0 c.loop-id.invariant.read.later c.in_err-node.ensures.cause c.from_residual.ensures.1
 
-pub returns-in_err-node-clause-sound : goal.returns-in_err-node-clause-sound
-returns-in_err-node-clause-sound g c = λ tells readable.
+pub returns-in_err-node-clause-not_damaged : goal.returns-in_err-node-clause-not_damaged
+returns-in_err-node-clause-not_damaged g c = λ tells readable.
     sound_exit c.from_residual.result c.in_err-node.field-0.0 c.from_residual.ensures.1
-    (c.in_err-node.ensures.sound tells (subst AreReadable (sym c.loop-id.invariant.read.records) readable))
+    (c.in_err-node.ensures.not_damaged tells (subst AreReadable (sym c.loop-id.invariant.read.records) readable))
 
 pub returns-in_err-push-in-Some-clause-read : goal.returns-in_err-push-in-Some-clause-read
 returns-in_err-push-in-Some-clause-read g c =
@@ -127,8 +127,8 @@ returns-in_err-push-in-Some-clause-told g c _ = never_ok c.from_residual-in_err-
 pub returns-in_err-push-in-Some-clause-low : goal.returns-in_err-push-in-Some-clause-low
 returns-in_err-push-in-Some-clause-low g c = never_ok c.from_residual-in_err-push-in-Some.result _ _ c.from_residual-in_err-push-in-Some.ensures.1
 
-pub returns-in_err-push-in-Some-clause-sound : goal.returns-in_err-push-in-Some-clause-sound
-returns-in_err-push-in-Some-clause-sound g c _ _ = same_has _ c.from_residual-in_err-push-in-Some.result _ c.from_residual-in_err-push-in-Some.ensures.1 tt
+pub returns-in_err-push-in-Some-clause-not_damaged : goal.returns-in_err-push-in-Some-clause-not_damaged
+returns-in_err-push-in-Some-clause-not_damaged g c _ _ = same_has _ c.from_residual-in_err-push-in-Some.result _ c.from_residual-in_err-push-in-Some.ensures.1 tt
 
 pub returns-clause-cause : goal.returns-clause-cause
 returns-clause-cause g c = ok_cause _ _ _ _ c.loop-id.invariant.read.later

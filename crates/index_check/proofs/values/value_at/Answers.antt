@@ -71,15 +71,16 @@ returns-in_err-value-clause-read g c =
     (is_read-gets g.R.Reads c.in_err-value.ensures.at_most.count _ _ c.in_err-value.ensures.at_most.is c.in_err-value.ensures.onward
     c.in_err-value.ensures.cause.later)
 
-pub returns-in_err-value-clause-sound : goal.returns-in_err-value-clause-sound
-returns-in_err-value-clause-sound g c = λ tells readable.
+pub returns-in_err-value-clause-not_damaged : goal.returns-in_err-value-clause-not_damaged
+returns-in_err-value-clause-not_damaged g c = λ tells readable.
     let records = (g.R.Reads.state c.args.space.now).records in
     let mark : c.meta.result.high ≡ high records format.nodes_file = ap (λ (m : Meta). m.high) c.meta.ensures in
     let low : c.args.node < high records format.nodes_file = omega (arith, c.if-node-meta.false) in
     let kind = kind_read records format.nodes_file c.args.node c.in_ok-rec.rec low (c.in_ok-rec.ensures.got tells) in
     let has = readable c.args.node (λ z. c.if-byte-eq-FREE.false (c.byte.ensures ∙ sym kind ∙ z)) in
     sound_exit c.from_residual-in_err-value.result c.in_err-value.field-0.0 c.from_residual-in_err-value.ensures.1
-    (c.in_err-value.ensures.sound tells has.0 (subst (λ (s : State). HasProperties s.records (node_owner c.args.node) has.0) (sym c.in_ok-rec.ensures.state)
+    (c.in_err-value.ensures.not_damaged tells has.0 (subst (λ (s : State). HasProperties s.records (node_owner c.args.node) has.0)
+        (sym c.in_ok-rec.ensures.state)
     has.1))
 
 pub returns-in_err-value-clause-cause : goal.returns-in_err-value-clause-cause
@@ -107,8 +108,8 @@ returns-in_err-value-clause-is g c _ = never_ok c.from_residual-in_err-value.res
 pub returns-in_err-value-clause-low : goal.returns-in_err-value-clause-low
 returns-in_err-value-clause-low g c = never_ok c.from_residual-in_err-value.result _ _ c.from_residual-in_err-value.ensures.1
 
-pub returns-in_err-rec-clause-sound : goal.returns-in_err-rec-clause-sound
-returns-in_err-rec-clause-sound g c _ _ = space_exit c.from_residual.result c.in_err-rec.field-0.0 c.from_residual.ensures.1
+pub returns-in_err-rec-clause-not_damaged : goal.returns-in_err-rec-clause-not_damaged
+returns-in_err-rec-clause-not_damaged g c _ _ = space_exit c.from_residual.result c.in_err-rec.field-0.0 c.from_residual.ensures.1
 
 pub returns-then-byte-eq-FREE-clause-cause : goal.returns-then-byte-eq-FREE-clause-cause
 returns-then-byte-eq-FREE-clause-cause g c = ok_cause _ _ _ _ c.in_ok-rec.ensures.cause.later

@@ -78,8 +78,8 @@ returns-in_err-load_next-clause-first g c = λ tells.
     let before = AreLoadableTo-first s.records names c.count.ensures.are_names (c.each.invariant.first tells) (c.each.invariant.form tells) in
     rw (p.1, p.2) (IsFirstDamage-at s.records (length names) c.in_err-load_next.field-0.0 before c.in_err-load_next.ensures.at)
 
-pub returns-in_err-load_next-clause-sound : goal.returns-in_err-load_next-clause-sound
-returns-in_err-load_next-clause-sound g c = λ tells right.
+pub returns-in_err-load_next-clause-not_damaged : goal.returns-in_err-load_next-clause-not_damaged
+returns-in_err-load_next-clause-not_damaged g c = λ tells right.
     let s = g.R.Reads.state c.args.space.now in
     let m = g.R.Reads.state c.each.space in
     let there = records_there (length c.each.names.names) s m c.each.invariant.state in

@@ -84,7 +84,7 @@ returns-in_err-left-clause-refused g c tells wanted ix store wants low =
     let s = g.S.Reads.state c.args.space.now in
     let held = c.args.held.now in
     fault_exit (λ f. f) (IsEntryRefusal s held) c.in_err-left.field-0.0 c.from_residual.result c.from_residual.ensures.1
-    (inl (c.in_err-left.ensures.sound tells wanted ix store))
+    (inl (c.in_err-left.ensures.not_damaged tells wanted ix store))
 
 pub returns-in_err-entered-clause-refused : goal.returns-in_err-entered-clause-refused
 returns-in_err-entered-clause-refused g c tells wanted ix store wants low =
@@ -94,7 +94,7 @@ returns-in_err-entered-clause-refused g c tells wanted ix store wants low =
     let fault = c.in_err-entered.field-0.0 in
     let left = c.in_ok-left.ensures.left tells wanted ix store in
     let kept = c.in_ok-left.ensures.keeps tells wanted ix store in
-    let right : IsEntryUndamaged m fault = c.in_err-entered.ensures.sound tells (without_old wanted held) left kept in
+    let right : IsEntryUndamaged m fault = c.in_err-entered.ensures.not_damaged tells (without_old wanted held) left kept in
     let shape : m.shape ≡ s.shape = g.met.S.Reads.onward_shape _ _ c.leave_entry.ensures.onward in
     let pairs = map (pair_of s.records) ix.definitions in
     let with_index : held_is_listed pairs held ≡ true → IsEntryRefusal s held fault

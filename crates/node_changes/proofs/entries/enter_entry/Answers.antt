@@ -48,11 +48,11 @@ returns-in_err-enter-clause-untouched g c tells =
     fault_exit of_take (BlamesUntouched s t) c.in_err-enter.field-0.0 c.from_residual.result c.from_residual.ensures.1
     (take_untouched s t c.in_err-enter.field-0.0 c.in_err-enter.ensures.unwritten)
 
-pub returns-in_err-enter-clause-sound : goal.returns-in_err-enter-clause-sound
-returns-in_err-enter-clause-sound g c tells wanted ix store =
+pub returns-in_err-enter-clause-not_damaged : goal.returns-in_err-enter-clause-not_damaged
+returns-in_err-enter-clause-not_damaged g c tells wanted ix store =
     let s = g.S.Reads.state c.args.space.now in
     fault_exit of_take (IsEntryUndamaged s) c.in_err-enter.field-0.0 c.from_residual.result c.from_residual.ensures.1
-    (take_undamaged Unit s c.in_err-enter.field-0.0 (c.in_err-enter.ensures.sound tells wanted (free_list s store).0 ix (store_takes s store))
+    (take_undamaged Unit s c.in_err-enter.field-0.0 (c.in_err-enter.ensures.not_damaged tells wanted (free_list s store).0 ix (store_takes s store))
     (c.in_err-enter.ensures.full tells))
 
 pub returns-in_err-enter-clause-full : goal.returns-in_err-enter-clause-full

@@ -119,8 +119,8 @@ returns-clause-keeps g c tells wanted right low lacks once = (c.loop-assignment.
 pub returns-clause-graph : goal.returns-clause-graph
 returns-clause-graph g c tells wanted right low lacks once = (c.loop-assignment.invariant.entered tells wanted right low lacks once).2
 
-pub returns-in_err-enter-clause-sound : goal.returns-in_err-enter-clause-sound
-returns-in_err-enter-clause-sound g c tells wanted right low lacks once room =
+pub returns-in_err-enter-clause-not_damaged : goal.returns-in_err-enter-clause-not_damaged
+returns-in_err-enter-clause-not_damaged g c tells wanted right low lacks once room =
     let s = g.S.Reads.state c.args.space.now in
     let m = g.S.Reads.state c.loop-assignment.space in
     let inv = c.loop-assignment.invariant in
@@ -135,7 +135,7 @@ returns-in_err-enter-clause-sound g c tells wanted right low lacks once room =
     let shape = ap (λ (shape : Shape). room_of shape format.index_file) (g.met.S.Reads.onward_shape _ _ inv.onward_is) in
     let left : (meta_of m format.index_file).live < room_of m.shape format.index_file = omega (arith, count, few, counted, shape, room) in
     fault_exit of_take IsOutside c.in_err-enter.field-0.0 c.from_residual.result c.from_residual.ensures.1
-    (take_outside Unit m c.in_err-enter.field-0.0 (c.in_err-enter.ensures.sound tells _ (free_list m was.1).0 was.0 (store_takes m was.1))
+    (take_outside Unit m c.in_err-enter.field-0.0 (c.in_err-enter.ensures.not_damaged tells _ (free_list m was.1).0 was.0 (store_takes m was.1))
     (c.in_err-enter.ensures.full tells) left)
 
 pub returns-in_err-enter-clause-blames : goal.returns-in_err-enter-clause-blames

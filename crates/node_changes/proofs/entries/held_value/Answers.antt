@@ -11,12 +11,12 @@ use Rattle.change_parts.proofs.Exits.{fault_exit, fault_outside}
 use Rattle.rec_bytes.proofs.Causes.{never_ok, ok_cause}
 use Rattle.node_changes.proofs.entries.held_value.Goals as goal
 
-pub returns-in_err-value-clause-sound : goal.returns-in_err-value-clause-sound
-returns-in_err-value-clause-sound g c tells store used =
+pub returns-in_err-value-clause-not_damaged : goal.returns-in_err-value-clause-not_damaged
+returns-in_err-value-clause-not_damaged g c tells store used =
     let s = g.R.Reads.state c.args.space.now in
     let known = owner_known s c.args.node store used in
     fault_exit of_fault IsOutside c.in_err-value.field-0.0 c.from_residual.result c.from_residual.ensures.1
-    (fault_outside Unit c.in_err-value.field-0.0 (c.in_err-value.ensures.sound tells known.0 (subst (λ (o : Owner). HasProperties s.records o known.0)
+    (fault_outside Unit c.in_err-value.field-0.0 (c.in_err-value.ensures.not_damaged tells known.0 (subst (λ (o : Owner). HasProperties s.records o known.0)
     (sym c.node_owner.ensures) known.1)))
 
 pub returns-in_err-value-clause-same : goal.returns-in_err-value-clause-same

@@ -74,11 +74,11 @@ loop-pair-preserved g c =
       later = let a = inv.later in let b = c.held_value.ensures.cause.later in omega arith;
     }
 
-pub returns-in_err-listed-clause-sound : goal.returns-in_err-listed-clause-sound
-returns-in_err-listed-clause-sound g c tells store used =
+pub returns-in_err-listed-clause-not_damaged : goal.returns-in_err-listed-clause-not_damaged
+returns-in_err-listed-clause-not_damaged g c tells store used =
     let s = g.R.Reads.state c.args.space.now in
     fault_exit (λ f. f) IsOutside c.in_err-listed.field-0.0 c.from_residual.result c.from_residual.ensures.1
-    (c.in_err-listed.ensures.sound tells (wanted_in s.records) store.indexes store.store)
+    (c.in_err-listed.ensures.not_damaged tells (wanted_in s.records) store.indexes store.store)
 
 pub returns-in_err-listed-clause-damaged : goal.returns-in_err-listed-clause-damaged
 returns-in_err-listed-clause-damaged g c tells used =
@@ -88,13 +88,13 @@ returns-in_err-listed-clause-damaged g c tells used =
 pub returns-in_err-listed-clause-same : goal.returns-in_err-listed-clause-same
 returns-in_err-listed-clause-same g c = reads_same 17 _ _ c.listed_pairs.ensures.reads
 
-pub returns-in_err-value-clause-sound : goal.returns-in_err-value-clause-sound
-returns-in_err-value-clause-sound g c tells store used =
+pub returns-in_err-value-clause-not_damaged : goal.returns-in_err-value-clause-not_damaged
+returns-in_err-value-clause-not_damaged g c tells store used =
     let inv = c.loop-pair.invariant in
     let in_use = subst (λ (z : State). IsInUse z.records (owner_of (targets.Node c.args.node))) (sym inv.same) used in
     let rules = subst (λ (z : State). IsWellFormed z.records z.shape) (sym inv.same) store.store in
     fault_exit (λ f. f) IsOutside c.in_err-value.field-0.0 c.from_residual-in_err-value.result c.from_residual-in_err-value.ensures.1
-    (c.in_err-value.ensures.sound tells rules in_use)
+    (c.in_err-value.ensures.not_damaged tells rules in_use)
 
 pub returns-in_err-value-clause-damaged : goal.returns-in_err-value-clause-damaged
 returns-in_err-value-clause-damaged g c tells used =

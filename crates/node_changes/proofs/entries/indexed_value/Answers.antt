@@ -40,10 +40,10 @@ load_same s mid id is = subst (SameButReads s) (sym is) (by (nat_lt id (node_mar
     by true = refl
     by false = refl
 
-pub returns-in_err-listed-clause-sound : goal.returns-in_err-listed-clause-sound
-returns-in_err-listed-clause-sound g c tells wanted ix store used =
+pub returns-in_err-listed-clause-not_damaged : goal.returns-in_err-listed-clause-not_damaged
+returns-in_err-listed-clause-not_damaged g c tells wanted ix store used =
     fault_exit (λ f. f) IsOutside c.in_err-listed.field-0.0 c.from_residual.result c.from_residual.ensures.1
-    (c.in_err-listed.ensures.sound tells wanted ix store)
+    (c.in_err-listed.ensures.not_damaged tells wanted ix store)
 
 pub returns-in_err-listed-clause-same : goal.returns-in_err-listed-clause-same
 returns-in_err-listed-clause-same g c = reads_same 17 _ _ c.listed_pairs.ensures.reads
@@ -87,8 +87,8 @@ returns-in_default-2-clause-held g c tells wanted ix store used =
     let gone = kind-row_at-None m.records c.in-Node.node (sym (c.in_ok-row.ensures.found tells) ∙ c.in_default-2.is) in
     absurd (live (ap (λ (z : State). kind_at z.records format.nodes_file c.in-Node.node) (sym same) ∙ gone))
 
-pub returns-in_err-value-clause-sound : goal.returns-in_err-value-clause-sound
-returns-in_err-value-clause-sound g c tells wanted ix store used =
+pub returns-in_err-value-clause-not_damaged : goal.returns-in_err-value-clause-not_damaged
+returns-in_err-value-clause-not_damaged g c tells wanted ix store used =
     let s = g.R.Reads.state c.args.space.now in
     let m = g.R.Reads.state c.listed_pairs.new.space in
     let n = g.R.Reads.state c.load.new.space in
@@ -97,7 +97,7 @@ returns-in_err-value-clause-sound g c tells wanted ix store used =
     let known = owner_known s c.in-Node.node store live in
     let there = subst (λ (z : State). HasProperties z.records (owner_of (targets.Node c.in-Node.node)) known.0) (sym same) known.1 in
     fault_exit of_fault IsOutside c.in_err-value.field-0.0 c.from_residual-in_err-value.result c.from_residual-in_err-value.ensures.1
-    (fault_outside Unit c.in_err-value.field-0.0 (c.in_err-value.ensures.sound tells known.0 (subst (λ (o : Owner). HasProperties n.records o known.0)
+    (fault_outside Unit c.in_err-value.field-0.0 (c.in_err-value.ensures.not_damaged tells known.0 (subst (λ (o : Owner). HasProperties n.records o known.0)
     (sym c.node_owner.ensures) there)))
 
 pub returns-then-is_empty-clause-held : goal.returns-then-is_empty-clause-held
@@ -112,14 +112,14 @@ returns-then-is_empty-clause-held g c tells wanted ix store used =
     subst (λ (t : Target). IsIndexedValue s.records (map (pair_of s.records) ix.definitions) t c.args.key None) (sym c.in-Node.is)
     (ap (λ (pairs : List IndexPair). is_listed pairs label c.args.key) (sym are ∙ none))
 
-pub returns-in_err-row-clause-sound : goal.returns-in_err-row-clause-sound
-returns-in_err-row-clause-sound g c tells wanted ix store used =
+pub returns-in_err-row-clause-not_damaged : goal.returns-in_err-row-clause-not_damaged
+returns-in_err-row-clause-not_damaged g c tells wanted ix store used =
     let s = g.R.Reads.state c.args.space.now in
     let m = g.R.Reads.state c.listed_pairs.new.space in
     let same : SameButReads s m = reads_same 17 s m c.listed_pairs.ensures.reads in
     let ranges = subst (λ (z : State). AreInRange z.records z.shape) (sym same) store.ranges in
     fault_exit of_row IsOutside c.in_err-row.field-0.0 c.from_residual-in_err-row.result c.from_residual-in_err-row.ensures.1
-    (row_outside Unit c.in_err-row.field-0.0 (c.in_err-row.ensures.sound tells (IsReadable-AreInRange m c.in-Node.node ranges)))
+    (row_outside Unit c.in_err-row.field-0.0 (c.in_err-row.ensures.not_damaged tells (IsReadable-AreInRange m c.in-Node.node ranges)))
 
 -- the label that was read is that of the node
 label_read : (s m : State) (node : ℕ) (row : NodeRow) → SameButReads s m → row_at m.records node ≡ Some row

@@ -19,11 +19,11 @@ use Rattle.change_parts.proofs.Exits.{fault_exit, fault_outside}
 use Rattle.rec_bytes.proofs.Causes.{never_ok, ok_cause}
 use Rattle.node_changes.proofs.entries.leave_held.Goals as goal
 
-pub returns-in_err-leave-clause-sound : goal.returns-in_err-leave-clause-sound
-returns-in_err-leave-clause-sound g c tells wanted ix store =
+pub returns-in_err-leave-clause-not_damaged : goal.returns-in_err-leave-clause-not_damaged
+returns-in_err-leave-clause-not_damaged g c tells wanted ix store =
     let s = g.S.Reads.state c.args.space.now in
     fault_exit of_fault IsOutside c.in_err-leave.field-0.0 c.from_residual.result c.from_residual.ensures.1
-    (fault_outside Unit c.in_err-leave.field-0.0 (c.in_err-leave.ensures.sound tells wanted (free_list s store).0 ix (store_takes s store)))
+    (fault_outside Unit c.in_err-leave.field-0.0 (c.in_err-leave.ensures.not_damaged tells wanted (free_list s store).0 ix (store_takes s store)))
 
 pub returns-clause-left : goal.returns-clause-left
 returns-clause-left g c tells wanted ix store =

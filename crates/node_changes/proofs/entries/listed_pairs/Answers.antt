@@ -20,11 +20,11 @@ pub returns-then-meta-eq0-clause-reads : goal.returns-then-meta-eq0-clause-reads
 unfolding spaces.after_gets
 returns-then-meta-eq0-clause-reads g c = record { count = 0; within = omega arith; is = refl }
 
-pub returns-in_err-pairs-clause-sound : goal.returns-in_err-pairs-clause-sound
-returns-in_err-pairs-clause-sound g c tells wanted ix store =
+pub returns-in_err-pairs-clause-not_damaged : goal.returns-in_err-pairs-clause-not_damaged
+returns-in_err-pairs-clause-not_damaged g c tells wanted ix store =
     let s = g.R.Reads.state c.args.space.now in
     fault_exit of_fault IsOutside c.in_err-pairs.field-0.0 c.from_residual.result c.from_residual.ensures.1
-    (fault_outside Unit c.in_err-pairs.field-0.0 (c.in_err-pairs.ensures.sound tells wanted ix (store_room s store)))
+    (fault_outside Unit c.in_err-pairs.field-0.0 (c.in_err-pairs.ensures.not_damaged tells wanted ix (store_room s store)))
 
 pub returns-clause-listed : goal.returns-clause-listed
 returns-clause-listed g c tells wanted ix store = c.in_ok-pairs.ensures.listed tells wanted ix

@@ -16,7 +16,7 @@ use Rattle.change_parts.specs.Causes.{IsCaused, IsCausedAfter}
 use Rattle.change_parts.specs.Change.{IsCounted, IsRefusal}
 use Rattle.change_parts.specs.Damage.{BlamesMaking, IsBroken}
 use Rattle.change_parts.specs.ChangeFault.{LeavesSpace, of_intern, of_make}
-use Rattle.change_parts.specs.Store.{IsStore, graph_in}
+use Rattle.change_parts.specs.Store.{IsStore}
 use Rattle.change_parts.proofs.Broken.{blames_more}
 use Rattle.node_changes.proofs.Broken.{interned_read}
 use Rattle.change_parts.proofs.Causes.{broken_left, caused_left, intern_blamed}
@@ -39,6 +39,7 @@ use Rattle.rec_bytes.proofs.Causes.{never_ok}
 use Rattle.node_changes.proofs.indexing.index.Goals as goal
 use Rattle.node_changes.proofs.indexing.index.Goals.{After-intern, After-intern-2, After-make, In_err-key, In_err-label}
 use Rattle.node_changes.proofs.indexing.index.Given.{Over}
+use Rattle.store_rules.specs.Graph.{graph_in}
 
 -- ---- the pair may have no index
 

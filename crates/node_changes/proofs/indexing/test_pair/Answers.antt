@@ -9,7 +9,6 @@ use Rattle.change_parts.specs.ChangeFault.{of_fault}
 use Rattle.change_parts.specs.Damage.{BlamesBroken}
 use Rattle.node_changes.specs.Entries.{is_listed}
 use Rattle.node_changes.specs.Indexing.{pair_reasons}
-use Rattle.change_parts.specs.Store.{graph_in}
 use Rattle.node_changes.proofs.Broken.{index_broken}
 use Rattle.change_parts.proofs.Causes.{failure_caused}
 use Rattle.change_parts.proofs.DiskCauses.{fault_cause_passed}
@@ -20,6 +19,7 @@ use Rattle.node_changes.proofs.indexing.test_pair.Given.{Over}
 use Rattle.rec_bytes.proofs.Causes.{never_ok, ok_cause}
 use Rattle.node_changes.proofs.indexing.test_pair.Goals as goal
 use Rattle.node_changes.proofs.indexing.test_pair.Goals.{After-has_pair}
+use Rattle.store_rules.specs.Graph.{graph_in}
 
 -- ---- the pairs aren't read
 
@@ -29,7 +29,7 @@ returns-in_err-listed-clause-refused g c tells whole =
     let command = commands.Index c.args.label.now c.args.key.now in
     let fault = c.in_err-listed.field-0.0 in
     fault_exit of_fault (IsRefusedBy pair_reasons s.shape.limit (graph_in s) command) fault c.from_residual.result c.from_residual.ensures.1
-    (outside_refused pair_reasons s.shape.limit (graph_in s) command (of_fault fault) (fault_outside Unit fault (c.in_err-listed.ensures.sound tells
+    (outside_refused pair_reasons s.shape.limit (graph_in s) command (of_fault fault) (fault_outside Unit fault (c.in_err-listed.ensures.not_damaged tells
     (wanted_in s.records) whole.store.indexes (store_room s whole.store.store))))
 
 pub returns-in_err-listed-clause-caused : goal.returns-in_err-listed-clause-caused

@@ -31,7 +31,7 @@ use Rattle.node_changes.specs.NodeAdding.{PutsNode}
 use Rattle.change_parts.specs.Rooms.{HasRoom, LacksRoom}
 use Rattle.change_parts.specs.declared.assigning.Assignment.{Assignment}
 use Rattle.change_parts.specs.Preparing.{IsPrepared}
-use Rattle.change_parts.specs.Store.{IsMidway, IsStore, graph_in}
+use Rattle.change_parts.specs.Store.{IsMidway, IsStore}
 use Rattle.change_parts.proofs.KeptIndexes.{midway}
 use Rattle.change_parts.proofs.Counted.{outside_counted, room_counted}
 use Rattle.change_parts.proofs.ElementRooms.{room_before, room_still}
@@ -63,6 +63,7 @@ use Rattle.node_changes.proofs.node_adding.add_node.Goals.{In_err-enter_values, 
 use Rattle.node_changes.proofs.node_adding.add_node.Goals.{In_err-put_properties, In_ok-id, In_ok-listed}
 use Rattle.node_changes.proofs.node_adding.add_node.Goals.{After-entry_count-entries}
 use Rattle.node_changes.proofs.node_adding.add_node.Given.{Over}
+use Rattle.store_rules.specs.Graph.{graph_in}
 
 -- ---- no room for a node
 pub returns-in_err-test_room-clause-refused : goal.returns-in_err-test_room-clause-refused
@@ -145,7 +146,7 @@ listed_outside : (g : Over) (c : In_err-listed g) → g.S.Reads.tells → IsStor
 listed_outside g c tells whole =
     let z = g.S.Reads.state c.prepare.new.space in
     let hand = c.in_ok-prepared.ensures.prepared tells (midway _ _ whole) in
-    c.in_err-listed.ensures.sound tells (wanted_in z.records) (hand.kept.keeps whole.store.indexes) hand.kept.store.store
+    c.in_err-listed.ensures.not_damaged tells (wanted_in z.records) (hand.kept.keeps whole.store.indexes) hand.kept.store.store
 
 pub returns-in_err-listed-clause-refused : goal.returns-in_err-listed-clause-refused
 returns-in_err-listed-clause-refused g c tells whole =
@@ -325,7 +326,7 @@ node_outside : (g : Over) (c : In_err-id g) → g.S.Reads.tells → IsMidway (g.
     → IsOutside c.in_err-id.field-0.0
 node_outside g c tells store =
     let kept = (at_hand g (goal.at.In_err-id g c).After-listed_pairs tells store).kept in
-    c.in_err-id.ensures.sound tells c.prepare.new.names.names kept.store
+    c.in_err-id.ensures.not_damaged tells c.prepare.new.names.names kept.store
     (room_kept (g.S.Reads.state c.args.space.now) c.args.names.now.names store (g.S.Reads.state c.listed_pairs.new.space) c.prepare.new.names.names kept
     c.in_ok-test_room.ensures.room)
 
@@ -377,7 +378,7 @@ properties_outside : (g : Over) (c : In_err-put_properties g) → g.S.Reads.tell
     → IsOutside c.in_err-put_properties.field-0.0
 properties_outside g c tells store =
     let at = goal.at.In_err-put_properties g c in
-    c.in_err-put_properties.ensures.sound tells c.prepare.new.names.names (targets.Node c.in_ok-id.id) c.node_owner.ensures
+    c.in_err-put_properties.ensures.not_damaged tells c.prepare.new.names.names (targets.Node c.in_ok-id.id) c.node_owner.ensures
     (can g at.After-put_properties tells store)
     (subst (λ l. HasPropertyRoom (g.S.Reads.state c.put_node.new.space) (length l) (assigned_blocks c.as_slice-pairs.result.now l)) (sym c.deref-3.ensures.0)
     (put_room (g.S.Reads.state c.args.space.now) (g.S.Reads.state c.listed_pairs.new.space) (g.S.Reads.state c.put_node.new.space) c.args.names.now.names
@@ -519,7 +520,7 @@ entries_outside : (g : Over) (c : In_err-enter_values g) → g.S.Reads.tells →
 entries_outside g c tells whole =
     let after = (goal.at.In_err-enter_values g c).After-enter_values in
     let v = g.S.Reads.state c.put_node.new.space in
-    c.in_err-enter_values.ensures.sound tells (wanted_in v.records) (pairs_here g after tells whole) (low g after tells whole)
+    c.in_err-enter_values.ensures.not_damaged tells (wanted_in v.records) (pairs_here g after tells whole) (low g after tells whole)
     (put_there g after tells whole).lacks (once g after tells whole) (fits_then g after tells whole)
 
 pub returns-in_err-enter_values-clause-refused : goal.returns-in_err-enter_values-clause-refused

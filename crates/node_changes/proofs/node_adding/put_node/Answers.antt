@@ -23,11 +23,11 @@ use Rattle.node_changes.proofs.node_adding.put_node.Goals as goal
 use Rattle.node_changes.proofs.node_adding.put_node.Goals.{In_ok-id}
 use Rattle.node_changes.proofs.node_adding.put_node.Given.{Over}
 
-pub returns-in_err-id-clause-sound : goal.returns-in_err-id-clause-sound
-returns-in_err-id-clause-sound g c tells names store room =
+pub returns-in_err-id-clause-not_damaged : goal.returns-in_err-id-clause-not_damaged
+returns-in_err-id-clause-not_damaged g c tells names store room =
     let s = g.S.Reads.state c.args.space.now in
     fault_exit of_take IsOutside c.in_err-id.field-0.0 c.from_residual.result c.from_residual.ensures.1
-    (take_outside s format.nodes_file c.in_err-id.field-0.0 room (c.in_err-id.ensures.refused tells) (c.in_err-id.ensures.sound tells _
+    (take_outside s format.nodes_file c.in_err-id.field-0.0 room (c.in_err-id.ensures.refused tells) (c.in_err-id.ensures.not_damaged tells _
     (store_can_take s names format.nodes_file refl refl store)))
 
 -- the shape after the identifier was taken

@@ -15,7 +15,7 @@ use Rattle.store_rules.proofs.GraphRows.{degree_in-degree}
 use Rattle.change_parts.specs.Change.{IsRefusal}
 use Rattle.change_parts.specs.ChangeFault.{of_fault, of_row, of_space, LeavesSpace}
 use Rattle.node_changes.specs.NodeDeleting.{IsDeleteCause}
-use Rattle.change_parts.specs.Store.{IsStore, graph_in}
+use Rattle.change_parts.specs.Store.{IsStore}
 use Rattle.change_parts.proofs.KeptIndexes.{midway}
 use Rattle.node_changes.proofs.Deleting.{node_joined, node_lacked}
 use Rattle.change_parts.proofs.Elements.{node_loaded, node_missing, same_both, same_node, used_of}
@@ -36,7 +36,6 @@ use Rattle.change_parts.proofs.Writes.{on_any_err, read_exit, touched_written}
 use Rattle.change_parts.proofs.DiskCauses.{change_cause_passed, fault_cause_passed, later_on, space_cause_passed, row_cause_passed}
 use Rattle.node_store.specs.Loading as nodes
 use Rattle.prop_index.specs.Listing.{pair_of}
-use Rattle.prop_index.specs.Reading.{KeepsStore}
 use Rattle.prop_store.specs.Alone.{DropsAllAlone, OwnsProperties}
 use Rattle.prop_store.specs.Owner.{IsOwner}
 use Rattle.prop_store.specs.declared.changing.Dropped.{Dropped}
@@ -61,6 +60,8 @@ use Rattle.node_changes.proofs.NodeFound.{kept_dropped, kept_given, kept_left, k
 use Rattle.node_changes.proofs.node_deleting.delete_node.Goals as goal
 use Rattle.node_changes.proofs.node_deleting.delete_node.Goals.{After-drop_all, After-give, After-held_values, After-leave_values, After-load}
 use Rattle.node_changes.proofs.node_deleting.delete_node.Given.{Over}
+use Rattle.store_rules.specs.Rules.{IsWhole}
+use Rattle.store_rules.specs.Graph.{graph_in}
 
 pub returns-in_default-clause-refused : goal.returns-in_default-clause-refused
 returns-in_default-clause-refused g c tells store =
@@ -130,7 +131,7 @@ returns-in_err-held-clause-refused g c tells whole =
     let command = commands.Delete (targets.Node c.args.id) in
     fault_exit (λ f. f) (IsRefusal s.shape.limit (graph_in s) command) c.in_err-held.field-0.0 c.from_residual-in_err-held.result
     c.from_residual-in_err-held.ensures.1
-    (outside_refused change_reasons s.shape.limit (graph_in s) command c.in_err-held.field-0.0 (c.in_err-held.ensures.sound tells
+    (outside_refused change_reasons s.shape.limit (graph_in s) command c.in_err-held.field-0.0 (c.in_err-held.ensures.not_damaged tells
     (whole_read s m c.args.names.now.names (loaded g after) whole).store (used g after tells m (loaded g after))))
 
 pub returns-in_err-held-clause-found : goal.returns-in_err-held-clause-found
@@ -164,7 +165,7 @@ returns-in_err-dropped-clause-refused g c tells whole =
     fault_exit of_fault (IsRefusal s.shape.limit (graph_in s) (commands.Delete (targets.Node c.args.id))) c.in_err-dropped.field-0.0
     c.from_residual-in_err-dropped.result c.from_residual-in_err-dropped.ensures.1
     (prop_refused s.shape.limit (graph_in s) (commands.Delete (targets.Node c.args.id)) c.in_err-dropped.field-0.0
-    (c.in_err-dropped.ensures.sound tells (subst (HasElement n) (sym c.node_owner.ensures) (element g after tells whole))))
+    (c.in_err-dropped.ensures.not_damaged tells (subst (HasElement n) (sym c.node_owner.ensures) (element g after tells whole))))
 
 pub returns-in_err-dropped-clause-found : goal.returns-in_err-dropped-clause-found
 returns-in_err-dropped-clause-found g c tells =
@@ -282,7 +283,7 @@ module _ (g : Over) (c : After-leave_values g) (tells : g.S.Reads.tells) (whole 
       owned_here drops (g.met.S.Reads.onward_shape _ _ c.drop_all.ensures.onward) (g.met.S.Reads.onward_shape _ _ c.give.ensures.onward)
       (c.in_ok-give.ensures.given tells)
 
-  keeps : KeepsStore t
+  keeps : IsWhole t
   keeps = (gone_left (n g held_at) u t c.args.names.now.names c.args.id here used_here (lone g held_at tells (n g held_at) (read g held_at)) dropped owned_here
       drops (g.met.S.Reads.onward_shape _ _ c.drop_all.ensures.onward) (g.met.S.Reads.onward_shape _ _ c.give.ensures.onward)
       (c.in_ok-give.ensures.given tells)).store
@@ -305,7 +306,8 @@ returns-in_err-entries-clause-refused g c tells whole =
     let command = commands.Delete (targets.Node c.args.id) in
     fault_exit (λ f. f) (IsRefusal s.shape.limit (graph_in s) command) c.in_err-entries.field-0.0 c.from_residual-in_err-entries.result
     c.from_residual-in_err-entries.ensures.1
-    (outside_refused change_reasons s.shape.limit (graph_in s) command c.in_err-entries.field-0.0 (c.in_err-entries.ensures.sound tells (wanted_in n.records)
+    (outside_refused change_reasons s.shape.limit (graph_in s) command c.in_err-entries.field-0.0 (c.in_err-entries.ensures.not_damaged tells
+        (wanted_in n.records)
     (between g after tells whole) (keeps g after tells whole)))
 
 pub returns-in_err-entries-clause-found : goal.returns-in_err-entries-clause-found

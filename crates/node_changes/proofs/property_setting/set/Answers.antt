@@ -19,7 +19,7 @@ use Rattle.store_rules.specs.Writes.{WritesAtMost}
 use Rattle.name_store.specs.Interning.{IsFullFault, interned}
 use Rattle.change_parts.specs.Change.{IsRefusal, IsSetCount}
 use Rattle.change_parts.specs.ChangeFault.{LeavesSpace, of_intern, of_set}
-use Rattle.change_parts.specs.Store.{IsMidway, IsStore, KeepsElements, graph_in}
+use Rattle.change_parts.specs.Store.{IsMidway, IsStore, KeepsElements}
 use Rattle.change_parts.proofs.KeptIndexes.{midway, store_now, whole_read}
 use Rattle.change_parts.proofs.Counted.{count_full, element_exact, named_exact, set_exact}
 use Rattle.node_changes.proofs.EntriesFaults.{entry_exact}
@@ -78,6 +78,7 @@ use Rattle.node_changes.proofs.GivenKeys.{given_beside}
 use Rattle.node_changes.proofs.property_setting.set.Goals as goal
 use Rattle.node_changes.proofs.property_setting.set.Goals.{After-change_entry, After-indexed_value, After-intern, In_err-entries}
 use Rattle.node_changes.proofs.property_setting.set.Given.{Over}
+use Rattle.store_rules.specs.Graph.{graph_in}
 
 pub returns-in_err-owner-clause-refused : goal.returns-in_err-owner-clause-refused
 returns-in_err-owner-clause-refused g c tells whole =
@@ -181,7 +182,7 @@ returns-in_err-held-clause-refused g c tells whole =
     let here = full_before g after tells whole in
     fault_exit (λ f. f) (IsRefusal s.shape.limit (graph_in s) command) c.in_err-held.field-0.0 c.from_residual-in_err-held.result
     c.from_residual-in_err-held.ensures.1
-    (outside_refused change_reasons s.shape.limit (graph_in s) command c.in_err-held.field-0.0 (c.in_err-held.ensures.sound tells (wanted_in i.records)
+    (outside_refused change_reasons s.shape.limit (graph_in s) command c.in_err-held.field-0.0 (c.in_err-held.ensures.not_damaged tells (wanted_in i.records)
     here.store.indexes here.store.store (used_before g after tells)))
 
 pub returns-in_err-held-clause-caused : goal.returns-in_err-held-clause-caused

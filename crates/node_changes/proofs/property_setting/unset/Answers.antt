@@ -7,7 +7,7 @@ use Rattle.change_parts.specs.Change.{IsRefusal}
 use Rattle.change_parts.specs.ChangeFault.{of_fault, LeavesSpace}
 use Rattle.change_parts.specs.Damage.{BlamesEntries, IsAsFound, IsBroken}
 use Rattle.change_parts.specs.Owners.{owner_of}
-use Rattle.change_parts.specs.Store.{IsStore, graph_in}
+use Rattle.change_parts.specs.Store.{IsStore}
 use Rattle.prop_store.specs.Owner.{IsInUse}
 use Rattle.rec_bytes.specs.Space.{SameButReads, State}
 use Rattle.store_rules.specs.Views.{key_in}
@@ -56,6 +56,7 @@ use Rattle.node_changes.proofs.IndexBeside.{kinds_beside}
 use Rattle.node_changes.proofs.property_setting.unset.Goals as goal
 use Rattle.node_changes.proofs.property_setting.unset.Goals.{After-indexed_value, After-leave_entry}
 use Rattle.node_changes.proofs.property_setting.unset.Given.{Over}
+use Rattle.store_rules.specs.Graph.{graph_in}
 
 pub returns-in_err-owner-clause-refused : goal.returns-in_err-owner-clause-refused
 returns-in_err-owner-clause-refused g c tells whole =
@@ -153,7 +154,7 @@ returns-in_err-held-clause-refused g c tells whole =
     let here = found g after tells whole in
     fault_exit (λ f. f) (IsRefusal s.shape.limit (graph_in s) command) c.in_err-held.field-0.0 c.from_residual-in_err-held.result
     c.from_residual-in_err-held.ensures.1
-    (outside_refused change_reasons s.shape.limit (graph_in s) command c.in_err-held.field-0.0 (c.in_err-held.ensures.sound tells
+    (outside_refused change_reasons s.shape.limit (graph_in s) command c.in_err-held.field-0.0 (c.in_err-held.ensures.not_damaged tells
     (wanted_in (g.S.Reads.state c.find_owner.new.space).records) here.store.indexes here.store.store (used_then g after tells)))
 
 pub returns-in_err-held-clause-caused : goal.returns-in_err-held-clause-caused
@@ -190,7 +191,7 @@ returns-in_err-released-clause-refused g c tells whole =
     fault_exit of_fault (IsRefusal s.shape.limit (graph_in s) (commands.Unset c.args.target c.args.key.now)) c.in_err-released.field-0.0
     c.from_residual-in_err-released.result c.from_residual-in_err-released.ensures.1
     (prop_refused s.shape.limit (graph_in s) (commands.Unset c.args.target c.args.key.now) c.in_err-released.field-0.0
-    (c.in_err-released.ensures.sound tells
+    (c.in_err-released.ensures.not_damaged tells
     (has_key n names c.args.target c.args.key.now (midway n names (store g after tells whole)) (there g after tells whole) c.in_ok-owner.owner c.in-Some.number
     c.in_ok-owner.ensures.owner (at g after))))
 
@@ -289,7 +290,8 @@ returns-in_err-entries-clause-refused g c tells whole =
     let change = removes g after tells whole in
     fault_exit (λ f. f) (IsRefusal s.shape.limit (graph_in s) command) c.in_err-entries.field-0.0 c.from_residual-in_err-entries.result
     c.from_residual-in_err-entries.ensures.1
-    (outside_refused change_reasons s.shape.limit (graph_in s) command c.in_err-entries.field-0.0 (c.in_err-entries.ensures.sound tells (wanted_in n.records)
+    (outside_refused change_reasons s.shape.limit (graph_in s) command c.in_err-entries.field-0.0 (c.in_err-entries.ensures.not_damaged tells
+        (wanted_in n.records)
     (between g after tells whole) change.changes.store))
 
 pub returns-in_err-entries-clause-caused : goal.returns-in_err-entries-clause-caused

@@ -1,16 +1,16 @@
 use Rattle.std.proofs.Common.{ℕ, ◌<◌, get_or}
 use Rattle.plain_graph.specs.declared.node_level.NodeLevel.{NodeLevel}
 use Rattle.rec_bytes.specs.Frame.{IsRead}
-use Rattle.expand.specs.Expanding.{IsStore}
 use Rattle.path_find.specs.Checking.{IsSpreadAt}
 use Rattle.path_find.specs.WalkSearch.{neighbours_for}
 use Rattle.path_find.proofs.checking.all_spread.Given as goal
+use Rattle.store_rules.specs.Rules.{IsWhole}
 
 abbrev pub invariant-loop-row : goal.invariant-loop-row
 invariant-loop-row g l =
     let old = g.R.Reads.state l.fn.reads in
     record {
       read : IsRead g.R.Reads l.fn.reads l.reads;
-      spread : g.R.Reads.tells → IsStore old → (k : ℕ) (d : NodeLevel) → k < l.row-index
+      spread : g.R.Reads.tells → IsWhole old → (k : ℕ) (d : NodeLevel) → k < l.row-index
           → IsSpreadAt (neighbours_for old l.sought) l.claim.levels.now l.claim.edges (get_or l.claim.levels.now k d);
     }

@@ -2,7 +2,6 @@ use Rattle.std.proofs.Common.{◌≡◌, ◌-◌, ◌++◌, ◌∷◌, [], ℕ, 
 use Rattle.std.proofs.lemmas.List.{length_push}
 use Rattle.std.proofs.lemmas.Result.{err_from_is_err_and}
 use Rattle.rec_bytes.specs.Space.{State}
-use Rattle.expand.specs.Expanding.{IsStore}
 use Rattle.path_find.specs.Meeting.{CanDescend, HasNearer, IsDescent, IsNextRow}
 use Rattle.path_find.specs.WalkSearch.{neighbours_for}
 use Rattle.path_find.specs.Tree.{node_at}
@@ -12,6 +11,7 @@ use Rattle.chain_edit.proofs.Causes.{same_has}
 use Rattle.path_find.proofs.Causes.{cause_passed, later_on, memory_cause}
 use Rattle.rec_bytes.proofs.Causes.{never_ok}
 use Rattle.path_find.proofs.descending.descend.Goals as goal
+use Rattle.store_rules.specs.Rules.{IsWhole}
 
 pub returns-in_err-next-clause-damaged : goal.returns-in_err-next-clause-damaged
 returns-in_err-next-clause-damaged g c = λ tells.
@@ -46,7 +46,7 @@ loop-level-preserved g c =
     let new = c.push.new.self.items in
     let same = same-read g.R.Reads g.met.R.Reads.onward_shape c.args.space.now c.loop-level.space inv.read in
     let pushed : new ≡ way ++ node_at rows next ∷ [] = c.in_ok-push.ensures.items ∙ ap (λ n. way ++ n ∷ []) c.node.ensures in
-    let step : g.R.Reads.tells → IsStore old → CanDescend near rows → IsNextRow near rows at below next = λ tells store can.
+    let step : g.R.Reads.tells → IsWhole old → CanDescend near rows → IsNextRow near rows at below next = λ tells store can.
     let nearer = can at below inv.low (inv.level tells store can ∙ up) in
     let found = c.in_ok-next.ensures.next tells (store-read g.R.Reads g.met.R.Reads.onward_shape c.args.space.now c.loop-level.space inv.read store) in
     subst (λ (t : State). IsNextRow (neighbours_for t c.args.sought.now) rows at below next) same

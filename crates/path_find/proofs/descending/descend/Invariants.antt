@@ -1,10 +1,10 @@
 use Rattle.std.proofs.Common.{◌≡◌, ◌+◌, ◌<◌, ◌++◌, List, ℕ, length}
 use Rattle.rec_bytes.specs.Frame.{IsRead}
-use Rattle.expand.specs.Expanding.{IsStore}
 use Rattle.path_find.specs.Meeting.{CanDescend, IsDescent}
 use Rattle.path_find.specs.WalkSearch.{neighbours_for}
 use Rattle.path_find.specs.Tree.{level_at, row_count}
 use Rattle.path_find.proofs.descending.descend.Given as goal
+use Rattle.store_rules.specs.Rules.{IsWhole}
 
 abbrev pub invariant-loop-level : goal.invariant-loop-level
 invariant-loop-level g l =
@@ -14,8 +14,8 @@ invariant-loop-level g l =
       low : l.at < row_count l.tree;
       long : length l.way.items + l.level ≡ level_at l.tree l.row;
       read : IsRead g.R.Reads l.fn.space l.space;
-      level : g.R.Reads.tells → IsStore old → CanDescend near l.tree → level_at l.tree l.at ≡ l.level;
-      descends : g.R.Reads.tells → IsStore old → CanDescend near l.tree → (rest : List ℕ) → length rest ≡ l.level
+      level : g.R.Reads.tells → IsWhole old → CanDescend near l.tree → level_at l.tree l.at ≡ l.level;
+      descends : g.R.Reads.tells → IsWhole old → CanDescend near l.tree → (rest : List ℕ) → length rest ≡ l.level
           → IsDescent near l.tree l.at rest → IsDescent near l.tree l.row (l.way.items ++ rest);
     }
 

@@ -1,11 +1,11 @@
 use Rattle.std.proofs.Common.{◌≡◌, ℕ, true, false, List, sym, subst, ◌∙◌}
 use Rattle.plain_graph.specs.Graph.{has_node}
-use Rattle.expand.specs.Expanding.{graph_in}
 use Rattle.path_find.specs.Meeting.{IsFirstAtLevel, SomeAtLevel}
 use Rattle.path_find.specs.WalkSearch.{neighbours_for}
 use Rattle.path_find.specs.Tree.{AreNeighbours}
 use Rattle.path_find.proofs.Descents.{next_from_first}
 use Rattle.path_find.proofs.descending.next_row.Goals as goal
+use Rattle.store_rules.specs.Graph.{graph_in}
 
 clash : true ≡ false → ⊥
 clash e = cc

@@ -9,7 +9,6 @@ use Rattle.path_find.specs.Finding.{IsPathFault}
 use Rattle.path_find.specs.Reads.{adjacency_of}
 use Rattle.path_find.specs.declared.answer.Answer.{Answer}
 use Rattle.plain_graph.specs.Graph.{has_node}
-use Rattle.expand.specs.Expanding.{graph_in}
 use Rattle.path_find.proofs.Answered.{answered, closed_graph, ends_there, node_fault, search_fault, search_tells}
 use Rattle.path_find.proofs.Certified.{certified_answer, shortest_or_none}
 use Rattle.path_find.proofs.OnlyReads.{is_read-on, same-read}
@@ -18,6 +17,7 @@ use Rattle.expand.proofs.Causes.{expand_cause_passed, expand_memory_cause, row_c
 use Rattle.path_find.proofs.Causes.{later_on}
 use Rattle.rec_bytes.proofs.Causes.{never_ok}
 use Rattle.path_find.proofs.finding.find_path.Goals as goal
+use Rattle.store_rules.specs.Graph.{graph_in}
 
 pub returns-in_err-from_there-clause-damaged : goal.returns-in_err-from_there-clause-damaged
 returns-in_err-from_there-clause-damaged g c = λ tells.

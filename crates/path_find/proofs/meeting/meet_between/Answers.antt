@@ -3,7 +3,6 @@ use Rattle.std.proofs.lemmas.Bool.{OnFalse_at, OnFalse_from, OnTrue_at}
 use Rattle.std.proofs.lemmas.Result.{IfErr-weaker, IfOk-weaker, err_from_is_err_and}
 use Rattle.rec_bytes.specs.Space.{State}
 use Rattle.rec_bytes.specs.declared.fault.Fault.TheVariants.{Disk}
-use Rattle.expand.specs.Expanding.{IsStore}
 use Rattle.plain_graph.specs.Reached.{IsLeastOrNone}
 use Rattle.path_find.specs.Meeting.{AreApart, AreJoined, CanDescend, reversed}
 use Rattle.path_find.specs.Reach.{AreLayers}
@@ -22,6 +21,7 @@ use Rattle.path_find.proofs.SearchSteps.{spans_begin}
 use Rattle.rec_bytes.proofs.Causes.{never_ok}
 use Rattle.path_find.proofs.Causes.{cause_later}
 use Rattle.path_find.proofs.meeting.meet_between.Goals as goal
+use Rattle.store_rules.specs.Rules.{IsWhole}
 
 pub loop-has_met-init : goal.loop-has_met-init
 loop-has_met-init g c =
@@ -60,7 +60,7 @@ loop-has_met-preserved g c =
     let met = c.in_ok-met.ensures in
     let closer = met.closer inv.ahead.depth inv.behind.depth inv.ahead.layers inv.behind.layers in
     let apart = OnFalse_at c.loop-has_met-test.true inv.apart in
-    let store_mid = λ (store : IsStore s). store-read g.R.Reads g.met.R.Reads.onward_shape c.args.space.now c.loop-has_met.space inv.read store in
+    let store_mid = λ (store : IsWhole s). store-read g.R.Reads g.met.R.Reads.onward_shape c.args.space.now c.loop-has_met.space inv.read store in
     let same = same-read g.R.Reads g.met.R.Reads.onward_shape c.args.space.now c.loop-has_met.space inv.read in
     record {
       ahead = record { depth = closer.ahead_depth; layers = closer.ahead_layers };

@@ -2,7 +2,6 @@ use Rattle.std.proofs.Common.{◌≡◌, ◌+◌, ◌-◌, ◌^◌, true}
 use Rattle.std.specs.Bool.{OnFalse, OnTrue}
 use Rattle.plain_graph.specs.Graph.{has_node}
 use Rattle.rec_bytes.specs.Frame.{IsRead}
-use Rattle.expand.specs.Expanding.{IsStore, graph_in}
 use Rattle.path_find.specs.Meeting.{AreApart, HaveMet, reversed}
 use Rattle.path_find.specs.Reach.{HasLayers}
 use Rattle.path_find.specs.Reads.{neighbours_at}
@@ -10,6 +9,8 @@ use Rattle.path_find.specs.WalkSearch.{neighbours_for}
 use Rattle.path_find.specs.Tree.{Spans, node_at}
 use Rattle.path_find.proofs.Joined.{AreLonger}
 use Rattle.path_find.proofs.meeting.meet_between.Given as goal
+use Rattle.store_rules.specs.Rules.{IsWhole}
+use Rattle.store_rules.specs.Graph.{graph_in}
 
 abbrev pub invariant-loop-has_met : goal.invariant-loop-has_met
 invariant-loop-has_met g l =
@@ -24,9 +25,9 @@ invariant-loop-has_met g l =
       met : OnTrue l.has_met (HaveMet l.ahead.tree l.behind.tree);
       apart : OnFalse l.has_met (AreApart l.ahead.tree l.behind.tree);
       read : IsRead g.R.Reads l.fn.space l.space;
-      ahead_spans : g.R.Reads.tells → IsStore old → has_node (graph_in old) l.sought.from ≡ true → Spans near l.ahead.tree l.ahead.done;
-      behind_spans : g.R.Reads.tells → IsStore old → has_node (graph_in old) l.sought.to ≡ true → Spans back l.behind.tree l.behind.done;
-      longer : g.R.Reads.tells → IsStore old → has_node (graph_in old) l.sought.from ≡ true → has_node (graph_in old) l.sought.to ≡ true
+      ahead_spans : g.R.Reads.tells → IsWhole old → has_node (graph_in old) l.sought.from ≡ true → Spans near l.ahead.tree l.ahead.done;
+      behind_spans : g.R.Reads.tells → IsWhole old → has_node (graph_in old) l.sought.to ≡ true → Spans back l.behind.tree l.behind.done;
+      longer : g.R.Reads.tells → IsWhole old → has_node (graph_in old) l.sought.from ≡ true → has_node (graph_in old) l.sought.to ≡ true
           → AreLonger near l.sought.from l.sought.to (ahead.depth + behind.depth);
     }
 

@@ -2,7 +2,6 @@ use Rattle.std.proofs.Common.{◌≡◌, ◌<◌, ◌+◌, true, false, sym, sub
 use Rattle.std.proofs.lemmas.Result.{err_from_is_err_and}
 use Rattle.plain_graph.specs.Graph.{has_node}
 use Rattle.rec_bytes.specs.Space.{State}
-use Rattle.expand.specs.Expanding.{IsStore, graph_in}
 use Rattle.path_find.specs.Reach.{GrowsFrom}
 use Rattle.path_find.specs.Reads.{neighbours_at}
 use Rattle.path_find.specs.Tree.{AreNeighbours, IsTree, Spans, node_at, row_count}
@@ -14,6 +13,8 @@ use Rattle.path_find.proofs.Causes.{cause_passed, later_on, memory_cause}
 use Rattle.rec_bytes.proofs.Causes.{never_ok, ok_cause}
 use Rattle.path_find.proofs.reach.grow.Goals as goal
 use Rattle.path_find.proofs.reach.grow.Goals.{in-Some+in_ok-spread, in_default}
+use Rattle.store_rules.specs.Rules.{IsWhole}
+use Rattle.store_rules.specs.Graph.{graph_in}
 
 clash : true ≡ false → ⊥
 clash e = cc
@@ -52,15 +53,15 @@ loop-row-preserved g c =
     let node = c.node-node.ensures in
     let past = inv.past in
     let Next : Reach → Type 0 = λ reach. (reach.done ≡ start.done) × IsTree reach.tree (row + 1) × GrowsFrom start.tree reach.tree start.done
-    × (g.R.Reads.tells → IsStore old → Spans near start.tree start.done → Spans near reach.tree (row + 1)) in
-    let store_mid = λ (store : IsStore old). store-read g.R.Reads g.met.R.Reads.onward_shape c.args.space.now c.loop-row.space inv.read store in
+    × (g.R.Reads.tells → IsWhole old → Spans near start.tree start.done → Spans near reach.tree (row + 1)) in
+    let store_mid = λ (store : IsWhole old). store-read g.R.Reads g.met.R.Reads.onward_shape c.args.space.now c.loop-row.space inv.read store in
     let same = same-read g.R.Reads g.met.R.Reads.onward_shape c.args.space.now c.loop-row.space inv.read in
     let next : Next c.match-found.reach = elim c.match-found.branch [
       | in-Some+in_ok-spread w ↦
           let spread = w.in_ok-spread.ensures in
           let new = w.spread.new.tree in
           let ends = w.in-Some.ends in
-          let are : g.R.Reads.tells → IsStore old → AreNeighbours near (node_at rows row) w.deref.result.now = λ tells store.
+          let are : g.R.Reads.tells → IsWhole old → AreNeighbours near (node_at rows row) w.deref.result.now = λ tells store.
           let found = rw w.in-Some.is at c.in_ok-found.ensures.some tells (store_mid store) in
           let at_old = subst (λ (t : State). AreNeighbours (neighbours_at t direction labels) c.node-node.result ends.items) same found in
           subst (λ list. AreNeighbours near (node_at rows row) list) (sym w.deref.ensures.value) (subst (λ n. AreNeighbours near n ends.items) node at_old) in

@@ -1,10 +1,10 @@
 use Rattle.std.proofs.Common.{◌≡◌, ◌≤◌}
 use Rattle.rec_bytes.specs.Frame.{IsRead}
-use Rattle.expand.specs.Expanding.{IsStore}
 use Rattle.path_find.specs.Reach.{GrowsFrom}
 use Rattle.path_find.specs.Reads.{neighbours_at}
 use Rattle.path_find.specs.Tree.{IsTree, Spans, row_count}
 use Rattle.path_find.proofs.reach.grow.Given as goal
+use Rattle.store_rules.specs.Rules.{IsWhole}
 
 abbrev pub invariant-loop-row : goal.invariant-loop-row
 invariant-loop-row g l =
@@ -17,5 +17,5 @@ invariant-loop-row g l =
       tree : IsTree l.reach.tree l.row;
       grows : GrowsFrom l.fn.reach.tree l.reach.tree l.fn.reach.done;
       read : IsRead g.R.Reads l.fn.space l.space;
-      spans : g.R.Reads.tells → IsStore old → Spans near l.fn.reach.tree l.fn.reach.done → Spans near l.reach.tree l.row;
+      spans : g.R.Reads.tells → IsWhole old → Spans near l.fn.reach.tree l.fn.reach.done → Spans near l.reach.tree l.row;
     }

@@ -5,7 +5,6 @@ use Rattle.path_find.specs.Tree.{node_at, row_count}
 use Rattle.path_find.proofs.SearchSteps.{searched_all, searched_near}
 use Rattle.plain_graph.specs.Graph.{has_node}
 use Rattle.rec_bytes.specs.Space.{State}
-use Rattle.expand.specs.Expanding.{IsStore, graph_in}
 use Rattle.path_find.specs.Reads.{neighbours_at}
 use Rattle.path_find.specs.Search.{IsNarrow}
 use Rattle.path_find.specs.Tree.{AreNeighbours, IsTree, Rows, Spans}
@@ -15,6 +14,8 @@ use Rattle.path_find.proofs.Causes.{cause_passed, later_on, memory_cause}
 use Rattle.rec_bytes.proofs.Causes.{never_ok, ok_cause}
 use Rattle.path_find.proofs.searching.search.Goals as goal
 use Rattle.path_find.proofs.searching.search.Goals.{in-Some+in_ok-spread, in_default}
+use Rattle.store_rules.specs.Rules.{IsWhole}
+use Rattle.store_rules.specs.Graph.{graph_in}
 
 clash : true ≡ false → ⊥
 clash e = cc
@@ -69,15 +70,15 @@ loop-row-preserved g c =
     let node = c.node-node.ensures in
     let before = c.if-reaches.ensures.no in
     let Next : Rows → Type 0 = λ tree. IsTree tree (row + 1) × (node_at tree 0 ≡ c.args.from) × IsNarrow tree c.args.to
-    × (g.R.Reads.tells → IsStore old → has_node (graph_in old) c.args.from ≡ true → Spans near tree (row + 1)) in
-    let store_mid = λ (store : IsStore old). store-read g.R.Reads g.met.R.Reads.onward_shape c.args.space.now c.loop-row.space inv.read store in
+    × (g.R.Reads.tells → IsWhole old → has_node (graph_in old) c.args.from ≡ true → Spans near tree (row + 1)) in
+    let store_mid = λ (store : IsWhole old). store-read g.R.Reads g.met.R.Reads.onward_shape c.args.space.now c.loop-row.space inv.read store in
     let same = same-read g.R.Reads g.met.R.Reads.onward_shape c.args.space.now c.loop-row.space inv.read in
     let next : Next c.match-found.tree = elim c.match-found.branch [
       | in-Some+in_ok-spread w ↦
           let spread = w.in_ok-spread.ensures in
           let new = w.spread.new.tree in
           let ends = w.in-Some.ends in
-          let are : g.R.Reads.tells → IsStore old → AreNeighbours near (node_at rows row) w.deref.result.now = λ tells store.
+          let are : g.R.Reads.tells → IsWhole old → AreNeighbours near (node_at rows row) w.deref.result.now = λ tells store.
           let found = rw w.in-Some.is at c.in_ok-found.ensures.some tells (store_mid store) in
           let at_old = subst (λ (t : State). AreNeighbours (neighbours_at t direction labels) c.node-node.result ends.items) same found in
           subst (λ list. AreNeighbours near (node_at rows row) list) (sym w.deref.ensures.value) (subst (λ n. AreNeighbours near n ends.items) node at_old) in

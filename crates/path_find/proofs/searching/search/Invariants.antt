@@ -1,11 +1,12 @@
 use Rattle.std.proofs.Common.{◌≡◌, ◌-◌, ◌^◌, true}
 use Rattle.plain_graph.specs.Graph.{has_node}
-use Rattle.expand.specs.Expanding.{IsStore, graph_in}
 use Rattle.rec_bytes.specs.Frame.{IsRead}
 use Rattle.path_find.specs.Reads.{neighbours_at}
 use Rattle.path_find.specs.Search.{IsNarrow}
 use Rattle.path_find.specs.Tree.{IsTree, Spans, node_at}
 use Rattle.path_find.proofs.searching.search.Given as goal
+use Rattle.store_rules.specs.Rules.{IsWhole}
+use Rattle.store_rules.specs.Graph.{graph_in}
 
 abbrev pub invariant-loop-row : goal.invariant-loop-row
 invariant-loop-row g l =
@@ -15,7 +16,7 @@ invariant-loop-row g l =
       first : node_at l.tree 0 ≡ l.from;
       narrow : IsNarrow l.tree l.to;
       read : IsRead g.R.Reads l.fn.space l.space;
-      spans : g.R.Reads.tells → IsStore old → has_node (graph_in old) l.from ≡ true → Spans (neighbours_at old l.direction l.labels) l.tree l.row;
+      spans : g.R.Reads.tells → IsWhole old → has_node (graph_in old) l.from ≡ true → Spans (neighbours_at old l.direction l.labels) l.tree l.row;
     }
 
 abbrev pub decreases-loop-row : goal.decreases-loop-row

@@ -4,7 +4,6 @@ use Rattle.std.proofs.lemmas.Result.{err_from_is_err_and}
 use Rattle.plain_graph.specs.Graph.{has_node}
 use Rattle.rec_bytes.specs.Fault.{of_row}
 use Rattle.rec_bytes.specs.Space.{State}
-use Rattle.expand.specs.Expanding.{graph_in}
 use Rattle.path_find.specs.Checking.{IsStep, IsWalkOrNone}
 use Rattle.path_find.specs.WalkSearch.{neighbours_for}
 use Rattle.path_find.proofs.Answered.{load_fault}
@@ -13,6 +12,7 @@ use Rattle.path_find.proofs.OnlyReads.{broken-read, is_read-none, is_read-on, sa
 use Rattle.path_find.proofs.Causes.{cause_passed, row_passed}
 use Rattle.rec_bytes.proofs.Causes.{never_ok}
 use Rattle.path_find.proofs.stepping.is_walk.Goals as goal
+use Rattle.store_rules.specs.Graph.{graph_in}
 
 -- a list that isn't empty
 some_in : (n : ℕ) (b : Bool) → b ≡ nat_eq n 0 → b ≡ false → 0 < n

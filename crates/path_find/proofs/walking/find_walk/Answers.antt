@@ -9,13 +9,13 @@ use Rattle.path_find.specs.Finding.{IsPathFault}
 use Rattle.plain_graph.specs.Reached.{IsLeastOrNone}
 use Rattle.path_find.specs.Reads.{adjacency_of}
 use Rattle.plain_graph.specs.Graph.{has_node}
-use Rattle.expand.specs.Expanding.{graph_in}
 use Rattle.path_find.proofs.Answered.{ends_there, node_fault, search_fault, search_tells, walked}
 use Rattle.path_find.proofs.OnlyReads.{is_read-on, same-read}
 use Rattle.rec_bytes.proofs.Causes.{never_ok}
 use Rattle.expand.proofs.Causes.{expand_cause_passed, row_cause_passed}
 use Rattle.path_find.proofs.Causes.{later_on}
 use Rattle.path_find.proofs.walking.find_walk.Goals as goal
+use Rattle.store_rules.specs.Graph.{graph_in}
 
 pub returns-in_err-from_there-clause-damaged : goal.returns-in_err-from_there-clause-damaged
 returns-in_err-from_there-clause-damaged g c = λ tells.

@@ -28,7 +28,7 @@ returns-in_err-hash-clause-refused g c tells readable =
     (sym (same_records s now same))
     (let end = c.loop-node.invariant.end in let test = c.loop-node-test.true in omega (arith, end, test)) in
     collect_exit s.records c.args.label c.args.key c.from_residual.result c.hash_at.result c.in_err-hash.field-0.0 c.in_err-hash.was c.from_residual.ensures.1
-    (c.hash_at.ensures.sound tells low (readable_after s now same readable))
+    (c.hash_at.ensures.not_damaged tells low (readable_after s now same readable))
 
 pub returns-in_err-hash-clause-same : goal.returns-in_err-hash-clause-same
 returns-in_err-hash-clause-same g c = same_then (g.R.Reads.state c.args.space.now) (g.R.Reads.state c.loop-node.space) (g.R.Reads.state c.hash_at.new.space)

@@ -53,8 +53,8 @@ returns-then-is_labelled-clause-found g c tells low =
     on_if c.value_hash.result (λ h e. e ∙ (λ i. option_map hash_of (value_of (properties_met (gone i) (c.in_ok-owner.ensures.is i)) c.args.key)) ∙ sym is)
     (c.value_hash.ensures.met tells)
 
-pub returns-then-is_labelled-clause-sound : goal.returns-then-is_labelled-clause-sound
-returns-then-is_labelled-clause-sound g c tells low readable =
+pub returns-then-is_labelled-clause-not_damaged : goal.returns-then-is_labelled-clause-not_damaged
+returns-then-is_labelled-clause-not_damaged g c tells low readable =
     let s = (g.R.Reads.state c.args.space.now).records in
     let rec_is : c.get_into.new.rec ≡ rec_at s format.nodes_file c.args.node = c.in_ok-get_into.ensures.got tells
     ∙ ap (λ (o : Owner). s o.key) c.in_ok-owner.ensures.is in
@@ -64,7 +64,8 @@ returns-then-is_labelled-clause-sound g c tells low readable =
     → ⊥ = λ e. both.0 (ap (λ (r : Rec). field 1 r format.kind) rec_is ∙ sym (kind_low (high s format.nodes_file) (rec_at s format.nodes_file c.args.node)
     c.args.node low) ∙ e) in
     let listed = readable.each c.args.node used in
-    c.value_hash.ensures.sound tells listed.properties (subst (λ (o : Owner). HasProperties (g.R.Reads.state c.get_into.new.self).records o listed.properties)
+    c.value_hash.ensures.not_damaged tells listed.properties (subst (λ (o : Owner). HasProperties
+        (g.R.Reads.state c.get_into.new.self).records o listed.properties)
     (sym c.in_ok-owner.ensures.is)
     (subst (λ (r : Records). HasProperties r (node_owner c.args.node) listed.properties) (sym gone) listed.has))
 
@@ -131,8 +132,8 @@ returns-in_err-get_into-clause-cause g c =
 pub returns-in_err-get_into-clause-onward : goal.returns-in_err-get_into-clause-onward
 returns-in_err-get_into-clause-onward g c = c.get_into.ensures.onward
 
-pub returns-in_err-get_into-clause-sound : goal.returns-in_err-get_into-clause-sound
-returns-in_err-get_into-clause-sound g c tells low readable =
+pub returns-in_err-get_into-clause-not_damaged : goal.returns-in_err-get_into-clause-not_damaged
+returns-in_err-get_into-clause-not_damaged g c tells low readable =
     space_exit c.from_residual-in_err-get_into.result c.in_err-get_into.field-0.0 c.from_residual-in_err-get_into.ensures.1
 
 pub returns-then-is_labelled-clause-cause : goal.returns-then-is_labelled-clause-cause

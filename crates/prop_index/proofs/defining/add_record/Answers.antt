@@ -33,7 +33,7 @@ pub returns-in_err-id-clause-mishap : goal.returns-in_err-id-clause-mishap
 returns-in_err-id-clause-mishap g c tells store left =
     let s = g.S.Reads.state c.args.space.now in
     let p = err_from_is_err_and c.from_residual.result c.from_residual.ensures.1 in
-    rw (p.1, p.2) (take_mishap s c.in_err-id.field-0.0 (c.in_err-id.ensures.refused tells) (c.in_err-id.ensures.sound tells (free_list s store).0
+    rw (p.1, p.2) (take_mishap s c.in_err-id.field-0.0 (c.in_err-id.ensures.refused tells) (c.in_err-id.ensures.not_damaged tells (free_list s store).0
     (store_takes s store)) left)
 
 pub returns-in_err-put-clause-mishap : goal.returns-in_err-put-clause-mishap

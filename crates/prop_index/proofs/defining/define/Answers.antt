@@ -21,7 +21,6 @@ use Rattle.std.proofs.lemmas.Result.{err_from_is_err_and}
 use Rattle.prop_index.proofs.Counting.{counts_left, counts_then, first_live, space_roomy}
 use Rattle.prop_index.proofs.RecordsAdded.{space_mishap}
 use Rattle.prop_index.proofs.IndexBlames.{space_take, take_has}
-use Rattle.prop_index.specs.Reading.{KeepsStore}
 use Rattle.prop_index.specs.Touching.{index_keys}
 use Rattle.prop_index.proofs.DefinitionAdded.{definition_added, definition_reread, start-kind}
 use Rattle.prop_index.proofs.HeadsAdded.{length-head_ids}
@@ -39,6 +38,7 @@ use Rattle.store_rules.specs.Views.{key_in, kind_at}
 use Rattle.store_rules.proofs.MetaLaws.{not_meta_key}
 use Rattle.prop_index.specs.DefinitionRecord.{definition_fields}
 use Rattle.prop_index.proofs.defining.define.Goals as goal
+use Rattle.store_rules.specs.Rules.{IsWhole}
 
 pub returns-in_err-rec-clause-touches : goal.returns-in_err-rec-clause-touches
 returns-in_err-rec-clause-touches g c = index_then 0 12 13 _ _ _ (omega arith) (index_read 0 1 _ _ (reads_one 1 _ _ (omega arith) c.get.ensures.state))
@@ -113,7 +113,7 @@ returns-clause-added g c tells store named =
     let first_fits : first < 2 ^ 32 = search rules in
     let got : c.in_ok-meta.meta ≡ s.records (meta_key_of format.index_file) = c.in_ok-meta.ensures.got tells ∙ ap s.records c.meta_key.ensures in
     let first_is : first ≡ first_definition s.records = c.number.ensures ∙ ap (λ (r : Rec). field 4 r format.meta_definition) got in
-    let store_read : KeepsStore (g.S.Reads.state c.get.new.self) = subst KeepsStore (sym c.get.ensures.state) store in
+    let store_read : IsWhole (g.S.Reads.state c.get.new.self) = subst IsWhole (sym c.get.ensures.state) store in
     let heads_read = c.in_ok-rec.ensures.added tells store_read in
     let heads : AreHeadsAdded (after_get s) m (definition_start label key first) 12 rec
     = subst (λ (z : State). AreHeadsAdded z m (definition_start label key first) 12 rec) c.get.ensures.state
@@ -349,7 +349,7 @@ returns-in_err-rec-clause-mishap g c tells store left =
     let a = g.S.Reads.state c.get.new.self in
     let fewer : HasLeft s 12 = omega (arith, left) in
     take_has IsMishap c.from_residual-in_err-rec.result c.in_err-rec.field-0.0 c.from_residual-in_err-rec.ensures.1
-    (c.in_err-rec.ensures.mishap tells (subst KeepsStore (sym c.get.ensures.state) store) (left_read s a 12 c.get.ensures.state fewer))
+    (c.in_err-rec.ensures.mishap tells (subst IsWhole (sym c.get.ensures.state) store) (left_read s a 12 c.get.ensures.state fewer))
 
 pub returns-in_err-rec-clause-damaged_after : goal.returns-in_err-rec-clause-damaged_after
 returns-in_err-rec-clause-damaged_after g c tells =
@@ -367,7 +367,7 @@ returns-in_err-id-clause-mishap g c tells store left =
     let s = g.S.Reads.state c.args.space.now in
     let a = g.S.Reads.state c.get.new.self in
     let m = g.S.Reads.state c.add_heads.new.space in
-    let heads = c.in_ok-rec.ensures.added tells (subst KeepsStore (sym c.get.ensures.state) store) in
+    let heads = c.in_ok-rec.ensures.added tells (subst IsWhole (sym c.get.ensures.state) store) in
     take_has IsMishap c.from_residual-in_err-id.result c.in_err-id.field-0.0 c.from_residual-in_err-id.ensures.1
     (c.in_err-id.ensures.mishap tells heads.kept (counts_left a m 12 1 13 (c.in_ok-rec.ensures.counted tells) (omega arith)
     (left_read s a 13 c.get.ensures.state left)))

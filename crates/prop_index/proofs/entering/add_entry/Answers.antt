@@ -60,10 +60,10 @@ returns-clause-made g c tells free head can right = (c.in_ok-put_in_front.field-
 pub returns-clause-keeps : goal.returns-clause-keeps
 returns-clause-keeps g c tells store opened known = c.in_ok-put_in_front.ensures.keeps tells store opened.head opened.begins opened.place known
 
-pub returns-in_err-put_in_front-clause-sound : goal.returns-in_err-put_in_front-clause-sound
-returns-in_err-put_in_front-clause-sound g c tells free can =
+pub returns-in_err-put_in_front-clause-not_damaged : goal.returns-in_err-put_in_front-clause-not_damaged
+returns-in_err-put_in_front-clause-not_damaged g c tells free can =
     let p = err_from_is_err_and c.from_residual.result c.from_residual.ensures.1 in
-    rw (p.1, p.2) (c.in_err-put_in_front.ensures.sound tells free can)
+    rw (p.1, p.2) (c.in_err-put_in_front.ensures.not_damaged tells free can)
 
 pub returns-in_err-put_in_front-clause-damaged : goal.returns-in_err-put_in_front-clause-damaged
 returns-in_err-put_in_front-clause-damaged g c tells =

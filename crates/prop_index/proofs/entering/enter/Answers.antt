@@ -165,16 +165,16 @@ returns-clause-keeps g c tells wanted ix store known =
     c.add_entry.ensures.keeps tells (kept_after s now same store) (opened-reread s now c.in-Ok-Some.bucket same opened)
     (subst (λ (r : Records). c.args.node < high r format.nodes_file) (sym (same_records s now same)) known)
 
-pub returns-in-Err-clause-sound : goal.returns-in-Err-clause-sound
-returns-in-Err-clause-sound g c tells wanted free ix can =
+pub returns-in-Err-clause-not_damaged : goal.returns-in-Err-clause-not_damaged
+returns-in-Err-clause-not_damaged g c tells wanted free ix can =
     subst (λ (f : TakeFault). takes.NotDamaged {T = ℕ} (Err f)) (sym c.of_read.ensures)
-    (read-sound c.in-Err.fault (c.in-Err.ensures.sound tells wanted ix (can_ranged (g.S.Reads.state c.args.space.now) free can)))
+    (read-sound c.in-Err.fault (c.in-Err.ensures.not_damaged tells wanted ix (can_ranged (g.S.Reads.state c.args.space.now) free can)))
 
-pub returns-clause-sound : goal.returns-clause-sound
-returns-clause-sound g c tells wanted free ix can =
+pub returns-clause-not_damaged : goal.returns-clause-not_damaged
+returns-clause-not_damaged g c tells wanted free ix can =
     let s = g.S.Reads.state c.args.space.now in
     let now = g.S.Reads.state c.open_bucket.new.space in
-    c.add_entry.ensures.sound tells free (can_after s now free c.open_bucket.ensures.same can)
+    c.add_entry.ensures.not_damaged tells free (can_after s now free c.open_bucket.ensures.same can)
 
 pub returns-clause-damaged : goal.returns-clause-damaged
 returns-clause-damaged g c tells =

@@ -203,7 +203,7 @@ returns-in_err-firsts-clause-mishap g c tells wanted ix label key empty fillable
     let live = was.live in
     let room = ap (λ z. room_of z format.index_file) was.shape in
     let p = err_from_is_err_and c.from_residual.result c.from_residual.ensures.1 in
-    rw (p.1, p.2) (fs.index_mishap m c.in_err-firsts.field-0.0 (c.in_err-firsts.ensures.full tells) (c.in_err-firsts.ensures.sound tells
+    rw (p.1, p.2) (fs.index_mishap m c.in_err-firsts.field-0.0 (c.in_err-firsts.ensures.full tells) (c.in_err-firsts.ensures.not_damaged tells
     (free_list m was.kept).0 (store_takes m was.kept)) (omega (arith, left, live, few, room, test)))
 
 pub returns-clause-filled : goal.returns-clause-filled

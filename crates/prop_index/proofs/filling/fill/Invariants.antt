@@ -9,9 +9,9 @@ use Rattle.prop_store.specs.Touching.{TouchesOnly}
 use Rattle.prop_index.specs.Defining.{AreHeadsUsed, CountsMore, KeepsBeside}
 use Rattle.prop_index.specs.DefinitionRecord.{head_ids}
 use Rattle.prop_index.specs.Filling.{AreFillable, IsEmptyIndex, IsFilled}
-use Rattle.prop_index.specs.Reading.{KeepsStore}
 use Rattle.prop_index.specs.Touching.{index_keys}
 use Rattle.prop_index.proofs.filling.fill.Given as goal
+use Rattle.store_rules.specs.Rules.{IsWhole}
 
 abbrev pub invariant-loop-content : goal.invariant-loop-content
 invariant-loop-content g l =
@@ -20,7 +20,7 @@ invariant-loop-content g l =
     let definition = l.fn.definition in
     record {
       filled : g.S.Reads.tells → (wanted : Entries) → (ix : AreIndexed old.records wanted) → (label key : ℕ)
-          → IsEmptyIndex old.records wanted ix label key definition → AreFillable old.records l.fn.contents → KeepsStore old
+          → IsEmptyIndex old.records wanted ix label key definition → AreFillable old.records l.fn.contents → IsWhole old
           → IsFilled old now wanted ix label key (take l.content-index l.fn.contents)
           × ((b : ℕ) → b < 180 → get_or l.firsts b 0 ≡ first_entry now.records definition.id b);
       kept : g.S.Reads.tells → AreHeadsUsed old 12 definition.rec → KeepsInUse old now format.index_file

@@ -66,18 +66,18 @@ returns-in_err-add_node-clause-cost g c tells xs are =
     (c.in_err-add_node.ensures.cost c.loop.at
     rec_then))))
 
-pub returns-in_err-record_at-clause-sound : goal.returns-in_err-record_at-clause-sound
-returns-in_err-record_at-clause-sound g c tells xs are readable =
+pub returns-in_err-record_at-clause-not_damaged : goal.returns-in_err-record_at-clause-not_damaged
+returns-in_err-record_at-clause-not_damaged g c tells xs are readable =
     let s = g.R.Reads.state c.args.space.now in
     let now = g.R.Reads.state c.loop.space in
     let same = c.loop.invariant.same in
     let here = gather_here _ _ _ _ _ xs _ _ _ (c.loop.invariant.told tells xs are) c.if-at.false in
     let p = err_from_is_err_and c.from_residual.result c.from_residual.ensures.1 in
-    rw (p.1, p.2) (c.in_err-record_at.ensures.sound tells (room_after s now format.index_file same readable.room)
+    rw (p.1, p.2) (c.in_err-record_at.ensures.not_damaged tells (room_after s now format.index_file same readable.room)
     (ap (λ (r : Records). kind_at r format.index_file c.loop.at) (same_records s now same) ∙ are.kind c.loop.at here.0))
 
-pub returns-in_err-add_node-clause-sound : goal.returns-in_err-add_node-clause-sound
-returns-in_err-add_node-clause-sound g c tells xs are readable =
+pub returns-in_err-add_node-clause-not_damaged : goal.returns-in_err-add_node-clause-not_damaged
+returns-in_err-add_node-clause-not_damaged g c tells xs are readable =
     let s = g.R.Reads.state c.args.space.now in
     let now = g.R.Reads.state c.loop.space in
     let then = g.R.Reads.state c.record_at.new.space in
@@ -88,7 +88,7 @@ returns-in_err-add_node-clause-sound g c tells xs are readable =
     ∙ ap (λ (r : Records). index_rec r c.loop.at) (sym (same_records now then (reads_same 1 now then c.in_ok-record_at.ensures.at_most))) in
     let p = err_from_is_err_and c.from_residual-in_err-add_node.result c.from_residual-in_err-add_node.ensures.1 in
     let gone = same_records s then same_now in
-    rw (p.1, p.2) (c.in_err-add_node.ensures.sound tells c.loop.at rec_is
+    rw (p.1, p.2) (c.in_err-add_node.ensures.not_damaged tells c.loop.at rec_is
     (λ e. node_after s then _ same_now (subst (λ (r : Records). IsListedNode s (entry_node r c.loop.at)) (sym gone) (readable.nodes c.loop.at here.0
     (ap (λ (r : Records). entry_hash r c.loop.at) (sym gone) ∙ e)))))
 

@@ -47,19 +47,19 @@ returns-clause-met g c tells =
     ∙ ap (has_value c.args.value.now) (c.in_ok-held.ensures.met tells ∙ (λ i. value_of (properties_met (gone i) (c.in_ok-owner.ensures.is i)) c.args.key)
     ∙ sym (value_in-is _ c.args.key))
 
-pub returns-then-byte-eq-FREE-clause-sound : goal.returns-then-byte-eq-FREE-clause-sound
-returns-then-byte-eq-FREE-clause-sound g c tells listed =
+pub returns-then-byte-eq-FREE-clause-not_damaged : goal.returns-then-byte-eq-FREE-clause-not_damaged
+returns-then-byte-eq-FREE-clause-not_damaged g c tells listed =
     let s = (g.R.Reads.state c.args.space.now).records in
     let rec_is : c.get_into.new.rec ≡ rec_at s format.nodes_file c.args.node = c.in_ok-get_into.ensures.got tells
     ∙ ap (λ (o : Owner). s o.key) c.in_ok-owner.ensures.is in
     absurd (in_use s c.args.node c.get_into.new.rec rec_is listed.low listed.used (sym c.byte.ensures ∙ c.if-byte-eq-FREE.true))
 
-pub returns-in_err-held-clause-sound : goal.returns-in_err-held-clause-sound
-returns-in_err-held-clause-sound g c tells listed =
+pub returns-in_err-held-clause-not_damaged : goal.returns-in_err-held-clause-not_damaged
+returns-in_err-held-clause-not_damaged g c tells listed =
     let now = g.R.Reads.state c.get_into.new.self in
     let gone : now.records ≡ (g.R.Reads.state c.args.space.now).records = ap (λ (z : State). z.records) c.get_into.ensures.state in
     let p = err_from_is_err_and c.from_residual-in_err-held.result c.from_residual-in_err-held.ensures.1 in
-    rw (p.1, p.2) (c.in_err-held.ensures.sound tells listed.properties (subst (λ (o : Owner). HasProperties now.records o listed.properties)
+    rw (p.1, p.2) (c.in_err-held.ensures.not_damaged tells listed.properties (subst (λ (o : Owner). HasProperties now.records o listed.properties)
     (sym c.in_ok-owner.ensures.is)
     (subst (λ (r : Records). HasProperties r (node_owner c.args.node) listed.properties) (sym gone) listed.has)))
 
@@ -126,8 +126,8 @@ returns-in_err-get_into-clause-cause g c =
 pub returns-in_err-get_into-clause-onward : goal.returns-in_err-get_into-clause-onward
 returns-in_err-get_into-clause-onward g c = c.get_into.ensures.onward
 
-pub returns-in_err-get_into-clause-sound : goal.returns-in_err-get_into-clause-sound
-returns-in_err-get_into-clause-sound g c tells listed =
+pub returns-in_err-get_into-clause-not_damaged : goal.returns-in_err-get_into-clause-not_damaged
+returns-in_err-get_into-clause-not_damaged g c tells listed =
     space_exit c.from_residual-in_err-get_into.result c.in_err-get_into.field-0.0 c.from_residual-in_err-get_into.ensures.1
 
 pub returns-in_err-held-clause-cause : goal.returns-in_err-held-clause-cause

@@ -7,8 +7,8 @@ use Rattle.prop_index.proofs.IndexBlames.{blames_reread}
 use Rattle.prop_index.proofs.IndexTouches.{index_same, index_then}
 use Rattle.prop_index.proofs.leaving.leave.Goals as goal
 
-pub returns-in-Err-clause-sound : goal.returns-in-Err-clause-sound
-returns-in-Err-clause-sound g c tells wanted free ix can =
+pub returns-in-Err-clause-not_damaged : goal.returns-in-Err-clause-not_damaged
+returns-in-Err-clause-not_damaged g c tells wanted free ix can =
     let s = g.S.Reads.state c.args.space.now in
     let told : NotDamaged {T = ℕ} (Err c.in-Err.fault) = index_sound s wanted ix (can_ranged s free can) c.args.label c.args.key c.in-Err.fault
     (c.in-Err.ensures.wrong tells) in

@@ -52,14 +52,14 @@ returns-then-at-clause-listed g c tells wanted ix =
     let told = c.loop.invariant.told tells ix.definitions (definitions_of s.records wanted ix) in
     told.2 ∙ ap (map (pair_of s.records)) (walk_over _ ix.definitions c.loop.at told.0 told.1 c.if-at.true)
 
-pub returns-in_err-record_at-clause-sound : goal.returns-in_err-record_at-clause-sound
-returns-in_err-record_at-clause-sound g c tells wanted ix room =
+pub returns-in_err-record_at-clause-not_damaged : goal.returns-in_err-record_at-clause-not_damaged
+returns-in_err-record_at-clause-not_damaged g c tells wanted ix room =
     let s = g.R.Reads.state c.args.space.now in
     let now = g.R.Reads.state c.loop.space in
     let told = c.loop.invariant.told tells ix.definitions (definitions_of s.records wanted ix) in
     let here = walk_here _ ix.definitions c.loop.at told.0 told.1 c.if-at.false in
     let p = err_from_is_err_and c.from_residual-in_err-record_at.result c.from_residual-in_err-record_at.ensures.1 in
-    rw (p.1, p.2) (c.in_err-record_at.ensures.sound tells (room_after s now format.index_file (reads_same _ s now c.loop.invariant.reads) room)
+    rw (p.1, p.2) (c.in_err-record_at.ensures.not_damaged tells (room_after s now format.index_file (reads_same _ s now c.loop.invariant.reads) room)
     (ap (λ (r : Records). kind_at r format.index_file c.loop.at) (reads_records _ s now c.loop.invariant.reads) ∙ ix.defined c.loop.at here.0))
 
 pub returns-in_err-record_at-clause-at_most : goal.returns-in_err-record_at-clause-at_most
@@ -207,8 +207,8 @@ returns-in_err-get_into-clause-damaged g c tells =
 pub returns-in_err-get_into-clause-names : goal.returns-in_err-get_into-clause-names
 returns-in_err-get_into-clause-names g c tells = space_has NamesIndexes tt tt c.from_residual.result c.in_err-get_into.field-0.0 c.from_residual.ensures.1
 
-pub returns-in_err-get_into-clause-sound : goal.returns-in_err-get_into-clause-sound
-returns-in_err-get_into-clause-sound g c tells wanted ix room = space_exit c.from_residual.result c.in_err-get_into.field-0.0 c.from_residual.ensures.1
+pub returns-in_err-get_into-clause-not_damaged : goal.returns-in_err-get_into-clause-not_damaged
+returns-in_err-get_into-clause-not_damaged g c tells wanted ix room = space_exit c.from_residual.result c.in_err-get_into.field-0.0 c.from_residual.ensures.1
 
 pub returns-in_err-get_into-clause-onward : goal.returns-in_err-get_into-clause-onward
 returns-in_err-get_into-clause-onward g c = c.get_into.ensures.onward
@@ -251,8 +251,8 @@ returns-then-at-clause-cause g c = ok_cause _ _ _ _ c.loop.invariant.later
 pub returns-then-at-2-clause-cause : goal.returns-then-at-2-clause-cause
 returns-then-at-2-clause-cause g c = told_cause _ _ _ _ c.loop.invariant.later c.damaged.ensures
 
-pub returns-then-at-2-clause-sound : goal.returns-then-at-2-clause-sound
-returns-then-at-2-clause-sound g c tells wanted ix room =
+pub returns-then-at-2-clause-not_damaged : goal.returns-then-at-2-clause-not_damaged
+returns-then-at-2-clause-not_damaged g c tells wanted ix room =
     let s = g.R.Reads.state c.args.space.now in
     let are = definitions_of s.records wanted ix in
     let told = c.loop.invariant.told tells ix.definitions are in

@@ -44,7 +44,7 @@ returns-in_err-nodes-clause-refused g c tells store =
     (c.in_ok-bucket.ensures.found tells (wanted_in s.records) store.indexes) in
     refused_exit s.records c.args.label c.args.key c.from_residual-in_err-nodes.result c.gather.result c.in_err-nodes.field-0.0 c.in_err-nodes.was
     c.from_residual-in_err-nodes.ensures.1
-    (c.gather.ensures.sound tells (entries s store c.args.label c.args.key c.args.value.now c.hash_of-hash.result hashed c.in-Some.bucket found now same)
+    (c.gather.ensures.not_damaged tells (entries s store c.args.label c.args.key c.args.value.now c.hash_of-hash.result hashed c.in-Some.bucket found now same)
     (are_entries s store c.args.label c.args.key c.args.value.now c.hash_of-hash.result hashed c.in-Some.bucket found now same)
     (are_readable s store c.args.label c.args.key c.args.value.now c.hash_of-hash.result hashed c.in-Some.bucket found now same))
 

@@ -16,7 +16,7 @@ pub returns-in_err-pairs-clause-refused : goal.returns-in_err-pairs-clause-refus
 returns-in_err-pairs-clause-refused g c tells wanted ix room =
     let s = g.R.Reads.state c.args.space.now in
     pair_exit s.records ix.definitions c.args.label c.args.key c.from_residual.result c.indexes.result c.in_err-pairs.field-0.0 c.in_err-pairs.was
-    c.from_residual.ensures.1 (c.indexes.ensures.sound tells wanted ix room)
+    c.from_residual.ensures.1 (c.indexes.ensures.not_damaged tells wanted ix room)
 
 pub returns-then-has_pair-clause-refused : goal.returns-then-has_pair-clause-refused
 returns-then-has_pair-clause-refused g c tells wanted ix room =

@@ -7,8 +7,8 @@ use Rattle.prop_index.proofs.IndexNamed.{definition_before, index_before, index_
 use Rattle.prop_index.proofs.Reread.{definitions_after, same_then}
 use Rattle.prop_index.proofs.opening.open_bucket.Goals as goal
 
-pub returns-in-Err-clause-sound : goal.returns-in-Err-clause-sound
-returns-in-Err-clause-sound g c tells wanted ix ranged =
+pub returns-in-Err-clause-not_damaged : goal.returns-in-Err-clause-not_damaged
+returns-in-Err-clause-not_damaged g c tells wanted ix ranged =
     let s = g.R.Reads.state c.args.space.now in
     let told : NotDamaged {T = ℕ} (Err c.in-Err.fault) = index_sound s wanted ix ranged c.args.label c.args.key c.in-Err.fault (c.in-Err.ensures.wrong tells) in
     subst (λ (f : Fault). NotDamaged {T = ℕ} (Err f)) (sym (c.name_index.ensures.passed told)) told

@@ -79,8 +79,8 @@ returns-in_err-get_into-clause-damaged g c tells =
     space_has (IsReadFault (g.R.Reads.state c.args.space.now) c.args.id c.args.kind c.args.named) tt tt c.from_residual.result c.in_err-get_into.field-0.0
     c.from_residual.ensures.1
 
-pub returns-in_err-get_into-clause-sound : goal.returns-in_err-get_into-clause-sound
-returns-in_err-get_into-clause-sound g c tells room used = space_exit c.from_residual.result c.in_err-get_into.field-0.0 c.from_residual.ensures.1
+pub returns-in_err-get_into-clause-not_damaged : goal.returns-in_err-get_into-clause-not_damaged
+returns-in_err-get_into-clause-not_damaged g c tells room used = space_exit c.from_residual.result c.in_err-get_into.field-0.0 c.from_residual.ensures.1
 
 pub returns-then-byte-kind-clause-onward : goal.returns-then-byte-kind-clause-onward
 returns-then-byte-kind-clause-onward g c = c.in_ok-get_into.ensures.onward

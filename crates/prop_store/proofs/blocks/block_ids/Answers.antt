@@ -18,7 +18,7 @@ use Rattle.prop_store.proofs.blocks.block_ids.Goals as goal
 pub loop-left-init : goal.loop-left-init
 loop-left-init g c = record {
   told = λ tells text blocks has. all_left _ _ _ text blocks _ has (ap (λ (z : List ℕ). z ++ blocks) c.new-ids.ensures);
-  sound = λ tells text blocks has given. all_left _ _ _ text blocks _ has given;
+  not_damaged = λ tells text blocks has given. all_left _ _ _ text blocks _ has given;
   reached = λ tells text. text_begins (g.R.Reads.state c.args.space.now).records c.args.property _ c.args.first c.args.size text refl;
   passed = λ tells. subst (λ (z : List ℕ). ArePassed (g.R.Reads.state c.args.space.now).records c.args.first c.args.size z c.args.first c.args.size)
       (sym c.new-ids.ensures) (refl, refl);
@@ -28,16 +28,16 @@ loop-left-init g c = record {
   later = omega arith;
 }
 
-pub returns-in_err-read_block-clause-sound : goal.returns-in_err-read_block-clause-sound
-returns-in_err-read_block-clause-sound g c tells text blocks has given =
+pub returns-in_err-read_block-clause-not_damaged : goal.returns-in_err-read_block-clause-not_damaged
+returns-in_err-read_block-clause-not_damaged g c tells text blocks has given =
     let p = err_from_is_err_and c.from_residual.result c.from_residual.ensures.1 in
     let old = g.R.Reads.state c.args.space.now in
     let now = g.R.Reads.state c.loop-left.space in
     let here = block_here (rec_at old.records strings_file) c.loop-left.at c.loop-left.left _ (search rules)
-    (c.loop-left.invariant.sound tells text blocks has given) in
+    (c.loop-left.invariant.not_damaged tells text blocks has given) in
     let right = right_here old.records now.records c.loop-left.at c.loop-left.left c.piece_size-piece.result
     (reads_records _ old now c.loop-left.invariant.reads) c.piece_size-piece.ensures here in
-    rw (p.1, p.2) (c.in_err-read_block.ensures.sound tells right.0 right.1)
+    rw (p.1, p.2) (c.in_err-read_block.ensures.not_damaged tells right.0 right.1)
 
 pub returns-in_err-read_block-clause-at_most : goal.returns-in_err-read_block-clause-at_most
 returns-in_err-read_block-clause-at_most g c =
@@ -58,9 +58,9 @@ loop-left-preserved g c =
           text_after (rec_at old.records strings_file) c.loop-left.at c.loop-left.left _ _ here c.read_block.new.rec c.piece_size-piece.result
           c.number-at.result got c.piece_size-piece.ensures c.number-at.ensures
           (append_one ids c.loop-left.at here.later c.push.new.self blocks c.push.ensures here.kept);
-      sound = λ tells text blocks has given.
+      not_damaged = λ tells text blocks has given.
           let here = block_here (rec_at old.records strings_file) c.loop-left.at c.loop-left.left _ (search rules)
-          (c.loop-left.invariant.sound tells text blocks has given) in
+          (c.loop-left.invariant.not_damaged tells text blocks has given) in
           let got = c.in_ok-read_block.ensures.got tells ∙ ap (λ r. rec_at r strings_file c.loop-left.at) same in
           text_after (rec_at old.records strings_file) c.loop-left.at c.loop-left.left _ _ here c.read_block.new.rec c.piece_size-piece.result
           c.number-at.result got c.piece_size-piece.ensures c.number-at.ensures
@@ -83,9 +83,9 @@ loop-left-preserved g c =
       later = omega (arith, c.loop-left.invariant.later, c.in_ok-read_block.ensures.cause.later);
     }
 
-pub returns-then-at-clause-sound : goal.returns-then-at-clause-sound
-returns-then-at-clause-sound g c tells text blocks has given =
-    absurd (c.if-at.true (text_over _ _ _ _ (omega (arith, c.loop-left-test.false)) (c.loop-left.invariant.sound tells text blocks has given)).none)
+pub returns-then-at-clause-not_damaged : goal.returns-then-at-clause-not_damaged
+returns-then-at-clause-not_damaged g c tells text blocks has given =
+    absurd (c.if-at.true (text_over _ _ _ _ (omega (arith, c.loop-left-test.false)) (c.loop-left.invariant.not_damaged tells text blocks has given)).none)
 
 pub returns-in_err-read_block-clause-damaged : goal.returns-in_err-read_block-clause-damaged
 returns-in_err-read_block-clause-damaged g c tells text =

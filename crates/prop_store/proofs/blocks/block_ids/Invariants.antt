@@ -16,7 +16,8 @@ invariant-loop-left g l =
     record {
       told : g.R.Reads.tells → (text blocks : List ℕ) → HasText string_file l.fn.first l.fn.size text blocks
           → TextLeft string_file l.at l.left (λ rest later. l.ids ++ later ≡ blocks);
-      sound : g.R.Reads.tells → (text blocks : List ℕ) → HasText string_file l.fn.first l.fn.size text blocks → AreGivenOut old.records strings_file blocks
+      not_damaged : g.R.Reads.tells → (text blocks : List ℕ) → HasText string_file l.fn.first l.fn.size text blocks
+          → AreGivenOut old.records strings_file blocks
           → TextLeft string_file l.at l.left (λ rest later. AreGivenOut old.records strings_file later);
       reached : g.R.Reads.tells → IsTextOf old.records l.fn.property l.fn.first l.fn.size → TextReached old.records l.fn.property l.from l.at l.left;
       passed : g.R.Reads.tells → ArePassed old.records l.fn.first l.fn.size l.ids l.at l.left;

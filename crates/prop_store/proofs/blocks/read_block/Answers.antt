@@ -156,8 +156,8 @@ returns-in_err-get_into-clause-damaged g c tells =
 pub returns-in_err-get_into-clause-onward : goal.returns-in_err-get_into-clause-onward
 returns-in_err-get_into-clause-onward g c = c.get_into.ensures.onward
 
-pub returns-in_err-get_into-clause-sound : goal.returns-in_err-get_into-clause-sound
-returns-in_err-get_into-clause-sound g c tells given has =
+pub returns-in_err-get_into-clause-not_damaged : goal.returns-in_err-get_into-clause-not_damaged
+returns-in_err-get_into-clause-not_damaged g c tells given has =
     space_exit c.from_residual-in_err-get_into.result c.in_err-get_into.field-0.0 c.from_residual-in_err-get_into.ensures.1
 
 pub returns-then-not-is_known-clause-onward : goal.returns-then-not-is_known-clause-onward

@@ -22,7 +22,7 @@ pub loop-left-init : goal.loop-left-init
 loop-left-init g c = record {
   met = λ tells. ap (λ (z : List ℕ). z ++ long_text_from (rec_at (g.R.Reads.state c.args.space.now).records strings_file) c.args.size c.args.first)
       c.new-bytes.ensures.items;
-  sound = λ tells text blocks has given. all_left _ _ _ text blocks _ has given;
+  not_damaged = λ tells text blocks has given. all_left _ _ _ text blocks _ has given;
   reached = λ tells text. text_begins (g.R.Reads.state c.args.space.now).records c.args.property _ c.args.first c.args.size text refl;
   size = let none : length c.new-bytes.result.items ≡ 0 = ap (λ (z : List ℕ). length z) c.new-bytes.ensures.items in omega arith;
   reads = reads_none _ _;
@@ -50,9 +50,9 @@ loop-left-preserved g c =
           c.piece_size-piece.result c.number-at.result c.read_block.new.rec (search rules) c.in_ok-read_block.ensures.small
           (c.in_ok-read_block.ensures.got tells ∙ ap (λ r. rec_at r strings_file c.loop-left.at) same) c.in_ok-read_block.ensures.form piece c.text.ensures
           pushed c.number-at.ensures (c.loop-left.invariant.met tells);
-      sound = λ tells text blocks has given.
+      not_damaged = λ tells text blocks has given.
           let here = block_here (rec_at old.records strings_file) c.loop-left.at left _ (search rules)
-          (c.loop-left.invariant.sound tells text blocks has given) in
+          (c.loop-left.invariant.not_damaged tells text blocks has given) in
           let got = c.in_ok-read_block.ensures.got tells ∙ ap (λ r. rec_at r strings_file c.loop-left.at) same in
           text_after (rec_at old.records strings_file) c.loop-left.at left _ _ here c.read_block.new.rec c.piece_size-piece.result c.number-at.result got piece
           c.number-at.ensures
@@ -69,16 +69,16 @@ loop-left-preserved g c =
       later = omega (arith, c.loop-left.invariant.later, c.in_ok-read_block.ensures.cause.later);
     }
 
-pub returns-in_err-read_block-clause-sound : goal.returns-in_err-read_block-clause-sound
-returns-in_err-read_block-clause-sound g c tells text blocks has given =
+pub returns-in_err-read_block-clause-not_damaged : goal.returns-in_err-read_block-clause-not_damaged
+returns-in_err-read_block-clause-not_damaged g c tells text blocks has given =
     let p = err_from_is_err_and c.from_residual.result c.from_residual.ensures.1 in
     let old = g.R.Reads.state c.args.space.now in
     let now = g.R.Reads.state c.loop-left.space in
     let here = block_here (rec_at old.records strings_file) c.loop-left.at c.loop-left.left _ (search rules)
-    (c.loop-left.invariant.sound tells text blocks has given) in
+    (c.loop-left.invariant.not_damaged tells text blocks has given) in
     let right = right_here old.records now.records c.loop-left.at c.loop-left.left c.piece_size-piece.result
     (reads_records _ old now c.loop-left.invariant.reads) c.piece_size-piece.ensures here in
-    rw (p.1, p.2) (c.in_err-read_block.ensures.sound tells right.0 right.1)
+    rw (p.1, p.2) (c.in_err-read_block.ensures.not_damaged tells right.0 right.1)
 
 pub returns-in_err-read_block-clause-at_most : goal.returns-in_err-read_block-clause-at_most
 returns-in_err-read_block-clause-at_most g c =
@@ -88,9 +88,9 @@ pub returns-in_err-extend_from_slice-clause-at_most : goal.returns-in_err-extend
 returns-in_err-extend_from_slice-clause-at_most g c = reads_then _ 1 _ _ _ _ (omega (arith, c.loop-left.invariant.size)) c.loop-left.invariant.reads
     (reads_one 1 _ _ (omega arith) c.in_ok-read_block.ensures.state)
 
-pub returns-then-at-clause-sound : goal.returns-then-at-clause-sound
-returns-then-at-clause-sound g c tells text blocks has given =
-    absurd (c.if-at.true (text_over _ _ _ _ (omega (arith, c.loop-left-test.false)) (c.loop-left.invariant.sound tells text blocks has given)).none)
+pub returns-then-at-clause-not_damaged : goal.returns-then-at-clause-not_damaged
+returns-then-at-clause-not_damaged g c tells text blocks has given =
+    absurd (c.if-at.true (text_over _ _ _ _ (omega (arith, c.loop-left-test.false)) (c.loop-left.invariant.not_damaged tells text blocks has given)).none)
 
 pub returns-clause-met : goal.returns-clause-met
 returns-clause-met g c tells = text_read (rec_at (g.R.Reads.state c.args.space.now).records strings_file) c.loop-left.bytes.items _ c.loop-left.at
@@ -151,8 +151,8 @@ returns-in_err-extend_from_slice-clause-damaged g c tells text =
     same_has (IsTextFault (g.R.Reads.state c.args.space.now) c.args.property) c.from_residual-in_err-extend_from_slice.result faults.Memory
     c.from_residual-in_err-extend_from_slice.ensures.1 tt
 
-pub returns-in_err-extend_from_slice-clause-sound : goal.returns-in_err-extend_from_slice-clause-sound
-returns-in_err-extend_from_slice-clause-sound g c tells text blocks has given =
+pub returns-in_err-extend_from_slice-clause-not_damaged : goal.returns-in_err-extend_from_slice-clause-not_damaged
+returns-in_err-extend_from_slice-clause-not_damaged g c tells text blocks has given =
     same_has (λ fault. IfSome (damage_of fault) (λ _. ⊥)) c.from_residual-in_err-extend_from_slice.result faults.Memory
     c.from_residual-in_err-extend_from_slice.ensures.1 tt
 

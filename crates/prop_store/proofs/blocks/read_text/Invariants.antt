@@ -16,7 +16,8 @@ invariant-loop-left g l =
     let string_file = rec_at old.records strings_file in
     record {
       met : g.R.Reads.tells → l.bytes.items ++ long_text_from string_file l.left l.at ≡ long_text_from string_file l.fn.size l.fn.first;
-      sound : g.R.Reads.tells → (text blocks : List ℕ) → HasText string_file l.fn.first l.fn.size text blocks → AreGivenOut old.records strings_file blocks
+      not_damaged : g.R.Reads.tells → (text blocks : List ℕ) → HasText string_file l.fn.first l.fn.size text blocks
+          → AreGivenOut old.records strings_file blocks
           → TextLeft string_file l.at l.left (λ rest later. AreGivenOut old.records strings_file later);
       reached : g.R.Reads.tells → IsTextOf old.records l.fn.property l.fn.first l.fn.size → TextReached old.records l.fn.property l.from l.at l.left;
       size : length l.bytes.items + l.left ≡ l.fn.size;

@@ -40,14 +40,15 @@ drops g c tells es at = drops_read _ _ es c.in_ok-dropped.dropped
     (subst (λ (z : State). DropsProperties z (g.S.Reads.state c.drop_chain.new.space) es c.in_ok-dropped.dropped) c.first.ensures.state
     (c.in_ok-dropped.ensures.dropped tells es at))
 
-pub returns-in_err-dropped-clause-alone_sound : goal.returns-in_err-dropped-clause-alone_sound
-returns-in_err-dropped-clause-alone_sound g c tells es owns =
+pub returns-in_err-dropped-clause-alone_not_damaged : goal.returns-in_err-dropped-clause-alone_not_damaged
+returns-in_err-dropped-clause-alone_not_damaged g c tells es owns =
     let p = err_from_is_err_and c.from_residual-in_err-dropped.result c.from_residual-in_err-dropped.ensures.1 in
-    rw (p.1, p.2) (c.in_err-dropped.ensures.sound tells es (held g (goal.at.returns-in_err-dropped-clause-alone_sound g c).In_ok-first tells es owns))
+    rw (p.1, p.2) (c.in_err-dropped.ensures.not_damaged tells es (held g
+        (goal.at.returns-in_err-dropped-clause-alone_not_damaged g c).In_ok-first tells es owns))
 
-pub returns-in_err-dropped-clause-sound : goal.returns-in_err-dropped-clause-sound
-returns-in_err-dropped-clause-sound g c tells has =
-    returns-in_err-dropped-clause-alone_sound g c tells _ (owns_listed (g.S.Reads.state c.args.space.now) c.args.owner c.requires.owner has)
+pub returns-in_err-dropped-clause-not_damaged : goal.returns-in_err-dropped-clause-not_damaged
+returns-in_err-dropped-clause-not_damaged g c tells has =
+    returns-in_err-dropped-clause-alone_not_damaged g c tells _ (owns_listed (g.S.Reads.state c.args.space.now) c.args.owner c.requires.owner has)
 
 pub returns-in_ok-set_number-clause-alone : goal.returns-in_ok-set_number-clause-alone
 returns-in_ok-set_number-clause-alone g c tells es owns =
@@ -297,18 +298,18 @@ pub returns-in_err-first-clause-cause : goal.returns-in_err-first-clause-cause
 returns-in_err-first-clause-cause g c =
     space_cause_passed _ _ _ c.from_residual.result c.in_err-first.field-0.0 (omega arith) c.in_err-first.ensures.cause c.from_residual.ensures.1
 
-pub returns-in_err-first-clause-sound : goal.returns-in_err-first-clause-sound
-returns-in_err-first-clause-sound g c tells has = space_exit c.from_residual.result c.in_err-first.field-0.0 c.from_residual.ensures.1
+pub returns-in_err-first-clause-not_damaged : goal.returns-in_err-first-clause-not_damaged
+returns-in_err-first-clause-not_damaged g c tells has = space_exit c.from_residual.result c.in_err-first.field-0.0 c.from_residual.ensures.1
 
-pub returns-in_err-first-clause-alone_sound : goal.returns-in_err-first-clause-alone_sound
-returns-in_err-first-clause-alone_sound g c tells es owns = space_exit c.from_residual.result c.in_err-first.field-0.0 c.from_residual.ensures.1
+pub returns-in_err-first-clause-alone_not_damaged : goal.returns-in_err-first-clause-alone_not_damaged
+returns-in_err-first-clause-alone_not_damaged g c tells es owns = space_exit c.from_residual.result c.in_err-first.field-0.0 c.from_residual.ensures.1
 
-pub returns-in_err-set_number-clause-sound : goal.returns-in_err-set_number-clause-sound
-returns-in_err-set_number-clause-sound g c tells has =
+pub returns-in_err-set_number-clause-not_damaged : goal.returns-in_err-set_number-clause-not_damaged
+returns-in_err-set_number-clause-not_damaged g c tells has =
     space_exit c.from_residual-in_err-set_number.result c.in_err-set_number.field-0.0 c.from_residual-in_err-set_number.ensures.1
 
-pub returns-in_err-set_number-clause-alone_sound : goal.returns-in_err-set_number-clause-alone_sound
-returns-in_err-set_number-clause-alone_sound g c tells es owns =
+pub returns-in_err-set_number-clause-alone_not_damaged : goal.returns-in_err-set_number-clause-alone_not_damaged
+returns-in_err-set_number-clause-alone_not_damaged g c tells es owns =
     space_exit c.from_residual-in_err-set_number.result c.in_err-set_number.field-0.0 c.from_residual-in_err-set_number.ensures.1
 
 pub returns-in_err-set_number-clause-damaged : goal.returns-in_err-set_number-clause-damaged

@@ -44,14 +44,14 @@ held g c tells es owns =
     held_same s (g.S.Reads.state c.find.new.space) c.find.new.row f.property (reads_same 33 _ _ c.find.ensures.at_most)
     (held_row s c.args.owner es owns f.before f.property f.after f.all c.find.new.row f.id_is f.rec_is)
 
-pub returns-in_err-find-clause-alone_sound : goal.returns-in_err-find-clause-alone_sound
-returns-in_err-find-clause-alone_sound g c tells es owns =
+pub returns-in_err-find-clause-alone_not_damaged : goal.returns-in_err-find-clause-alone_not_damaged
+returns-in_err-find-clause-alone_not_damaged g c tells es owns =
     let p = err_from_is_err_and c.from_residual.result c.from_residual.ensures.1 in
-    rw (p.1, p.2) (c.in_err-find.ensures.sound tells es (has_properties (g.S.Reads.state c.args.space.now) c.args.owner es owns))
+    rw (p.1, p.2) (c.in_err-find.ensures.not_damaged tells es (has_properties (g.S.Reads.state c.args.space.now) c.args.owner es owns))
 
-pub returns-in_err-find-clause-sound : goal.returns-in_err-find-clause-sound
-returns-in_err-find-clause-sound g c tells has =
-    returns-in_err-find-clause-alone_sound g c tells _ (owns_listed (g.S.Reads.state c.args.space.now) c.args.owner c.requires.owner has.element)
+pub returns-in_err-find-clause-not_damaged : goal.returns-in_err-find-clause-not_damaged
+returns-in_err-find-clause-not_damaged g c tells has =
+    returns-in_err-find-clause-alone_not_damaged g c tells _ (owns_listed (g.S.Reads.state c.args.space.now) c.args.owner c.requires.owner has.element)
 
 pub returns-in-Absent-clause-alone : goal.returns-in-Absent-clause-alone
 returns-in-Absent-clause-alone g c tells es owns =
@@ -68,15 +68,16 @@ returns-in-Absent-clause-unset g c tells has =
 pub returns-in-Absent-clause-writes : goal.returns-in-Absent-clause-writes
 returns-in-Absent-clause-writes g c = reads_write 2 _ _ (reads_same 33 _ _ c.find.ensures.at_most)
 
-pub returns-in_err-released-in-Found-clause-alone_sound : goal.returns-in_err-released-in-Found-clause-alone_sound
-returns-in_err-released-in-Found-clause-alone_sound g c tells es owns =
+pub returns-in_err-released-in-Found-clause-alone_not_damaged : goal.returns-in_err-released-in-Found-clause-alone_not_damaged
+returns-in_err-released-in-Found-clause-alone_not_damaged g c tells es owns =
     let p = err_from_is_err_and c.from_residual-in_err-released-in-Found.result c.from_residual-in_err-released-in-Found.ensures.1 in
-    let at = (goal.at.returns-in_err-released-in-Found-clause-alone_sound g c).In-Found in
-    rw (p.1, p.2) (c.in_err-released-in-Found.ensures.sound tells (found g at tells es owns).property (held g at tells es owns))
+    let at = (goal.at.returns-in_err-released-in-Found-clause-alone_not_damaged g c).In-Found in
+    rw (p.1, p.2) (c.in_err-released-in-Found.ensures.not_damaged tells (found g at tells es owns).property (held g at tells es owns))
 
-pub returns-in_err-released-in-Found-clause-sound : goal.returns-in_err-released-in-Found-clause-sound
-returns-in_err-released-in-Found-clause-sound g c tells has =
-    returns-in_err-released-in-Found-clause-alone_sound g c tells _ (owns_listed (g.S.Reads.state c.args.space.now) c.args.owner c.requires.owner has.element)
+pub returns-in_err-released-in-Found-clause-not_damaged : goal.returns-in_err-released-in-Found-clause-not_damaged
+returns-in_err-released-in-Found-clause-not_damaged g c tells has =
+    returns-in_err-released-in-Found-clause-alone_not_damaged g c tells _ (owns_listed
+        (g.S.Reads.state c.args.space.now) c.args.owner c.requires.owner has.element)
 
 pub returns-in_ok-set_number-in-Found-clause-alone : goal.returns-in_ok-set_number-in-Found-clause-alone
 returns-in_ok-set_number-in-Found-clause-alone g c tells es owns =
@@ -309,12 +310,12 @@ pub returns-in_err-find-clause-cause : goal.returns-in_err-find-clause-cause
 returns-in_err-find-clause-cause g c =
     cause_passed _ _ _ c.from_residual.result c.in_err-find.field-0.0 (omega arith) c.in_err-find.ensures.cause c.from_residual.ensures.1
 
-pub returns-in_err-set_number-in-Found-clause-sound : goal.returns-in_err-set_number-in-Found-clause-sound
-returns-in_err-set_number-in-Found-clause-sound g c tells has =
+pub returns-in_err-set_number-in-Found-clause-not_damaged : goal.returns-in_err-set_number-in-Found-clause-not_damaged
+returns-in_err-set_number-in-Found-clause-not_damaged g c tells has =
     space_exit c.from_residual-in_err-set_number-in-Found.result c.in_err-set_number-in-Found.field-0.0 c.from_residual-in_err-set_number-in-Found.ensures.1
 
-pub returns-in_err-set_number-in-Found-clause-alone_sound : goal.returns-in_err-set_number-in-Found-clause-alone_sound
-returns-in_err-set_number-in-Found-clause-alone_sound g c tells es owns =
+pub returns-in_err-set_number-in-Found-clause-alone_not_damaged : goal.returns-in_err-set_number-in-Found-clause-alone_not_damaged
+returns-in_err-set_number-in-Found-clause-alone_not_damaged g c tells es owns =
     space_exit c.from_residual-in_err-set_number-in-Found.result c.in_err-set_number-in-Found.field-0.0 c.from_residual-in_err-set_number-in-Found.ensures.1
 
 pub returns-in-Absent-clause-onward : goal.returns-in-Absent-clause-onward

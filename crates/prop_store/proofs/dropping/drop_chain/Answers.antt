@@ -21,18 +21,18 @@ release-requires g c = subst AreSmall (sym c.as_slice-blocks.ensures.value) c.in
 pub release_properties-requires : goal.release_properties-requires
 release_properties-requires g c = subst AreSmall (sym c.as_slice-ids.ensures.value) c.in_ok-held.ensures.fits.small
 
-pub returns-in_err-held-clause-sound : goal.returns-in_err-held-clause-sound
-returns-in_err-held-clause-sound g c tells es held =
+pub returns-in_err-held-clause-not_damaged : goal.returns-in_err-held-clause-not_damaged
+returns-in_err-held-clause-not_damaged g c tells es held =
     let p = err_from_is_err_and c.from_residual.result c.from_residual.ensures.1 in
     let s = g.S.Reads.state c.args.space.now in
-    rw (p.1, p.2) (c.in_err-held.ensures.sound tells es (held_given s c.args.owner c.args.first es (c.requires.first tells) held))
+    rw (p.1, p.2) (c.in_err-held.ensures.not_damaged tells es (held_given s c.args.owner c.args.first es (c.requires.first tells) held))
 
-pub returns-in_err-release-clause-sound : goal.returns-in_err-release-clause-sound
-returns-in_err-release-clause-sound g c tells es held = space_exit c.from_residual-in_err-release.result c.in_err-release.field-0.0
+pub returns-in_err-release-clause-not_damaged : goal.returns-in_err-release-clause-not_damaged
+returns-in_err-release-clause-not_damaged g c tells es held = space_exit c.from_residual-in_err-release.result c.in_err-release.field-0.0
     c.from_residual-in_err-release.ensures.1
 
-pub returns-in_err-release_properties-clause-sound : goal.returns-in_err-release_properties-clause-sound
-returns-in_err-release_properties-clause-sound g c tells es held = space_exit c.from_residual-in_err-release_properties.result
+pub returns-in_err-release_properties-clause-not_damaged : goal.returns-in_err-release_properties-clause-not_damaged
+returns-in_err-release_properties-clause-not_damaged g c tells es held = space_exit c.from_residual-in_err-release_properties.result
     c.in_err-release_properties.field-0.0 c.from_residual-in_err-release_properties.ensures.1
 
 pub returns-clause-dropped : goal.returns-clause-dropped

@@ -13,18 +13,19 @@ use Rattle.prop_store.proofs.Causes.{cause_passed, later_on, space_cause_passed}
 use Rattle.prop_store.proofs.Unused.{unused_given}
 use Rattle.prop_store.proofs.dropping.drop_property.Goals as goal
 
-pub returns-in_err-blocks-clause-sound : goal.returns-in_err-blocks-clause-sound
-returns-in_err-blocks-clause-sound g c tells e held =
+pub returns-in_err-blocks-clause-not_damaged : goal.returns-in_err-blocks-clause-not_damaged
+returns-in_err-blocks-clause-not_damaged g c tells e held =
     let p = err_from_is_err_and c.from_residual.result c.from_residual.ensures.1 in
     let s = g.S.Reads.state c.args.space.now in
-    rw (p.1, p.2) (c.in_err-blocks.ensures.sound tells e.value e.blocks held.value (blocks_given_out s.records s.shape _ e.blocks held.strings held.value.are))
+    rw (p.1, p.2) (c.in_err-blocks.ensures.not_damaged tells e.value e.blocks held.value
+        (blocks_given_out s.records s.shape _ e.blocks held.strings held.value.are))
 
-pub returns-in_err-release-clause-sound : goal.returns-in_err-release-clause-sound
-returns-in_err-release-clause-sound g c tells e held = space_exit c.from_residual-in_err-release.result c.in_err-release.field-0.0
+pub returns-in_err-release-clause-not_damaged : goal.returns-in_err-release-clause-not_damaged
+returns-in_err-release-clause-not_damaged g c tells e held = space_exit c.from_residual-in_err-release.result c.in_err-release.field-0.0
     c.from_residual-in_err-release.ensures.1
 
-pub returns-in_err-give-clause-sound : goal.returns-in_err-give-clause-sound
-returns-in_err-give-clause-sound g c tells e held = space_exit c.from_residual-in_err-give.result c.in_err-give.field-0.0 c.from_residual-in_err-give.ensures.1
+pub returns-in_err-give-clause-not_damaged : goal.returns-in_err-give-clause-not_damaged
+returns-in_err-give-clause-not_damaged g c tells e held = space_exit c.from_residual-in_err-give.result c.in_err-give.field-0.0 c.from_residual-in_err-give.ensures.1
 
 pub returns-clause-dropped : goal.returns-clause-dropped
 returns-clause-dropped g c tells e held =

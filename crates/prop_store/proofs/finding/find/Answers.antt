@@ -24,8 +24,8 @@ returns-clause-found g c = rw c.in_ok-first.ensures.state at c.find_from.ensures
 pub returns-clause-met : goal.returns-clause-met
 returns-clause-met g c = rw c.in_ok-first.ensures.state at c.find_from.ensures.met
 
-pub returns-clause-sound : goal.returns-clause-sound
-returns-clause-sound g c = rw c.in_ok-first.ensures.state at c.find_from.ensures.sound
+pub returns-clause-not_damaged : goal.returns-clause-not_damaged
+returns-clause-not_damaged g c = rw c.in_ok-first.ensures.state at c.find_from.ensures.not_damaged
 
 pub returns-clause-read : goal.returns-clause-read
 returns-clause-read g c = rw c.in_ok-first.ensures.state at c.find_from.ensures.read
@@ -53,8 +53,8 @@ returns-in_err-first-clause-damaged g c tells used =
     let s = g.R.Reads.state c.args.space.now in
     space_has (BlamesBroken s.records s.shape) tt tt c.from_residual.result c.in_err-first.field-0.0 c.from_residual.ensures.1
 
-pub returns-in_err-first-clause-sound : goal.returns-in_err-first-clause-sound
-returns-in_err-first-clause-sound g c tells es has = space_exit c.from_residual.result c.in_err-first.field-0.0 c.from_residual.ensures.1
+pub returns-in_err-first-clause-not_damaged : goal.returns-in_err-first-clause-not_damaged
+returns-in_err-first-clause-not_damaged g c tells es has = space_exit c.from_residual.result c.in_err-first.field-0.0 c.from_residual.ensures.1
 
 pub returns-in_err-first-clause-onward : goal.returns-in_err-first-clause-onward
 returns-in_err-first-clause-onward g c = c.in_err-first.ensures.onward

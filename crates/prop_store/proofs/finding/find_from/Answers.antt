@@ -56,15 +56,15 @@ returns-then-at-clause-found g c tells es are =
     let over = walk_over _ es _ _ _ c.if-at.true (c.loop-count.invariant.told tells es are) in
     (over.count_is, absent_key es c.args.key over.kept.1)
 
-pub returns-in_err-property_at-clause-sound : goal.returns-in_err-property_at-clause-sound
-returns-in_err-property_at-clause-sound g c tells es has =
+pub returns-in_err-property_at-clause-not_damaged : goal.returns-in_err-property_at-clause-not_damaged
+returns-in_err-property_at-clause-not_damaged g c tells es has =
     let old = g.R.Reads.state c.args.space.now in
     let now = g.R.Reads.state c.loop-count.space in
     let p = err_from_is_err_and c.from_residual.result c.from_residual.ensures.1 in
     let here = walk_here _ es _ _ _ c.if-at.false (c.loop-count.invariant.told tells es has.are) in
     let right = right_property old.records now.records c.args.owner es c.loop-count.at c.loop-count.count _
     (reads_records _ old now c.loop-count.invariant.reads) has here in
-    rw (p.1, p.2) (c.in_err-property_at.ensures.sound tells right.0 right.1)
+    rw (p.1, p.2) (c.in_err-property_at.ensures.not_damaged tells right.0 right.1)
 
 pub returns-in_err-property_at-clause-at_most : goal.returns-in_err-property_at-clause-at_most
 returns-in_err-property_at-clause-at_most g c = reads_then _ 1 32 _ _ _ (omega arith) c.loop-count.invariant.reads c.in_err-property_at.ensures.at_most

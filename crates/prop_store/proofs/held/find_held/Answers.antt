@@ -107,21 +107,21 @@ loop-at-preserved g c =
 
 -- ---- where the properties are known
 
-pub returns-then-count-clause-sound : goal.returns-then-count-clause-sound
-returns-then-count-clause-sound g c tells es has =
+pub returns-then-count-clause-not_damaged : goal.returns-then-count-clause-not_damaged
+returns-then-count-clause-not_damaged g c tells es has =
     absurd (c.loop-at-test.true (walk_ends _ es _ _ _ has.are.few (omega (arith, c.if-count.true)) (c.loop-at.invariant.told tells es has)))
 
-pub returns-in_err-property_at-clause-sound : goal.returns-in_err-property_at-clause-sound
-returns-in_err-property_at-clause-sound g c tells es has =
+pub returns-in_err-property_at-clause-not_damaged : goal.returns-in_err-property_at-clause-not_damaged
+returns-in_err-property_at-clause-not_damaged g c tells es has =
     let old = g.R.Reads.state c.args.space.now in
     let now = g.R.Reads.state c.loop-at.space in
     let p = err_from_is_err_and c.from_residual.result c.from_residual.ensures.1 in
     let here = walk_here _ es _ _ _ c.loop-at-test.true (c.loop-at.invariant.told tells es has) in
     let right = right_property old.records now.records c.args.owner es c.loop-at.at _ _ (reads_records _ old now c.loop-at.invariant.reads) has here in
-    rw (p.1, p.2) (c.in_err-property_at.ensures.sound tells right.0 right.1)
+    rw (p.1, p.2) (c.in_err-property_at.ensures.not_damaged tells right.0 right.1)
 
-pub returns-in_err-blocks-clause-sound : goal.returns-in_err-blocks-clause-sound
-returns-in_err-blocks-clause-sound g c tells es has =
+pub returns-in_err-blocks-clause-not_damaged : goal.returns-in_err-blocks-clause-not_damaged
+returns-in_err-blocks-clause-not_damaged g c tells es has =
     let old = g.R.Reads.state c.args.space.now in
     let now = g.R.Reads.state c.loop-at.space in
     let then = g.R.Reads.state c.property_at.new.space in
@@ -132,11 +132,12 @@ returns-in_err-blocks-clause-sound g c tells es has =
     let rec_is = c.in_ok-property_at.ensures.got tells ∙ ap (λ r. rec_at r properties_file c.loop-at.at) same
     ∙ ap (rec_at old.records properties_file) here.at_is in
     let value = has_value old.records then.records here.property (first_property here.later) c.property_at.new.row.rec same_then here.is rec_is in
-    rw (p.1, p.2) (c.in_err-blocks.ensures.sound tells here.property.value here.property.blocks value (blocks_given old.records then.records c.args.owner es
+    rw (p.1, p.2) (c.in_err-blocks.ensures.not_damaged tells here.property.value here.property.blocks value
+        (blocks_given old.records then.records c.args.owner es
     here.passed here.property here.later same_then has here.all here.is.blocks))
 
-pub returns-in-Some-clause-sound : goal.returns-in-Some-clause-sound
-returns-in-Some-clause-sound g c tells es has =
+pub returns-in-Some-clause-not_damaged : goal.returns-in-Some-clause-not_damaged
+returns-in-Some-clause-not_damaged g c tells es has =
     let told = (walk_over _ es _ _ _ c.loop-at-test.false (c.loop-at.invariant.told tells es has)).kept in
     absurd (let e = sym told.none ∙ c.in-Some.is in cc)
 

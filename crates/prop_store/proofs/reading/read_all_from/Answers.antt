@@ -48,21 +48,21 @@ loop-init g c =
       later = omega arith;
     }
 
-pub returns-in_err-property_at-clause-sound : goal.returns-in_err-property_at-clause-sound
-returns-in_err-property_at-clause-sound g c tells es has =
+pub returns-in_err-property_at-clause-not_damaged : goal.returns-in_err-property_at-clause-not_damaged
+returns-in_err-property_at-clause-not_damaged g c tells es has =
     let old = g.R.Reads.state c.args.space.now in
     let now = g.R.Reads.state c.loop.space in
     let p = err_from_is_err_and c.from_residual.result c.from_residual.ensures.1 in
     let here = walk_here _ es _ _ _ c.if-at.false (c.loop.invariant.told tells es has.are) in
     let right = right_property old.records now.records c.args.owner es c.loop.at c.loop.counter _ (reads_records _ old now c.loop.invariant.reads) has here in
-    rw (p.1, p.2) (c.in_err-property_at.ensures.sound tells right.0 right.1)
+    rw (p.1, p.2) (c.in_err-property_at.ensures.not_damaged tells right.0 right.1)
 
 pub returns-in_err-property_at-clause-at_most : goal.returns-in_err-property_at-clause-at_most
 returns-in_err-property_at-clause-at_most g c = reads_then _ 1 736 _ _ _ (omega (arith, c.loop.invariant.few, c.loop.invariant.count)) c.loop.invariant.reads
     c.in_err-property_at.ensures.at_most
 
-pub returns-in_err-value-clause-sound : goal.returns-in_err-value-clause-sound
-returns-in_err-value-clause-sound g c tells es has =
+pub returns-in_err-value-clause-not_damaged : goal.returns-in_err-value-clause-not_damaged
+returns-in_err-value-clause-not_damaged g c tells es has =
     let old = g.R.Reads.state c.args.space.now in
     let now = g.R.Reads.state c.loop.space in
     let then = g.R.Reads.state c.property_at.new.space in
@@ -73,7 +73,8 @@ returns-in_err-value-clause-sound g c tells es has =
     let rec_is = c.in_ok-property_at.ensures.got tells ∙ ap (λ r. rec_at r properties_file c.loop.at) same
     ∙ ap (rec_at old.records properties_file) here.at_is in
     let value = has_value old.records then.records here.property (first_property here.later) c.property_at.new.row.rec same_then here.is rec_is in
-    rw (p.1, p.2) (c.in_err-value.ensures.sound tells here.property.value here.property.blocks value (blocks_given old.records then.records c.args.owner es
+    rw (p.1, p.2) (c.in_err-value.ensures.not_damaged tells here.property.value here.property.blocks value
+        (blocks_given old.records then.records c.args.owner es
     here.passed here.property here.later same_then has here.all here.is.blocks))
 
 pub returns-in_err-value-clause-at_most : goal.returns-in_err-value-clause-at_most
@@ -269,8 +270,8 @@ returns-in_err-push-clause-damaged g c tells used =
     let old = g.R.Reads.state c.args.space.now in
     same_has (BlamesBroken old.records old.shape) c.from_residual-in_err-push.result faults.Memory c.from_residual-in_err-push.ensures.1 tt
 
-pub returns-in_err-push-clause-sound : goal.returns-in_err-push-clause-sound
-returns-in_err-push-clause-sound g c tells es has =
+pub returns-in_err-push-clause-not_damaged : goal.returns-in_err-push-clause-not_damaged
+returns-in_err-push-clause-not_damaged g c tells es has =
     same_has (λ fault. IfSome (damage_of fault) (λ _. ⊥)) c.from_residual-in_err-push.result faults.Memory c.from_residual-in_err-push.ensures.1 tt
 
 pub returns-then-at-clause-at_most : goal.returns-then-at-clause-at_most

@@ -23,8 +23,8 @@ returns-clause-read g c = rw c.in_ok-first.ensures.state at c.read_key_from.ensu
 pub returns-clause-met : goal.returns-clause-met
 returns-clause-met g c = rw c.in_ok-first.ensures.state at c.read_key_from.ensures.met
 
-pub returns-clause-sound : goal.returns-clause-sound
-returns-clause-sound g c = rw c.in_ok-first.ensures.state at c.read_key_from.ensures.sound
+pub returns-clause-not_damaged : goal.returns-clause-not_damaged
+returns-clause-not_damaged g c = rw c.in_ok-first.ensures.state at c.read_key_from.ensures.not_damaged
 
 pub returns-clause-damaged : goal.returns-clause-damaged
 returns-clause-damaged g c = rw c.in_ok-first.ensures.state at c.read_key_from.ensures.damaged

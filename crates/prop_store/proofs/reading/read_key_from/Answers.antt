@@ -22,15 +22,16 @@ use Rattle.prop_store.proofs.reading.read_key_from.Goals as goal
 pub returns-in-Absent-clause-cost : goal.returns-in-Absent-clause-cost
 returns-in-Absent-clause-cost g c = λ tells es are. reads_more (length es) (length es + 0) _ _ (omega arith) (c.in_ok-find_from.ensures.cost tells es are)
 
-pub returns-in_err-value-in-Found-clause-sound : goal.returns-in_err-value-in-Found-clause-sound
-returns-in_err-value-in-Found-clause-sound g c tells es has =
+pub returns-in_err-value-in-Found-clause-not_damaged : goal.returns-in_err-value-in-Found-clause-not_damaged
+returns-in_err-value-in-Found-clause-not_damaged g c tells es has =
     let old = g.R.Reads.state c.args.space.now in
     let now = g.R.Reads.state c.find_from.new.space in
     let p = err_from_is_err_and c.from_residual-in_err-value-in-Found.result c.from_residual-in_err-value-in-Found.ensures.1 in
     let f = subst (IsSought old.records c.args.owner es c.args.key c.find_from.new.row) c.in-Found.is (c.in_ok-find_from.ensures.found tells es has.are) in
     let same = reads_records 32 old now c.in_ok-find_from.ensures.at_most in
     let value = has_value old.records now.records f.property (first_property f.after) c.find_from.new.row.rec same f.is f.rec_is in
-    rw (p.1, p.2) (c.in_err-value-in-Found.ensures.sound tells f.property.value f.property.blocks value (blocks_given old.records now.records c.args.owner es
+    rw (p.1, p.2) (c.in_err-value-in-Found.ensures.not_damaged tells f.property.value f.property.blocks value
+        (blocks_given old.records now.records c.args.owner es
     f.before f.property f.after same has f.all f.is.blocks))
 
 pub returns-in_err-value-in-Found-clause-at_most : goal.returns-in_err-value-in-Found-clause-at_most
@@ -141,10 +142,10 @@ returns-in_err-find_from-clause-cause g c =
 pub returns-in_err-find_from-clause-at_most : goal.returns-in_err-find_from-clause-at_most
 returns-in_err-find_from-clause-at_most g c = reads_more 32 54 _ _ (omega arith) c.in_err-find_from.ensures.at_most
 
-pub returns-in_err-find_from-clause-sound : goal.returns-in_err-find_from-clause-sound
-returns-in_err-find_from-clause-sound g c tells es has =
+pub returns-in_err-find_from-clause-not_damaged : goal.returns-in_err-find_from-clause-not_damaged
+returns-in_err-find_from-clause-not_damaged g c tells es has =
     same_has (λ fault. IfSome (damage_of fault) (λ _. ⊥)) c.from_residual.result c.in_err-find_from.field-0.0 c.from_residual.ensures.1
-    (c.in_err-find_from.ensures.sound tells es has)
+    (c.in_err-find_from.ensures.not_damaged tells es has)
 
 pub returns-in-Absent-clause-at_most : goal.returns-in-Absent-clause-at_most
 returns-in-Absent-clause-at_most g c = reads_more 32 54 _ _ (omega arith) c.in_ok-find_from.ensures.at_most

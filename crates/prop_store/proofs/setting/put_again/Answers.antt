@@ -37,7 +37,7 @@ pub returns-in_err-blocks-clause-refused : goal.returns-in_err-blocks-clause-ref
 returns-in_err-blocks-clause-refused g c tells e held =
     let p = err_from_is_err_and c.from_residual.result c.from_residual.ensures.1 in
     let s = g.S.Reads.state c.args.space.now in
-    rw (p.1, p.2) (read_put_fault s (length e.blocks) (blocks_of c.args.value.now) c.in_err-blocks.field-0.0 (c.in_err-blocks.ensures.sound tells e.value
+    rw (p.1, p.2) (read_put_fault s (length e.blocks) (blocks_of c.args.value.now) c.in_err-blocks.field-0.0 (c.in_err-blocks.ensures.not_damaged tells e.value
     e.blocks held.value (blocks_given_out s.records s.shape _ e.blocks held.strings held.value.are)))
 
 pub returns-in_err-release-clause-refused : goal.returns-in_err-release-clause-refused

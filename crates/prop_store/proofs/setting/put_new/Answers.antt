@@ -31,7 +31,7 @@ returns-in_err-id-clause-refused g c tells strings properties room =
     let a = g.S.Reads.state c.write_text.new.space in
     rw (p.1, p.2) (take_put_fault s a c.long_bytes.result.now c.in_ok-first.first (blocks_of c.args.value.now) c.in_err-id.field-0.0
     (c.in_ok-first.ensures.written tells strings) (c.in_ok-first.ensures.other_files tells) (g.met.S.Reads.onward_shape _ _ c.in_ok-first.ensures.onward)
-    (c.in_err-id.ensures.refused tells) (c.in_err-id.ensures.sound tells) properties room)
+    (c.in_err-id.ensures.refused tells) (c.in_err-id.ensures.not_damaged tells) properties room)
 
 pub returns-clause-put : goal.returns-clause-put
 returns-clause-put g c tells strings properties may =

@@ -77,7 +77,7 @@ pub returns-in_err-count-clause-alone_refused : goal.returns-in_err-count-clause
 returns-in_err-count-clause-alone_refused g c tells es owns known =
     let p = err_from_is_err_and c.from_residual.result c.from_residual.ensures.1 in
     let s = g.S.Reads.state c.args.space.now in
-    rw (p.1, p.2) (read_refusal s es c.args.key c.args.value.now c.in_err-count.field-0.0 (c.in_err-count.ensures.sound tells es
+    rw (p.1, p.2) (read_refusal s es c.args.key c.args.value.now c.in_err-count.field-0.0 (c.in_err-count.ensures.not_damaged tells es
     (has_properties s c.args.owner es owns)))
 
 pub returns-in_err-count-clause-refused : goal.returns-in_err-count-clause-refused

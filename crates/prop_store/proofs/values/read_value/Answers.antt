@@ -93,8 +93,8 @@ pub returns-in_err-bytes-in-Inline-clause-damaged : goal.returns-in_err-bytes-in
 returns-in_err-bytes-in-Inline-clause-damaged g c tells read =
     same_has (IsTextFault (g.R.Reads.state c.args.space.now) c.args.row.now.id) c.from_residual.result faults.Memory c.from_residual.ensures.1 tt
 
-pub returns-in_err-bytes-in-Inline-clause-sound : goal.returns-in_err-bytes-in-Inline-clause-sound
-returns-in_err-bytes-in-Inline-clause-sound g c tells value blocks has given =
+pub returns-in_err-bytes-in-Inline-clause-not_damaged : goal.returns-in_err-bytes-in-Inline-clause-not_damaged
+returns-in_err-bytes-in-Inline-clause-not_damaged g c tells value blocks has given =
     same_has (λ fault. IfSome (damage_of fault) (λ _. ⊥)) c.from_residual.result faults.Memory c.from_residual.ensures.1 tt
 
 pub returns-in_err-bytes-in-Long-clause-cause : goal.returns-in_err-bytes-in-Long-clause-cause
@@ -105,12 +105,12 @@ returns-in_err-bytes-in-Long-clause-cause g c =
 pub returns-in_err-bytes-in-Long-clause-onward : goal.returns-in_err-bytes-in-Long-clause-onward
 returns-in_err-bytes-in-Long-clause-onward g c = c.in_err-bytes-in-Long.ensures.onward
 
-pub returns-in_err-bytes-in-Long-clause-sound : goal.returns-in_err-bytes-in-Long-clause-sound
-returns-in_err-bytes-in-Long-clause-sound g c tells value blocks has given =
+pub returns-in_err-bytes-in-Long-clause-not_damaged : goal.returns-in_err-bytes-in-Long-clause-not_damaged
+returns-in_err-bytes-in-Long-clause-not_damaged g c tells value blocks has given =
     let string_file = rec_at (g.R.Reads.state c.args.space.now).records strings_file in
     let m = means string_file c.args.row.now.rec value blocks (forms.Long c.in-Long.size c.in-Long.first) has (c.requires.form_is ∙ ap Some c.in-Long.is) in
     same_has (λ fault. IfSome (damage_of fault) (λ _. ⊥)) c.from_residual-in_err-bytes-in-Long.result c.in_err-bytes-in-Long.field-0.0
-    c.from_residual-in_err-bytes-in-Long.ensures.1 (c.in_err-bytes-in-Long.ensures.sound tells m.0 blocks m.2 given)
+    c.from_residual-in_err-bytes-in-Long.ensures.1 (c.in_err-bytes-in-Long.ensures.not_damaged tells m.0 blocks m.2 given)
 
 pub returns-in_ok-bytes-in-Long-clause-onward : goal.returns-in_ok-bytes-in-Long-clause-onward
 returns-in_ok-bytes-in-Long-clause-onward g c = c.in_ok-bytes-in-Long.ensures.onward

@@ -45,11 +45,11 @@ returns-in-Long-clause-followed g c tells value blocks has =
     let m = means string_file c.args.row.now.rec value blocks (forms.Long c.in-Long.size c.in-Long.first) has (c.requires.form_is ∙ ap Some c.in-Long.is) in
     c.block_ids.ensures.followed tells m.0 blocks m.2
 
-pub returns-in-Long-clause-sound : goal.returns-in-Long-clause-sound
-returns-in-Long-clause-sound g c tells value blocks has given =
+pub returns-in-Long-clause-not_damaged : goal.returns-in-Long-clause-not_damaged
+returns-in-Long-clause-not_damaged g c tells value blocks has given =
     let string_file = rec_at (g.R.Reads.state c.args.space.now).records strings_file in
     let m = means string_file c.args.row.now.rec value blocks (forms.Long c.in-Long.size c.in-Long.first) has (c.requires.form_is ∙ ap Some c.in-Long.is) in
-    c.block_ids.ensures.sound tells m.0 blocks m.2 given
+    c.block_ids.ensures.not_damaged tells m.0 blocks m.2 given
 
 pub returns-in-Long-clause-at_most : goal.returns-in-Long-clause-at_most
 returns-in-Long-clause-at_most g c = c.block_ids.ensures.at_most

@@ -38,8 +38,8 @@ returns-in-Ok-clause-known g c = λ tells.
     subst (λ r. OnOk r (IsKnown g.T.Row.FILE s c.args.id)) (sym c.read_row.ensures)
     (known-read_row g.T.Row g.met.T.Row.no_kind g.met.T.Row.own_kind g.met.T.Row.in_reused s c.args.id c.get_into.new.rec low there)
 
-pub returns-in-Ok-clause-sound : goal.returns-in-Ok-clause-sound
-returns-in-Ok-clause-sound g c = λ tells right.
+pub returns-in-Ok-clause-not_damaged : goal.returns-in-Ok-clause-not_damaged
+returns-in-Ok-clause-not_damaged g c = λ tells right.
     let s = g.R.Reads.state c.args.space.now in
     let mark : c.meta.result.high ≡ high s.records c.FILE-file.result = ap (λ (m : Meta). m.high) c.meta.ensures in
     let low = subst (λ (f : ℕ). c.args.id < high s.records f) c.FILE-file.ensures (omega arith) in

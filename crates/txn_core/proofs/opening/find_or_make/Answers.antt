@@ -11,7 +11,7 @@ use Rattle.rec_bytes.specs.declared.shape.Shape.{Shape}
 use Rattle.record_file.specs.Records.{record_at}
 use Rattle.txn_core.specs.Config.{Suits}
 use Rattle.record_file.specs.MetaFile.{with_metas}
-use Rattle.txn_core.specs.Opening.{HasOnly, IsStore, OnlyDiffers, RefusesOpening, raising_entries}
+use Rattle.txn_core.specs.Opening.{HasOnly, HoldsStore, OnlyDiffers, RefusesOpening, raising_entries}
 use Rattle.txn_core.specs.declared.opening.Start.{Start}
 use Rattle.txn_core.proofs.Finding.{differs_untouched, if_ok_all, if_ok_both, if_ok_on, made_crash, made_log}
 use Rattle.txn_core.proofs.Finding.{made_opened, none_made, one_shape, redoes_own, refuses_differs, stays_read}
@@ -21,7 +21,7 @@ use Rattle.rec_bytes.proofs.Causes.{never_ok}
 use Rattle.txn_core.proofs.opening.find_or_make.Goals as goal
 
 -- the store that is found
-store : (g : Over) (c : goal.After-open_made g) → g.D.Disk.tells_reads → IsStore (g.D.Disk.reads c.args.disk.now) c.in-Ok-Made.shape
+store : (g : Over) (c : goal.After-open_made g) → g.D.Disk.tells_reads → HoldsStore (g.D.Disk.reads c.args.disk.now) c.in-Ok-Made.shape
 store g c reads =
     let intact = c.in-Ok-Made.ensures.intact reads in
     record { space = intact.0; redoes = intact.1; made = rw c.in-Ok-Made.field-0-is at (c.in-Ok-Made.ensures.found reads intact.0 intact.1) }

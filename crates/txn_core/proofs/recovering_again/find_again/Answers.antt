@@ -4,15 +4,15 @@ use Rattle.disk_model.proofs.Spans.{at_each_moment_read, only_reads_on}
 use Rattle.record_file.specs.Records.{record_at}
 use Rattle.record_file.proofs.Redone.{Redoes-kept}
 use Rattle.txn_core.specs.Again.{IsOld, RefusesAgain, own_damage}
-use Rattle.txn_core.specs.Opening.{IsStore}
 use Rattle.txn_core.specs.declared.again_fault.AgainFault.TheVariants.{Disk, Damaged}
 use Rattle.txn_core.proofs.Finding.{none_made, one_shape}
 use Rattle.txn_core.proofs.Kept.{same_records}
 use Rattle.txn_core.proofs.recovering_again.find_again.Given.{Over}
 use Rattle.txn_core.proofs.recovering_again.find_again.Goals as goal
+use Rattle.txn_core.specs.Opening.{HoldsStore}
 
 -- the store that is found
-store : (g : Over) (c : goal.After-read_same g) → g.D.Disk.tells_reads → IsStore (g.D.Disk.reads c.args.disk.now) c.in-Ok-Made.found
+store : (g : Over) (c : goal.After-read_same g) → g.D.Disk.tells_reads → HoldsStore (g.D.Disk.reads c.args.disk.now) c.in-Ok-Made.found
 store g c reads =
     let intact = c.in-Ok-Made.ensures.intact reads in
     record { space = intact.0; redoes = intact.1; made = rw c.in-Ok-Made.field-0-is at (c.in-Ok-Made.ensures.found reads intact.0 intact.1) }
@@ -36,7 +36,7 @@ returns-in-Ok-Made-clause-space g c reads space redoes =
 
 pub returns-in-Ok-Made-clause-store : goal.returns-in-Ok-Made-clause-store
 returns-in-Ok-Made-clause-store g c reads =
-    on_ok_weaker {P = c.in-Ok-Made.found ≡ c.args.shape} c.read_same.result (λ same. subst (IsStore (g.D.Disk.reads c.args.disk.now)) same (store g c reads))
+    on_ok_weaker {P = c.in-Ok-Made.found ≡ c.args.shape} c.read_same.result (λ same. subst (HoldsStore (g.D.Disk.reads c.args.disk.now)) same (store g c reads))
     c.read_same.ensures.same
 
 pub returns-in-Ok-Made-clause-refused : goal.returns-in-Ok-Made-clause-refused

@@ -50,7 +50,8 @@ returns-in-Ok-clause-no_draft g c = λ none.
 
 pub returns-in-Ok-clause-careful : goal.returns-in-Ok-clause-careful
 returns-in-Ok-clause-careful g c = λ spells.
-    let only : IfOk c.parse_line-session.result.command (λ command. (other : Command) → Spells c.args.line.now other → other ≡ command) = c.parse_line-session.ensures.only in
+    let only : IfOk c.parse_line-session.result.command (λ command. (other : Command) → Spells c.args.line.now other
+        → other ≡ command) = c.parse_line-session.ensures.only in
     c.answer.ensures.careful (sym ((rw c.in-Ok.is at only) commands.Reopen spells))
 
 pub returns-in-Err-clause-answers : goal.returns-in-Err-clause-answers
@@ -60,7 +61,8 @@ returns-in-Err-clause-answers g c =
     (λ e. c.parse_line-session.ensures.memory (c.in-Err.is ∙ ap Err e)) (rw c.in-Err.is at c.parse_line-session.ensures.fault)
     (subst (λ (prefix : List ℕ). Gives g.K.Sink (marked_text prefix (reply_of (told_of c.in-Err.fault))) c.args.output.now c.give_reply.new.output
     c.give_reply.result)
-    (prefixed c.args.line.now c.parse_line-session.ensures.session c.mark_of-prefix.ensures c.as_bytes-in-Err.ensures) (rw c.from.ensures at c.give_reply.ensures)))
+    (prefixed c.args.line.now c.parse_line-session.ensures.session c.mark_of-prefix.ensures c.as_bytes-in-Err.ensures)
+        (rw c.from.ensures at c.give_reply.ensures)))
 
 pub returns-in-Err-clause-careful : goal.returns-in-Err-clause-careful
 returns-in-Err-clause-careful g c = λ spells. absurd (spells-none c.args.line.now c.in-Err.fault (rw c.in-Err.is at c.parse_line-session.ensures.none)

@@ -76,7 +76,7 @@ returns-in-Err-load-clause-unopened g c =
       later = c.in-Ok.ensures.later;
     })
     c.load.ensures.onward c.load.ensures.cause.later Names c.close.result.now c.why_of.result c.in-Err-load.fault c.close.ensures.disk c.why_of.ensures
-    c.in-Err-load.ensures.damaged c.in-Err-load.ensures.sound
+    c.in-Err-load.ensures.damaged c.in-Err-load.ensures.not_damaged
     (λ e. c.in-Err-load.ensures.cause.disk (ap Err e))
 
 -- what is read of the disk is what is committed

@@ -10,9 +10,9 @@ use Rattle.prop_index.specs.Looking.{BlamesBroken}
 use Rattle.prop_index.specs.declared.lookup_fault.LookupFault.{LookupFault}
 use Rattle.prop_index.specs.declared.lookup_fault.LookupFault.TheVariants as faults
 use Rattle.rec_bytes.specs.declared.damage.Damage.{Damage}
-use Rattle.store_rules.specs.Graph.{names_of}
+use Rattle.store_rules.specs.Graph.{graph_in, names_of}
 use Rattle.store_rules.proofs.Breaches.{none_at_all}
-use Rattle.change_parts.specs.Store.{IsStore, graph_in}
+use Rattle.change_parts.specs.Store.{IsStore}
 use Rattle.traversal_run.specs.FoundNodes.{IsSourceRefusal}
 use Rattle.traversal_run.specs.Reading.{IsNamedStore}
 use Rattle.rec_bytes.specs.Space.{State}

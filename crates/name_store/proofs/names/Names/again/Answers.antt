@@ -4,8 +4,8 @@ use Rattle.name_store.proofs.FirstNames.{names_of-take}
 use Rattle.name_store.proofs.NameDamage.{NotDamaged-prefix}
 use Rattle.name_store.proofs.names.Names.again.Goals as goal
 
-pub returns-in_err-high-clause-sound : goal.returns-in_err-high-clause-sound
-returns-in_err-high-clause-sound g c = λ tells rest is.
+pub returns-in_err-high-clause-not_damaged : goal.returns-in_err-high-clause-not_damaged
+returns-in_err-high-clause-not_damaged g c = λ tells rest is.
     let s = g.R.Reads.state c.args.space.now in
     let p = err_from_is_err_and c.from_residual.result c.from_residual.ensures.1 in
     rw (p.1, p.2) (NotDamaged-prefix s.records c.args.self.now.names rest c.in_err-high.field-0.0 is (c.in_err-high.ensures.damaged tells))
