@@ -1,6 +1,9 @@
 -- A draft of a line's changes, by what each call said of it, and why there is none.
-use Rattle.std.proofs.Common.{◌≡◌, ◌∙◌, ◌+◌, ◌<◌, ◌≤◌, ℕ, IfErr, IfOk, OnOk, Err, Ok, Option, Result, List, ◌++◌, append_assoc, refl, sym, ap, subst, arith}
+use Rattle.std.specs.Prelude.{if◌then◌else◌}
+use Rattle.std.proofs.Common.{Bool, true, false, nat_eq, ◌≢◌, ◌≡◌, ◌∙◌, ◌+◌, ◌<◌, ◌≤◌, ℕ, IfErr, IfOk, OnOk, Err, Ok, Option, Result, List, ◌++◌}
+use Rattle.std.proofs.Common.{append_assoc, refl, sym, ap, subst, arith}
 use Rattle.std.proofs.Math.Nat.{min-eq_left}
+use Rattle.std.proofs.lemmas.Bool.{eqb-true}
 use Rattle.fault_count.specs.Cause.{Rose}
 use Rattle.disk_model.specs.declared.disk.Disk.{Ghosts}
 use Rattle.plain_graph.specs.Changes.{Changes, Weighs, most_weight, start_weight}
@@ -17,7 +20,9 @@ use Rattle.plain_graph.specs.declared.query.Query.{Query}
 use Rattle.plain_graph.specs.declared.refusal.Refusal.{Refusal}
 use Rattle.plain_graph.specs.declared.refusal.Refusal.TheVariants as refusals
 use Rattle.plain_graph.proofs.LineLaws.{HasIndexOf, change_first, change_free, mutation_first, mutation_free}
+use Rattle.rec_bytes.specs.Format as format
 use Rattle.rec_bytes.specs.Space.{SameButReads, State as Space}
+use Rattle.rec_bytes.specs.declared.fault.Fault.TheVariants as read_faults
 use Rattle.store_rules.specs.Writes.{WritesAtMost}
 use Rattle.txn_core.specs.OnlyReading.{only_reads_base_on}
 use Rattle.txn_core.specs.Store as store
@@ -33,9 +38,11 @@ use Rattle.change_parts.specs.declared.change_fault.ChangeFault.{ChangeFault}
 use Rattle.change_parts.specs.declared.change_fault.ChangeFault.TheVariants as faults
 use Rattle.graph_session.specs.Answering.{reply_of}
 use Rattle.graph_session.specs.ChangeLeft.{LeavesRecords}
-use Rattle.graph_session.specs.Drafting.{Drafts, HasStore, IsStopped, MakesLine, OnlyDrafts, answer_for, answer_for_changes, drafted_by}
+use Rattle.graph_session.specs.Drafting.{Drafts, HasStore, IsStopped, MakesLine, OnlyDrafts, Refuses, answer_for, answer_for_changes, drafted_by}
+use Rattle.graph_session.specs.Drafting.{full_groups}
 use Rattle.graph_session.specs.MayStep.{TellsMade}
 use Rattle.graph_session.specs.declared.answer.Answer.{Answer}
+use Rattle.graph_session.specs.declared.answer.Answer.TheVariants as answers
 use Rattle.graph_session.specs.declared.session.Session.{Session}
 use Rattle.graph_session.proofs.Weights.{Weighs-only}
 use Rattle.store_rules.specs.Graph.{graph_in}
@@ -94,7 +101,7 @@ change-refused limit graph command (faults.HasRelationships id degree) why = cha
 change-refused limit graph command faults.IndexThere why = change_first limit graph command refusals.IndexThere why
 change-refused limit graph command faults.TooManyIndexes why = change_first limit graph command refusals.TooManyIndexes why
 change-refused limit graph command (faults.IndexTooLarge count) why = change_first limit graph command (refusals.IndexTooLarge count) why
-change-refused limit graph command (faults.Full file live) why = change_first limit graph command (full_of file) why
+change-refused limit graph command (faults.Full file live) why = (why.0, change_first limit graph command (full_of file) why.1)
 change-refused limit graph command (faults.NamesFull count) why = change_first limit graph command refusals.FullNames why
 change-refused limit graph command (faults.PropsFull count) why = change_first limit graph command refusals.TooManyProperties why
 change-refused limit graph command faults.Memory why = why
@@ -149,7 +156,7 @@ module _ (old mid : Space) (same : SameButReads old mid) where
         by faults.IndexThere why = first refusals.IndexThere why
         by faults.TooManyIndexes why = first refusals.TooManyIndexes why
         by (faults.IndexTooLarge count) why = first (refusals.IndexTooLarge count) why
-        by (faults.Full file live) why = first (full_of file) why
+        by (faults.Full file live) why = (why.0, first (full_of file) why.1)
         by (faults.NamesFull count) why = first refusals.FullNames why
         by (faults.PropsFull count) why = first refusals.TooManyProperties why
         by faults.Memory why = why
@@ -197,6 +204,13 @@ module _ {D : Type 0} {g : Ghosts D} (old mid : Session D g) (same : SameButRead
 -- ---- why no change was drafted
 
 module _ {D : Type 0} {g : Ghosts D} (command : Command) (old : Session D g) (now : D) where
+  -- a store has room for the groups that an edge needs
+  full-stopped : (file : ℕ) (b : Bool) → nat_eq file format.groups_file ≡ b
+      → (g.tells_reads → HasStore old → (file ≢ format.groups_file) × Refuses command (store.state_of old.store) (full_of file))
+      → IsStopped command old now (if b then answers.Fault (read_faults.Damaged full_groups) else answers.Refused (full_of file))
+  full-stopped file true groups why = λ told has. absurd ((why told has).0 (eqb-true file format.groups_file groups))
+  full-stopped file false other why = λ told has. (why told has).1
+
   -- by the fault of a call that changes
   pub change-stopped : (fault : ChangeFault)
       → (g.tells_reads → HasStore old → IsRefusedBy line_reasons (store.state_of old.store).shape.limit (graph_in (store.state_of old.store)) command fault)
@@ -213,7 +227,7 @@ module _ {D : Type 0} {g : Ghosts D} (command : Command) (old : Session D g) (no
       by faults.IndexThere why rose = why
       by faults.TooManyIndexes why rose = why
       by (faults.IndexTooLarge count) why rose = why
-      by (faults.Full file live) why rose = why
+      by (faults.Full file live) why rose = full-stopped file (nat_eq file format.groups_file) refl why
       by (faults.NamesFull count) why rose = why
       by (faults.PropsFull count) why rose = why
       by faults.Memory why rose = tt

@@ -1,4 +1,5 @@
 -- What the steps of a change say: its draft, and what becomes of that.
+use Rattle.std.specs.Prelude.{if◌then◌else◌, nat_eq}
 use Rattle.std.specs.Prelude.{◌≡◌, ◌⊎◌, ℕ, ◌+◌, ◌<◌, ◌≤◌, IsTrue, true, false, Result, Ok, Err}
 use Rattle.std.specs.Prelude.{List, [], ◌++◌, length, min, take}
 use Rattle.fault_count.specs.Cause.{Rose}
@@ -15,6 +16,7 @@ use Rattle.rec_bytes.specs.declared.damage.Damage.{Damage}
 use Rattle.rec_bytes.specs.declared.key.Key.{Key}
 use Rattle.rec_bytes.specs.declared.record.Rec.{Rec}
 use Rattle.rec_bytes.specs.Format as format
+use Rattle.rec_bytes.specs.RuleNumbers.{group_rule}
 use Rattle.rec_bytes.specs.Pairs.{IsOrdered, Pairs, merged}
 use Rattle.rec_bytes.specs.Space.{State as Space, laid_over}
 use Rattle.rec_bytes.specs.declared.fault.Fault.TheVariants as read_faults
@@ -51,6 +53,17 @@ use Rattle.graph_session.specs.declared.health.Health.TheVariants as healths
 use Rattle.graph_session.specs.declared.session.Session.{Session}
 use Rattle.store_rules.specs.Graph.{graph_in}
 
+-- what stands for a record that breaks a rule where the file of groups is full: their meta record
+abbrev pub full_groups : Damage
+full_groups = record { file = format.meta_file; id = format.groups_file; rule = group_rule }
+
+-- The answer where a file is full. A graph has no groups: where their file is full, a record of the
+-- store breaks a rule.
+abbrev pub full_answer : ℕ → Answer
+full_answer file =
+    if nat_eq file format.groups_file then answers.Fault (read_faults.Damaged full_groups)
+    else answers.Refused (full_of file)
+
 -- the answer of a change that is refused
 abbrev pub answer_for : ChangeFault → Answer
 answer_for (faults.NoNode id) = answers.Refused (refusals.NoNode id)
@@ -59,7 +72,7 @@ answer_for (faults.HasRelationships id degree) = answers.Refused (refusals.HasRe
 answer_for faults.IndexThere = answers.Refused refusals.IndexThere
 answer_for faults.TooManyIndexes = answers.Refused refusals.TooManyIndexes
 answer_for (faults.IndexTooLarge count) = answers.Refused (refusals.IndexTooLarge count)
-answer_for (faults.Full file live) = answers.Refused (full_of file)
+answer_for (faults.Full file live) = full_answer file
 answer_for (faults.NamesFull count) = answers.Refused refusals.FullNames
 answer_for (faults.PropsFull count) = answers.Refused refusals.TooManyProperties
 answer_for faults.Memory = answers.Fault read_faults.Memory

@@ -1,5 +1,6 @@
 ghost use Rattle.std.specs.Prelude.{◌≡◌};
 ghost use Rattle.change_parts.specs.Change.{full_of};
+ghost use Rattle.graph_session.specs.Drafting.{full_answer};
 
 use crate::results::Results;
 use expand::ExpandFault;
@@ -7,7 +8,10 @@ use graph_ops::{ChangeFault, MutateFault};
 use gremlin_parse::LineFault;
 use plain_graph::Refusal;
 use prop_index::LookupFault;
-use rec_bytes::{Damage, Fault, INDEX, META, NAMES, NODES, PROPERTIES, RANGE_RULE, RELATIONSHIPS};
+use rec_bytes::{
+    Damage, Fault, GROUP_RULE, GROUPS, INDEX, META, NAMES, NODES, PROPERTIES, RANGE_RULE,
+    RELATIONSHIPS,
+};
 
 /// Stands for a damaged record that isn't named yet. Another one replaces it in each reply.
 const UNNAMED: Damage = Damage {
@@ -107,7 +111,7 @@ impl From<ChangeFault> for Answer {
             ChangeFault::IndexTooLarge { count } => {
                 Answer::Refused(Refusal::IndexTooLarge { count })
             }
-            ChangeFault::Full { file, .. } => Answer::Refused(full_of(file)),
+            ChangeFault::Full { file, .. } => full_answer(file),
             ChangeFault::NamesFull { .. } => Answer::Refused(Refusal::FullNames),
             ChangeFault::PropsFull { .. } => Answer::Refused(Refusal::TooManyProperties),
             ChangeFault::Memory => Answer::Fault(Fault::Memory),
@@ -131,6 +135,21 @@ impl From<MutateFault> for Answer {
             MutateFault::Damaged => Answer::Fault(Fault::Damaged(UNNAMED)),
         }
     }
+}
+
+// The answer where a file is full. A graph has no groups, and a store that keeps the rules has room
+// for those that an edge needs: where it has none, a record breaks a rule.
+fn full_answer(file: u8) -> Answer
+    ensures { result ≡ full_answer file }
+{
+    if file == GROUPS {
+        return Answer::Fault(Fault::Damaged(Damage {
+            file: META,
+            id: GROUPS as u32,
+            rule: GROUP_RULE,
+        }));
+    }
+    Answer::Refused(full_of(file))
 }
 
 // Which part of the graph has no room, by its file.

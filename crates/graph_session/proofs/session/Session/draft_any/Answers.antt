@@ -125,7 +125,7 @@ returns-in-Node-clause-found g c =
     rw (c.in-Node.is, c.drafted_node.ensures)
     (found-call (commands.Node c.in-Node.label.now c.in-Node.pairs.now) c.args.self.now tt (λ (added : Added). answers.NodeMade added.id)
     (λ (added : Added). added.weight) (BlamesEntries s t) c.add_node.result (λ told. c.add_node.ensures.damaged told)
-    (λ fault at_once. entries-aside s t fault))
+    (λ fault at_once. entries-aside s t fault) s t _ _ (λ told. c.add_node.ensures.caused told))
 
 pub returns-in-Edge-clause-found : goal.returns-in-Edge-clause-found
 returns-in-Edge-clause-found g c =
@@ -140,7 +140,7 @@ returns-in-Set-clause-found g c =
     rw (c.in-Set.is, c.drafted_done.ensures)
     (found-call (commands.Set c.in-Set.target c.in-Set.key.now c.in-Set.value.now) old tt (λ (weight : ℕ). answers.Done) (λ (weight : ℕ). weight)
     (BlamesGiven s (interned s old.names.names c.in-Set.key.now) t) c.set.result (λ told. c.set.ensures.damaged told)
-    (λ fault known. given-aside s t old.names.names c.in-Set.key.now known fault))
+    (λ fault known. given-aside s t old.names.names c.in-Set.key.now known fault) s t _ _ (λ told. c.set.ensures.caused told))
 
 pub returns-in-Unset-clause-found : goal.returns-in-Unset-clause-found
 returns-in-Unset-clause-found g c =
@@ -148,7 +148,8 @@ returns-in-Unset-clause-found g c =
     let t = state_of c.unset.new.space in
     rw (c.in-Unset.is, c.drafted_done-in-Unset.ensures)
     (found-call (commands.Unset c.in-Unset.target c.in-Unset.key.now) c.args.self.now tt (λ (weight : ℕ). answers.Done) (λ (weight : ℕ). weight)
-    (BlamesEntries s t) c.unset.result (λ told. c.unset.ensures.damaged told) (λ fault at_once. entries-aside s t fault))
+    (BlamesEntries s t) c.unset.result (λ told. c.unset.ensures.damaged told) (λ fault at_once. entries-aside s t fault)
+    s t _ _ (λ told. c.unset.ensures.caused told))
 
 pub returns-in-Delete-clause-found : goal.returns-in-Delete-clause-found
 returns-in-Delete-clause-found g c = rw c.in-Delete.is c.draft_deletion.ensures.found
