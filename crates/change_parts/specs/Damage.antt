@@ -100,8 +100,9 @@ IsOfLists s damage =
 abbrev pub KeepsButNames : State → State → Type 0
 KeepsButNames s t = IsSameBeside format.names_file s.records t.records
 
--- A record that is blamed where the chains of a new edge are made ready breaks the rule in the space
--- as it is left. Or the file of groups is full, which has a word of its own once the edge is put.
+-- A record that is blamed where the chains of a new edge are made ready breaks the rule in the
+-- space as it is left. Or the file of groups is full, which has a word of its own once the edge is
+-- put.
 abbrev pub IsLinkingDamage : State → Damage → Type 0
 IsLinkingDamage t damage = IsBroken t damage ⊎ IsFullDamage t damage
 

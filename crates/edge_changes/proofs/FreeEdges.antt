@@ -116,7 +116,7 @@ placed_takes s t label from to id placed free list =
     let next : (x : ℕ) → In x (rest_of free) → next_free now format.relationships_file x ≡ next_free mid format.relationships_file x
     = λ x i. ap (λ r. field 4 r format.free_next) (put_other mid (rel_key id) rec (key_in format.relationships_file x) (λ e. rest_once
     (next_free s.records format.relationships_file) (meta_in s.records format.relationships_file).free
-        (high s.records format.relationships_file) id free took.is
+    (high s.records format.relationships_file) id free took.is
     list (subst (λ z. In z (rest_of free)) (ap (λ (k : Key). k.id) e) i))) in
     subst (λ (z : State). IsFreeList z.records format.relationships_file (rest_of free) × (high z.records format.relationships_file ≡ mark_after free
     (high s.records format.relationships_file))) (sym placed.saved) (

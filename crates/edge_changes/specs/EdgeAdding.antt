@@ -122,7 +122,8 @@ abbrev pub groups_needed : ℕ → ℕ
 groups_needed threshold = 2 * (threshold + 1)
 
 -- What is called damaged where an edge is put: what was wrong with the files before; or one of the
--- nodes, a group, or the meta record of the nodes or of the relationships, which is as it was found.
+-- nodes, a group, or the meta record of the nodes or of the relationships, which is as it was
+-- found.
 abbrev pub IsPutDamage : State → State → ℕ → ℕ → Damage → Type 0
 IsPutDamage s t from to damage = IsFileDamage s damage
     ⊎ ((IsOfMarks damage ⊎ IsOfEnds from to damage) × IsAsFound s t damage)

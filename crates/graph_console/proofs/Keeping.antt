@@ -32,7 +32,7 @@ pub record Laws {D : Type 0} (g : Ghosts D) : Type 0 where
 -- what an opening leaves stands for the graph that the content stands for
 left_same : (content left : Files) (config : Config) (shape : Shape) (graph : Graph) (P : Graph → Type 0) → Stands content shape graph → P graph
     → (IsUnmade content × Stands left (shape_of config) empty_graph) ⊎ ((¬ IsUnmade content) × (other : Shape) ×
-        (store : HoldsStore content other) × IsOldOrRaised
+    (store : HoldsStore content other) × IsOldOrRaised
     other store.space left)
     → (other : Shape) × (found : Graph) × Stands left other found × P found
 left_same content left config shape graph P stands has (inl (unmade, new)) =

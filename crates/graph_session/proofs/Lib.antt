@@ -38,6 +38,7 @@ pub mod OneCommand
 pub mod Openings
 pub mod PartCounts
 pub mod Places
+pub mod QueryReads
 pub mod Questioned
 pub mod ReaderAnswers
 pub mod ReaderLines

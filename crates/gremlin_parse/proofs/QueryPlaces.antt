@@ -906,7 +906,7 @@ some (ValueOf into key) = (
           inl (0, refl, (refl, refl)),
           loose_line
               (ClosesFilter into (value_filter key (values.Int (pos 0)))) (41 ∷ rest_after into) (closes_filter_line into (value_filter key (values.Int
-                  (pos 0)))),
+              (pos 0)))),
         ),
       ))),
 )

@@ -171,7 +171,7 @@ module _ {Word Place : Type 0} where
   bad_other_ends class (Token symbol to) fail kind left After = λ bytes bad. ⊎_elim
       (λ (here : IsBad symbol kind left bytes). bad_halts class false symbol [] fail kind left bytes here)
       (λ ((content, allows, (prefix, rest, bytes_are, part_is, after)) : (content : Content symbol) × Allows symbol content × Then (part symbol content)
-          (After (to content)) bytes).
+      (After (to content)) bytes).
       subst (EndsRun (passes class)) (sym bytes_are) (part_halts class false symbol [] fail content allows prefix rest part_is (λ none. cc)))
       bad
   bad_other_ends class (Either one two) fail kind left After = λ bytes bad.

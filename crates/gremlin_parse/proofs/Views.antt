@@ -252,7 +252,7 @@ views_of bytes (viewed, made) =
             run_is,
             follows_of_parts
                 (after_view found.word) (contents_of found.word found.id) (λ _. IsEnd) (allowed found.word found.id) b (made_ends
-                    (after_parts found.word found.id)
+                (after_parts found.word found.id)
                 b after),
           ),
         ),

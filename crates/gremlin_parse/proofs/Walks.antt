@@ -286,7 +286,7 @@ module _ {Word Place End : Type 0} (turn : Place → Turn Word Place End) (is_lo
         λ kind place bad. ⊎_elim
             (λ (here : IsBad symbol kind place bytes). refused.no_bad kind place here)
             (λ ((content, allows, then) : (content : Content symbol) × Allows symbol content × Then (part symbol content) (LooseBad turn is_loose kind place
-                (to content)) bytes).
+            (to content)) bytes).
             no_one symbol (LooseBad turn is_loose kind place (to content)) ended.0 (bads_end kind place (class_of symbol) (to content) (ended.1 content)) bytes
             left leaves (content, allows, then))
             bad,

@@ -1,13 +1,21 @@
-ghost use Rattle.std.specs.Prelude.{◌≡◌, ℕ, IfErr, IfOk, None, OnOk};
+ghost use Rattle.std.specs.Prelude.{◌≡◌, ◌+◌, ◌≤◌, ℕ, IfErr, IfOk, None, OnOk};
 ghost use Rattle.plain_graph.specs.Forms.{IsShown};
 ghost use Rattle.plain_graph.specs.declared.command.Command.TheVariants as commands;
 ghost use Rattle.plain_graph.specs.declared.query.Hop.{Hop};
 ghost use Rattle.prop_store.specs.Reading.{ReadsAtMost};
+ghost use Rattle.rec_bytes.specs.Space.{State};
 ghost use Rattle.store_rules.specs.Graph.{graph_of};
+ghost use Rattle.traversal_run.specs.FoundNodes.{ReadsToBegin};
 ghost use Rattle.traversal_run.specs.HopRun.{IsHopQuery, reads_for_hop};
 ghost use Rattle.traversal_run.specs.Reading.{IsNamedStore, IsRead};
 ghost use Rattle.graph_session.specs.Questions.{GivesReading};
-ghost use Rattle.graph_session.specs.QueryResults.{AddsNone, AddsShown, reads_to_show};
+ghost use Rattle.graph_session.specs.QueryResults.{
+  AddsNone,
+  AddsShown,
+  line_reads,
+  map_reads,
+  reads_to_show,
+};
 ghost use Rattle.graph_session.specs.ReplyLines.{HaveSameSink};
 
 use crate::Turn;
@@ -40,6 +48,14 @@ pub(crate) fn give_query<R: Reads, K: Sink>(
         context.entry.names.now.names
         → ReadsAtMost (reads_for_hop (R.state space.old).records hop id)
         (R.state space.old) (R.state space.new) }
+    // To find what the query begins with, and then no more than the query may read, and for each
+    // result what showing it costs, whatever is answered.
+    ensures at_most { R.tells
+        → IsNamedStore (R.state space.old).records (R.state space.old).shape
+        context.entry.names.now.names
+        → (mid : State) × ReadsToBegin query.now.source (R.state space.old) mid
+        × ((R.state space.new).reads
+        ≤ mid.reads + line_reads (R.state space.old).records query.now) }
 {
     let mut run = match Run::new(context.alloc, space, context.names, query) {
         Ok(run) => run,
@@ -88,6 +104,8 @@ fn add_shown<R: Reads, K: Sink>(
         → OnOk result (ReadsAtMost
         (reads_to_show (graph_of (R.state space.old).records) maps.now item.now)
         (R.state space.old) (R.state space.new)) }
+    ensures at_most { ReadsAtMost (map_reads maps.now)
+        (R.state space.old) (R.state space.new) }
     ensures unread { maps.now ≡ None → space.new ≡ space.old }
     ensures read { IsRead R.Reads space.old space.new }
 {

@@ -24,7 +24,7 @@ returns-in_err-degree-clause-not_damaged g c tells names store there which =
     let s = g.S.Reads.state c.args.space.now in
     let end = end_readable s names c.args.id c.args.rel store there c.args.node which in
     fault_exit (λ f. f) IsOutside c.in_err-degree.field-0.0 c.from_residual.result c.from_residual.ensures.1
-        (c.in_err-degree.ensures.not_damaged tells end.0 end.1)
+    (c.in_err-degree.ensures.not_damaged tells end.0 end.1)
 
 pub returns-in_err-head-clause-not_damaged : goal.returns-in_err-head-clause-not_damaged
 returns-in_err-head-clause-not_damaged g c tells names store there which =

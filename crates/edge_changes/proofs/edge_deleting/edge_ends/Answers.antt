@@ -28,7 +28,7 @@ returns-in_err-target-clause-not_damaged g c tells names store there =
     let first = c.in_ok-source.ensures.found tells names store there (inl refl) in
     fault_exit (λ f. f) IsOutside c.in_err-target.field-0.0 c.from_residual-in_err-target.result c.from_residual-in_err-target.ensures.1
     (c.in_err-target.ensures.not_damaged tells names first.store
-        (there_then s t names c.args.id c.args.rel there c.in_ok-source.source c.in_ok-source.ensures.node
+    (there_then s t names c.args.id c.args.rel there c.in_ok-source.source c.in_ok-source.ensures.node
     first) (inr refl))
 
 -- ---- what it leaves

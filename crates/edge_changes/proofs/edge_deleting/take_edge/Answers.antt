@@ -16,7 +16,7 @@ use Rattle.edge_changes.proofs.edge_deleting.take_edge.Goals as goal
 pub returns-in_err-ends-clause-not_damaged : goal.returns-in_err-ends-clause-not_damaged
 returns-in_err-ends-clause-not_damaged g c tells names store there =
     fault_exit (λ f. f) IsOutside c.in_err-ends.field-0.0 c.from_residual.result c.from_residual.ensures.1
-        (c.in_err-ends.ensures.not_damaged tells names store there)
+    (c.in_err-ends.ensures.not_damaged tells names store there)
 
 pub returns-clause-not_damaged : goal.returns-clause-not_damaged
 returns-clause-not_damaged g c tells names store there =

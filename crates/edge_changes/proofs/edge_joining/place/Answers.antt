@@ -34,7 +34,7 @@ use Rattle.edge_changes.proofs.edge_joining.place.Given.{Over}
 pub returns-in_err-id-clause-not_damaged : goal.returns-in_err-id-clause-not_damaged
 returns-in_err-id-clause-not_damaged g c tells most empty keeps room =
     fault_exit (λ f. f) IsOutside c.in_err-id.field-0.0 c.from_residual.result c.from_residual.ensures.1
-        (c.in_err-id.ensures.not_damaged tells most empty keeps room)
+    (c.in_err-id.ensures.not_damaged tells most empty keeps room)
 
 -- the shape after the identifier was taken
 took : (g : Over) (c : In_ok-id g) → g.S.Reads.tells → (g.S.Reads.state c.take_id.new.space).shape ≡ (g.S.Reads.state c.args.space.now).shape

@@ -126,7 +126,7 @@ returns-in_err-last-in-Two-clause-not_damaged g c tells names can room =
     let differ = differs g at in
     fault_exit (λ f. f) IsOutside c.in_err-last-in-Two.field-0.0 c.from_residual-in_err-last-in-Two.result c.from_residual-in_err-last-in-Two.ensures.1
     (c.in_err-last-in-Two.ensures.not_damaged tells _ _ (target_can s names joint here t head one differ sides.In
-        (in_side c.in-Two.source.node c.in-Two.target.node
+    (in_side c.in-Two.source.node c.in-Two.target.node
     differ) 0) (target_room s names joint here t head one differ room))
 
 pub returns-in_ok-last-in-Two-clause-opened : goal.returns-in_ok-last-in-Two-clause-opened

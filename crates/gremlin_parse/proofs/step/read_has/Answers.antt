@@ -44,7 +44,7 @@ returns-in_err-filter-clause-err c =
 pub returns-clause-ok : goal.returns-clause-ok
 returns-clause-ok c = λ into.
     subst (λ (filter : Filter). LeadsTo (Quote (Key into)) c.args.bytes.now (after_filter into filter) c.in_ok-relation.rest.now)
-        (sym c.in_ok-filter.ensures.ok)
+    (sym c.in_ok-filter.ensures.ok)
     (comparison_read c.in_ok-name.name.now c.args.bytes.now c.in_ok-name.after_name.now c.in_ok-more.at_value.now c.in_ok-relation.rest.now
     c.in_ok-relation.relation (value_of c.in_ok-relation.written) c.in_ok-more.more c.if-not-more.false c.in_ok-name.ensures.ok c.in_ok-more.ensures.ok
     c.in_ok-relation.ensures.ok into)

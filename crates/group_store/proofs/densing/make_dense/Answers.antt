@@ -465,7 +465,7 @@ returns-in_err-row-clause-never g c = λ tells members free can room.
     let p = err_from_is_err_and c.from_residual.result c.from_residual.ensures.1 in
     not_damaged_at c.from_residual.result p.0 (of_row c.in_err-row.field-0.0) p.1 p.2
     (row_sound c.in_err-row.field-0.0 (c.in_err-row.ensures.not_damaged tells (sparse_read
-        (g.S.Reads.state c.args.space.now) c.args.node c.args.threshold members
+    (g.S.Reads.state c.args.space.now) c.args.node c.args.threshold members
     free can room)))
 
 pub returns-in_default-clause-never : goal.returns-in_default-clause-never

@@ -114,7 +114,7 @@ returns-in_err-test_link-clause-not_damaged g c = λ tells xs on.
     let before = number_read s.records c.args.group group_previous c.number-before.result c.in_ok-rec.rec (c.in_ok-rec.ensures.got tells)
     c.number-before.ensures in
     let is_ok = c.in_err-test_link.ensures.not_damaged (right_previous s
-        (g.S.Reads.state c.read_member.new.space) c.args.node c.args.group c.number-before.result xs
+    (g.S.Reads.state c.read_member.new.space) c.args.node c.args.group c.number-before.result xs
     c.in_ok-rec.ensures.read before on) in
     absurd (false≢true is_ok)
 
@@ -123,7 +123,7 @@ returns-in_err-test_link-2-clause-not_damaged g c = λ tells xs on.
     let s = g.S.Reads.state c.args.space.now in
     let after = number_read s.records c.args.group group_next c.number-after.result c.in_ok-rec.rec (c.in_ok-rec.ensures.got tells) c.number-after.ensures in
     let is_ok = c.in_err-test_link-2.ensures.not_damaged (right_next s
-        (g.S.Reads.state c.read_member.new.space) c.args.node c.args.group c.number-after.result xs
+    (g.S.Reads.state c.read_member.new.space) c.args.node c.args.group c.number-after.result xs
     c.in_ok-rec.ensures.read after on) in
     absurd (false≢true is_ok)
 

@@ -72,7 +72,7 @@ returns-in_err-test_link-clause-not_damaged g c = λ tells readable free xs can 
     let first = subst (IsFirst s.records c.args.node) c.in-Some.is (c.in_ok-first.ensures.first tells) in
     let reads = c.in_ok-first.ensures.at_most in
     let is_ok = c.in_err-test_link.ensures.not_damaged (right_first s
-        (g.S.Reads.state c.first_group.new.space) reads.count c.args.node c.args.label c.in-Some.first
+    (g.S.Reads.state c.first_group.new.space) reads.count c.args.node c.args.label c.in-Some.first
     free xs reads.is first.1 can) in
     absurd (false≢true is_ok)
 

@@ -59,7 +59,7 @@ returns-then-branch-clause-not_damaged g c = λ tells row empty can room.
     let same = c.in_ok-is_dense.ensures.state in
     let dense = (c.in_ok-is_dense.ensures.is tells).0 c.if-branch.true in
     c.open_group.ensures.not_damaged tells row empty
-        (group_can s z same c.args.node c.args.degree c.args.threshold c.args.label c.args.side row empty can dense)
+    (group_can s z same c.args.node c.args.degree c.args.threshold c.args.label c.args.side row empty can dense)
     (room_same s z same c.args.node c.args.degree c.args.threshold c.args.label c.args.side row empty can room)
 
 pub returns-then-degree-threshold-clause-opened : goal.returns-then-degree-threshold-clause-opened
@@ -116,7 +116,7 @@ returns-clause-not_damaged g c = λ tells row empty can room.
     let becomes = c.in_ok-make_dense.ensures.made tells s.shape.threshold empty
     (dense_can s z same c.args.node c.args.degree c.args.threshold c.args.label c.args.side row empty can thin) in
     c.open_group-2.ensures.not_damaged tells row empty
-        (dense_group_can s z same c.args.node c.args.degree c.args.threshold c.args.label c.args.side row empty can u
+    (dense_group_can s z same c.args.node c.args.degree c.args.threshold c.args.label c.args.side row empty can u
     becomes)
     (dense_group_room s z same c.args.node c.args.degree c.args.threshold c.args.label c.args.side row empty can u becomes room)
 

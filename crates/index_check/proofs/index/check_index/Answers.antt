@@ -150,7 +150,7 @@ pub returns-in_err-node-in-Nodes-clause-not_damaged : goal.returns-in_err-node-i
 returns-in_err-node-in-Nodes-clause-not_damaged g c tells readable =
     sound_exit c.from_residual-in_err-node-in-Nodes.result c.in_err-node-in-Nodes.field-0.0 c.from_residual-in_err-node-in-Nodes.ensures.1
     (c.in_err-node-in-Nodes.ensures.not_damaged tells (subst AreReadable (sym (c.in_ok-id.ensures.read.records
-        ∙ c.in_ok-entries.ensures.read.records)) readable))
+    ∙ c.in_ok-entries.ensures.read.records)) readable))
 
 pub returns-in_default-clause-cause : goal.returns-in_default-clause-cause
 returns-in_default-clause-cause g c = ok_cause _ _ _ _ c.in_ok-entries.ensures.cause.later

@@ -80,7 +80,7 @@ returns-in_err-value-clause-not_damaged g c = λ tells readable.
     let has = readable c.args.node (λ z. c.if-byte-eq-FREE.false (c.byte.ensures ∙ sym kind ∙ z)) in
     sound_exit c.from_residual-in_err-value.result c.in_err-value.field-0.0 c.from_residual-in_err-value.ensures.1
     (c.in_err-value.ensures.not_damaged tells has.0 (subst (λ (s : State). HasProperties s.records (node_owner c.args.node) has.0)
-        (sym c.in_ok-rec.ensures.state)
+    (sym c.in_ok-rec.ensures.state)
     has.1))
 
 pub returns-in_err-value-clause-cause : goal.returns-in_err-value-clause-cause

@@ -67,7 +67,7 @@ pub returns-in_err-more-clause-not_damaged : goal.returns-in_err-more-clause-not
 returns-in_err-more-clause-not_damaged g c tells wanted ix store =
     let was = c.loop-value.invariant.left tells wanted ix store in
     fault_exit (λ f. f) IsOutside c.in_err-more.field-0.0 c.from_residual.result c.from_residual.ensures.1
-        (c.in_err-more.ensures.not_damaged tells _ was.0 was.1)
+    (c.in_err-more.ensures.not_damaged tells _ was.0 was.1)
 
 pub returns-in_err-more-clause-found : goal.returns-in_err-more-clause-found
 returns-in_err-more-clause-found g c tells has =

@@ -307,7 +307,7 @@ returns-in_err-entries-clause-refused g c tells whole =
     fault_exit (λ f. f) (IsRefusal s.shape.limit (graph_in s) command) c.in_err-entries.field-0.0 c.from_residual-in_err-entries.result
     c.from_residual-in_err-entries.ensures.1
     (outside_refused change_reasons s.shape.limit (graph_in s) command c.in_err-entries.field-0.0 (c.in_err-entries.ensures.not_damaged tells
-        (wanted_in n.records)
+    (wanted_in n.records)
     (between g after tells whole) (keeps g after tells whole)))
 
 pub returns-in_err-entries-clause-found : goal.returns-in_err-entries-clause-found

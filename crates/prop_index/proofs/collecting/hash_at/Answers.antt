@@ -65,7 +65,7 @@ returns-then-is_labelled-clause-not_damaged g c tells low readable =
     c.args.node low) ∙ e) in
     let listed = readable.each c.args.node used in
     c.value_hash.ensures.not_damaged tells listed.properties (subst (λ (o : Owner). HasProperties
-        (g.R.Reads.state c.get_into.new.self).records o listed.properties)
+    (g.R.Reads.state c.get_into.new.self).records o listed.properties)
     (sym c.in_ok-owner.ensures.is)
     (subst (λ (r : Records). HasProperties r (node_owner c.args.node) listed.properties) (sym gone) listed.has))
 

@@ -16,7 +16,7 @@ pub returns-in_err-id-clause-refused : goal.returns-in_err-id-clause-refused
 returns-in_err-id-clause-refused g c tells keeps =
     let p = err_from_is_err_and c.from_residual.result c.from_residual.ensures.1 in
     rw (p.1, p.2) (cannot_take (g.S.Reads.state c.args.space.now) c.in_err-id.field-0.0 (c.in_err-id.ensures.refused tells)
-        (c.in_err-id.ensures.not_damaged tells)
+    (c.in_err-id.ensures.not_damaged tells)
     keeps)
 
 pub returns-clause-written : goal.returns-clause-written

@@ -44,7 +44,7 @@ pub returns-in_err-dropped-clause-alone_not_damaged : goal.returns-in_err-droppe
 returns-in_err-dropped-clause-alone_not_damaged g c tells es owns =
     let p = err_from_is_err_and c.from_residual-in_err-dropped.result c.from_residual-in_err-dropped.ensures.1 in
     rw (p.1, p.2) (c.in_err-dropped.ensures.not_damaged tells es (held g
-        (goal.at.returns-in_err-dropped-clause-alone_not_damaged g c).In_ok-first tells es owns))
+    (goal.at.returns-in_err-dropped-clause-alone_not_damaged g c).In_ok-first tells es owns))
 
 pub returns-in_err-dropped-clause-not_damaged : goal.returns-in_err-dropped-clause-not_damaged
 returns-in_err-dropped-clause-not_damaged g c tells has =

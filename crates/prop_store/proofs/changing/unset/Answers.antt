@@ -77,7 +77,7 @@ returns-in_err-released-in-Found-clause-alone_not_damaged g c tells es owns =
 pub returns-in_err-released-in-Found-clause-not_damaged : goal.returns-in_err-released-in-Found-clause-not_damaged
 returns-in_err-released-in-Found-clause-not_damaged g c tells has =
     returns-in_err-released-in-Found-clause-alone_not_damaged g c tells _ (owns_listed
-        (g.S.Reads.state c.args.space.now) c.args.owner c.requires.owner has.element)
+    (g.S.Reads.state c.args.space.now) c.args.owner c.requires.owner has.element)
 
 pub returns-in_ok-set_number-in-Found-clause-alone : goal.returns-in_ok-set_number-in-Found-clause-alone
 returns-in_ok-set_number-in-Found-clause-alone g c tells es owns =

@@ -18,7 +18,7 @@ returns-in_err-blocks-clause-not_damaged g c tells e held =
     let p = err_from_is_err_and c.from_residual.result c.from_residual.ensures.1 in
     let s = g.S.Reads.state c.args.space.now in
     rw (p.1, p.2) (c.in_err-blocks.ensures.not_damaged tells e.value e.blocks held.value
-        (blocks_given_out s.records s.shape _ e.blocks held.strings held.value.are))
+    (blocks_given_out s.records s.shape _ e.blocks held.strings held.value.are))
 
 pub returns-in_err-release-clause-not_damaged : goal.returns-in_err-release-clause-not_damaged
 returns-in_err-release-clause-not_damaged g c tells e held = space_exit c.from_residual-in_err-release.result c.in_err-release.field-0.0

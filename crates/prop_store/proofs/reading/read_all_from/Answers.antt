@@ -74,7 +74,7 @@ returns-in_err-value-clause-not_damaged g c tells es has =
     ∙ ap (rec_at old.records properties_file) here.at_is in
     let value = has_value old.records then.records here.property (first_property here.later) c.property_at.new.row.rec same_then here.is rec_is in
     rw (p.1, p.2) (c.in_err-value.ensures.not_damaged tells here.property.value here.property.blocks value
-        (blocks_given old.records then.records c.args.owner es
+    (blocks_given old.records then.records c.args.owner es
     here.passed here.property here.later same_then has here.all here.is.blocks))
 
 pub returns-in_err-value-clause-at_most : goal.returns-in_err-value-clause-at_most

@@ -31,7 +31,7 @@ returns-in_err-value-in-Found-clause-not_damaged g c tells es has =
     let same = reads_records 32 old now c.in_ok-find_from.ensures.at_most in
     let value = has_value old.records now.records f.property (first_property f.after) c.find_from.new.row.rec same f.is f.rec_is in
     rw (p.1, p.2) (c.in_err-value-in-Found.ensures.not_damaged tells f.property.value f.property.blocks value
-        (blocks_given old.records now.records c.args.owner es
+    (blocks_given old.records now.records c.args.owner es
     f.before f.property f.after same has f.all f.is.blocks))
 
 pub returns-in_err-value-in-Found-clause-at_most : goal.returns-in_err-value-in-Found-clause-at_most

@@ -12,7 +12,7 @@ returns-clause-found g c = λ tells store.
     ok-then c.expand.result
     (λ (rows : Vec EdgeRow Global) found.
     items-expansion s.records s.shape c.args.context.names.now.names store c.number_of-number.result c.args.label.now
-        (c.number_of-number.ensures s.records s.shape store)
+    (c.number_of-number.ensures s.records s.shape store)
     c.args.direction c.args.id rows.items (found store.store))
     (c.expand.ensures.rows tells)
 

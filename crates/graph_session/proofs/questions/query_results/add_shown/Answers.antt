@@ -6,7 +6,7 @@ use Rattle.plain_graph.specs.declared.element_map.ElementMap.{ElementMap}
 use Rattle.prop_store.specs.Reading.{ReadsAtMost}
 use Rattle.prop_store.proofs.ReadCounts.{reads_none}
 use Rattle.store_rules.specs.Graph.{graph_of}
-use Rattle.graph_session.specs.QueryResults.{AddsShown, reads_to_show}
+use Rattle.graph_session.specs.QueryResults.{AddsShown, map_reads, reads_to_show}
 use Rattle.graph_session.proofs.questions.query_results.add_shown.Goals as goal
 
 pub returns-in_default-clause-added : goal.returns-in_default-clause-added
@@ -19,6 +19,11 @@ pub returns-in_default-clause-cost : goal.returns-in_default-clause-cost
 returns-in_default-clause-cost g c = λ told store.
     let s = g.R.Reads.state c.args.space.now in
     subst (λ (maps : Option (List (List ℕ))). ReadsAtMost (reads_to_show (graph_of s.records) maps c.args.item.now) s s) (sym c.in_default.is) (reads_none 0 s)
+
+pub returns-in_default-clause-at_most : goal.returns-in_default-clause-at_most
+returns-in_default-clause-at_most g c =
+    let s = g.R.Reads.state c.args.space.now in
+    subst (λ (maps : Option (List (List ℕ))). ReadsAtMost (map_reads maps) s s) (sym c.in_default.is) (reads_none 0 s)
 
 pub returns-in_err-map-clause-stopped : goal.returns-in_err-map-clause-stopped
 returns-in_err-map-clause-stopped g c =
@@ -53,3 +58,18 @@ returns-in_err-line-clause-unread g c =
 pub returns-clause-unread : goal.returns-clause-unread
 returns-clause-unread g c =
     λ none. absurd (let e = sym none ∙ c.in-Some.is in cc)
+
+pub returns-in_err-map-clause-at_most : goal.returns-in_err-map-clause-at_most
+returns-in_err-map-clause-at_most g c =
+    subst (λ (maps : Option (List (List ℕ))). ReadsAtMost (map_reads maps) (g.R.Reads.state c.args.space.now) (g.R.Reads.state c.read_map.new.space))
+    (sym c.in-Some.is) c.read_map.ensures.at_most
+
+pub returns-in_err-line-clause-at_most : goal.returns-in_err-line-clause-at_most
+returns-in_err-line-clause-at_most g c =
+    subst (λ (maps : Option (List (List ℕ))). ReadsAtMost (map_reads maps) (g.R.Reads.state c.args.space.now) (g.R.Reads.state c.read_map.new.space))
+    (sym c.in-Some.is) c.read_map.ensures.at_most
+
+pub returns-clause-at_most : goal.returns-clause-at_most
+returns-clause-at_most g c =
+    subst (λ (maps : Option (List (List ℕ))). ReadsAtMost (map_reads maps) (g.R.Reads.state c.args.space.now) (g.R.Reads.state c.read_map.new.space))
+    (sym c.in-Some.is) c.read_map.ensures.at_most

@@ -8,6 +8,7 @@ use Rattle.traversal_run.specs.declared.run.Next.TheVariants as nexts
 use Rattle.graph_session.specs.declared.reply_lines.ReplyLines.{ReplyLines}
 use Rattle.graph_session.proofs.HopQueries.{goes-first, goes-on, line-ends, line-next, line-shown, line-unread}
 use Rattle.graph_session.proofs.IndexQuestions.{asks-unfound}
+use Rattle.graph_session.proofs.QueryReads.{owes-end, owes-first, owes-none, owes-shown, owes-shown-end, owes-stop}
 use Rattle.graph_session.proofs.Reasons.{index-there}
 use Rattle.graph_session.proofs.Running.{is_read-none, running-end, running-fault, running-first, running-on}
 use Rattle.graph_session.proofs.Running.{running-stop, running-stopped, running-unshown, shows-past}
@@ -25,6 +26,8 @@ loop-init g c =
       hop = goes-first g.R.Reads c.args.context.names.now.names query c.args.space.now c.new.new.space _
           (λ id hop is. met.no_read (ap index_of_source is.source))
           met.hop;
+      owes = owes-first g.R.Reads c.args.context.names.now.names query c.args.space.now c.new.new.space _ (λ told store. met.cost told store)
+          (λ told store. met.found told store) (λ told store. met.owes told store);
     }
 
 pub returns-in-Err-clause-gives : goal.returns-in-Err-clause-gives
@@ -46,6 +49,9 @@ loop-preserved g c =
       hop = goes-on g.R.Reads c.args.context.names.now.names c.args.query.now c.args.space.now c.loop.space c.next.new.space c.loop.run c.next.new.self
           (nexts.Item c.in-Item.item) c.loop.invariant.hop c.in-Item.ensures.hop c.in-Item.ensures.ready
           c.add_shown.new.space (λ none. c.add_shown.ensures.unread none) (λ ready. ready);
+      owes = owes-shown g.R.Reads c.args.context.names.now.names c.args.query.now c.args.space.now c.loop.space c.next.new.space c.loop.run c.next.new.self
+          c.loop.invariant.running.read.same c.loop.invariant.owes (λ told store. c.next.ensures.owes told store)
+          c.in-Item.item (λ told store. c.in-Item.ensures.item told store) c.add_shown.new.space c.add_shown.ensures.at_most;
     }
 
 pub returns-in_default-clause-gives : goal.returns-in_default-clause-gives
@@ -138,6 +144,51 @@ returns-in-Err-add_shown-clause-cost g c =
 pub returns-clause-cost : goal.returns-clause-cost
 returns-clause-cost g c =
     line-ends g.R.Reads c.args.context.names.now.names c.args.query.now c.args.space.now c.loop.space c.loop.run c.loop.invariant.hop
+
+pub returns-in-Err-clause-at_most : goal.returns-in-Err-clause-at_most
+returns-in-Err-clause-at_most g c =
+    owes-none g.R.Reads c.args.context.names.now.names c.args.query.now c.args.space.now c.new.new.space (λ told store. c.in-Err.ensures.cost told store)
+
+pub returns-in-End-clause-at_most : goal.returns-in-End-clause-at_most
+returns-in-End-clause-at_most g c =
+    owes-stop g.R.Reads c.args.context.names.now.names c.args.query.now c.args.space.now c.loop.space c.next.new.space c.loop.run c.next.new.self
+    c.loop.invariant.running.read.same c.loop.invariant.owes (λ told store. c.next.ensures.owes told store)
+
+pub returns-in-Memory-clause-at_most : goal.returns-in-Memory-clause-at_most
+returns-in-Memory-clause-at_most g c =
+    owes-stop g.R.Reads c.args.context.names.now.names c.args.query.now c.args.space.now c.loop.space c.next.new.space c.loop.run c.next.new.self
+    c.loop.invariant.running.read.same c.loop.invariant.owes (λ told store. c.next.ensures.owes told store)
+
+pub returns-in-Disk-clause-at_most : goal.returns-in-Disk-clause-at_most
+returns-in-Disk-clause-at_most g c =
+    owes-stop g.R.Reads c.args.context.names.now.names c.args.query.now c.args.space.now c.loop.space c.next.new.space c.loop.run c.next.new.self
+    c.loop.invariant.running.read.same c.loop.invariant.owes (λ told store. c.next.ensures.owes told store)
+
+pub returns-in-Damaged-clause-at_most : goal.returns-in-Damaged-clause-at_most
+returns-in-Damaged-clause-at_most g c =
+    owes-stop g.R.Reads c.args.context.names.now.names c.args.query.now c.args.space.now c.loop.space c.next.new.space c.loop.run c.next.new.self
+    c.loop.invariant.running.read.same c.loop.invariant.owes (λ told store. c.next.ensures.owes told store)
+
+pub returns-in-PastCount-clause-at_most : goal.returns-in-PastCount-clause-at_most
+returns-in-PastCount-clause-at_most g c =
+    owes-stop g.R.Reads c.args.context.names.now.names c.args.query.now c.args.space.now c.loop.space c.next.new.space c.loop.run c.next.new.self
+    c.loop.invariant.running.read.same c.loop.invariant.owes (λ told store. c.next.ensures.owes told store)
+
+pub returns-in_default-clause-at_most : goal.returns-in_default-clause-at_most
+returns-in_default-clause-at_most g c =
+    owes-shown-end g.R.Reads c.args.context.names.now.names c.args.query.now c.args.space.now c.loop.space c.next.new.space c.loop.run c.next.new.self
+    c.loop.invariant.running.read.same c.loop.invariant.owes (λ told store. c.next.ensures.owes told store)
+    c.in-Item.item (λ told store. c.in-Item.ensures.item told store) c.add_shown.new.space c.add_shown.ensures.at_most
+
+pub returns-in-Err-add_shown-clause-at_most : goal.returns-in-Err-add_shown-clause-at_most
+returns-in-Err-add_shown-clause-at_most g c =
+    owes-shown-end g.R.Reads c.args.context.names.now.names c.args.query.now c.args.space.now c.loop.space c.next.new.space c.loop.run c.next.new.self
+    c.loop.invariant.running.read.same c.loop.invariant.owes (λ told store. c.next.ensures.owes told store)
+    c.in-Item.item (λ told store. c.in-Item.ensures.item told store) c.add_shown.new.space c.add_shown.ensures.at_most
+
+pub returns-clause-at_most : goal.returns-clause-at_most
+returns-clause-at_most g c =
+    owes-end g.R.Reads c.args.context.names.now.names c.args.query.now c.args.space.now c.loop.space _ c.loop.invariant.owes.within
 
 pub returns-in_default-clause-same_sink : goal.returns-in_default-clause-same_sink
 returns-in_default-clause-same_sink g c = c.in-Ok-add_shown.ensures.added.adds.same_sink ∙ c.loop.invariant.running.has.same_sink

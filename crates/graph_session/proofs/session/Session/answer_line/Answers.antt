@@ -51,7 +51,7 @@ returns-in-Ok-clause-no_draft g c = λ none.
 pub returns-in-Ok-clause-careful : goal.returns-in-Ok-clause-careful
 returns-in-Ok-clause-careful g c = λ spells.
     let only : IfOk c.parse_line-session.result.command (λ command. (other : Command) → Spells c.args.line.now other
-        → other ≡ command) = c.parse_line-session.ensures.only in
+    → other ≡ command) = c.parse_line-session.ensures.only in
     c.answer.ensures.careful (sym ((rw c.in-Ok.is at only) commands.Reopen spells))
 
 pub returns-in-Err-clause-answers : goal.returns-in-Err-clause-answers
@@ -62,7 +62,7 @@ returns-in-Err-clause-answers g c =
     (subst (λ (prefix : List ℕ). Gives g.K.Sink (marked_text prefix (reply_of (told_of c.in-Err.fault))) c.args.output.now c.give_reply.new.output
     c.give_reply.result)
     (prefixed c.args.line.now c.parse_line-session.ensures.session c.mark_of-prefix.ensures c.as_bytes-in-Err.ensures)
-        (rw c.from.ensures at c.give_reply.ensures)))
+    (rw c.from.ensures at c.give_reply.ensures)))
 
 pub returns-in-Err-clause-careful : goal.returns-in-Err-clause-careful
 returns-in-Err-clause-careful g c = λ spells. absurd (spells-none c.args.line.now c.in-Err.fault (rw c.in-Err.is at c.parse_line-session.ensures.none)

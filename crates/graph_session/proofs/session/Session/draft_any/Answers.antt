@@ -125,7 +125,7 @@ returns-in-Node-clause-found g c =
     rw (c.in-Node.is, c.drafted_node.ensures)
     (found-call (commands.Node c.in-Node.label.now c.in-Node.pairs.now) c.args.self.now tt (λ (added : Added). answers.NodeMade added.id)
     (λ (added : Added). added.weight) (BlamesEntries s t) c.add_node.result (λ told. c.add_node.ensures.damaged told)
-    (λ fault at_once. entries-aside s t fault) s t _ _ (λ told. c.add_node.ensures.caused told))
+    (λ fault at_once. entries-aside s t fault) s t c.args.self.now.names.names c.add_node.new.names.names (λ told. c.add_node.ensures.caused told))
 
 pub returns-in-Edge-clause-found : goal.returns-in-Edge-clause-found
 returns-in-Edge-clause-found g c =
@@ -149,7 +149,7 @@ returns-in-Unset-clause-found g c =
     rw (c.in-Unset.is, c.drafted_done-in-Unset.ensures)
     (found-call (commands.Unset c.in-Unset.target c.in-Unset.key.now) c.args.self.now tt (λ (weight : ℕ). answers.Done) (λ (weight : ℕ). weight)
     (BlamesEntries s t) c.unset.result (λ told. c.unset.ensures.damaged told) (λ fault at_once. entries-aside s t fault)
-    s t _ _ (λ told. c.unset.ensures.caused told))
+    s t c.args.self.now.names.names c.args.self.now.names.names (λ told. c.unset.ensures.caused told))
 
 pub returns-in-Delete-clause-found : goal.returns-in-Delete-clause-found
 returns-in-Delete-clause-found g c = rw c.in-Delete.is c.draft_deletion.ensures.found
