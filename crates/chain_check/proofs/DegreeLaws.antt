@@ -6,11 +6,12 @@ use Rattle.rec_bytes.specs.Format as format
 use Rattle.rec_bytes.specs.Record.{field}
 use Rattle.store_rules.specs.Rows.{ids}
 use Rattle.store_rules.specs.Rules as rules
-use Rattle.store_rules.specs.Views.{Records, degree, high, kind_at, rec_at, rel_at, rel_in}
+use Rattle.store_rules.specs.Views.{Records, high, rec_at, rel_at, rel_in}
 use Rattle.store_rules.specs.Breaking.{DegreeKeeps}
 use Rattle.chain_check.specs.NodeChains.{enters, is_of_node, leaves}
 use Rattle.record_lists.proofs.CountLaws.{count_more, count_same}
 use Rattle.record_lists.proofs.RecordLaws.{kind_read}
+use Rattle.store_rules.specs.Rules.{KeepsDegrees}
 
 -- a record below the mark stands at a node where it says so
 stands_read : (records : Records) (x n : ℕ) (r : Rec) → x < high records format.relationships_file → r ≡ rec_at records format.relationships_file x
@@ -40,7 +41,7 @@ degree_more records x y n r lt e next =
 
 -- where each node keeps the rule the store does
 pub are_counted : (records : Records) (threshold : ℕ) → ((n : ℕ) → DegreeKeeps records threshold n)
-    → rules.AreCounted (kind_at records format.nodes_file) (degree records) (rel_at records) (high records format.relationships_file) threshold
+    → KeepsDegrees records threshold
 are_counted records threshold each = record {
   each = λ n live. let k = each n in k.exact live;
   few = λ n is. let k = each n in k.few is;

@@ -6,8 +6,8 @@ use Rattle.rec_bytes.specs.Format as format
 use Rattle.rec_bytes.specs.Record.{field}
 use Rattle.store_rules.specs.Chains.{In, place_of}
 use Rattle.store_rules.specs.Ends.{group_of_head}
-use Rattle.store_rules.specs.Rules.{GroupHead, Head, IsEnd, IsGrouped, IsInGroup, IsOn, Owns, SparseHead}
-use Rattle.store_rules.specs.Views.{GroupRow, Records, RelRow, first_link, group_at, key_in, kind_at, rec_at, rel_at, rel_in}
+use Rattle.store_rules.specs.Rules.{GroupHead, Head, IsEnd, IsInGroup, IsOn, KeepsGroups, Owns, SparseHead}
+use Rattle.store_rules.specs.Views.{GroupRow, Records, RelRow, group_at, key_in, kind_at, rec_at, rel_at, rel_in}
 use Rattle.store_rules.proofs.GroupLaws.{same_group}
 use Rattle.store_rules.proofs.NumberLaws.{eq_false, eq_true, nat_cases}
 use Rattle.store_rules.proofs.OneHead.{end_on, only_head}
@@ -94,7 +94,7 @@ module _ (kind : ℕ → ℕ) (groups : ℕ → Option GroupRow) where
           let key : h.key ≡ key_in format.groups_file g = ap (λ f. record { file = f; id = h.key.id }) e ∙ ap (key_in format.groups_file) (sym same) in
           (h.field, ⊎_elim (λ k. absurd (let f = k.0 in omega arith)) (λ k. subst (λ z. IsInGroup groups (record { key = z; field = h.field }) row) key k.1) on)
 
-module _ (s : Records) (empty : List ℕ) (grouped : IsGrouped (kind_at s format.nodes_file) (first_link s) (rec_at s format.groups_file) (group_at s) empty)
+module _ (s : Records) (empty : List ℕ) (grouped : KeepsGroups s empty)
   where
     abbrev Own : Head → ℕ → Type 0
     Own = Owns (kind_at s format.nodes_file) (group_at s)

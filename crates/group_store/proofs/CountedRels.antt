@@ -7,7 +7,7 @@ use Rattle.rec_bytes.specs.declared.record.Rec.{Rec}
 use Rattle.rec_bytes.specs.Format as format
 use Rattle.rec_bytes.specs.Record.{field}
 use Rattle.store_rules.specs.Chains.{In}
-use Rattle.store_rules.specs.Rules.{AreExact, HasCounts, IsEnd, count_of, is_into, is_loop_of, is_out_of, passes}
+use Rattle.store_rules.specs.Rules.{HasCounts, IsEnd, KeepsCounts, count_of, is_into, is_loop_of, is_out_of, passes}
 use Rattle.store_rules.specs.Views.{GroupRow, Records, RelRow, group_at, high, kind_at, rec_at, rel_at}
 use Rattle.store_rules.proofs.Counts.{ids_none}
 use Rattle.store_rules.proofs.NumberLaws.{eq_false, eq_true, nat_cases}
@@ -29,13 +29,11 @@ all_counted node owner rels = by (nat_eq owner node)
     by true = λ i x. rels x
     by false = refl
 
-pub exact_all : (s : Records) (node : ℕ) → AreExactBut s node [] → AreExact (kind_at s format.groups_file) (rec_at s format.groups_file) (group_at s) (rel_at s)
-    (high s format.relationships_file)
+pub exact_all : (s : Records) (node : ℕ) → AreExactBut s node [] → KeepsCounts s
 exact_all s node old g row is kind = subst (λ (rels : ℕ → Option RelRow). HasCounts (rec_at s format.groups_file g) row rels (high s format.relationships_file))
     (all_counted node row.owner (rel_at s)) (old g row is kind)
 
-pub all_exact : (s : Records) (node : ℕ) → AreExact (kind_at s format.groups_file) (rec_at s format.groups_file) (group_at s) (rel_at s)
-    (high s format.relationships_file) → AreExactBut s node []
+pub all_exact : (s : Records) (node : ℕ) → KeepsCounts s → AreExactBut s node []
 all_exact s node old g row is kind = subst (λ (rels : ℕ → Option RelRow). HasCounts (rec_at s format.groups_file g) row rels (high s format.relationships_file))
     (sym (all_counted node row.owner (rel_at s))) (old g row is kind)
 

@@ -13,10 +13,10 @@ use Rattle.rec_bytes.specs.Space.{State, after_get, after_set}
 use Rattle.rec_bytes.proofs.Spaces.{put_other}
 use Rattle.store_rules.specs.Chains.{In, IsChain, next_in, prev_in, without}
 use Rattle.store_rules.specs.Ends.{Regroups}
-use Rattle.store_rules.specs.Rules.{AreExact, HasGroup, HasGroups, Head, IsEnd, IsGrouped, IsInGroup, IsLinked}
-use Rattle.store_rules.specs.Rules.{IsListed, IsSplit, KeepsRules, Owns, StandsAt, first_of, is_filled}
-use Rattle.store_rules.specs.Views.{GroupRow, RelRow, first_link, group_at, group_in, high, is_live, key_in, kind_at}
-use Rattle.store_rules.specs.Views.{kind_in, rec_at, rel_at, row_if, is_group_kind}
+use Rattle.store_rules.specs.Rules.{HasGroup, HasGroups, Head, IsEnd, IsInGroup, IsLinked, IsListed, IsSplit, KeepsCounts, KeepsGroups, KeepsRules, Owns}
+use Rattle.store_rules.specs.Rules.{StandsAt, first_of, is_filled}
+use Rattle.store_rules.specs.Views.{GroupRow, RelRow, first_link, group_at, group_in, high, is_group_kind, is_live, key_in, kind_at, kind_in, rec_at, rel_at}
+use Rattle.store_rules.specs.Views.{row_if}
 use Rattle.store_rules.proofs.Changes as ch
 use Rattle.store_rules.proofs.Frames.{kind_same}
 use Rattle.store_rules.proofs.GroupLaws.{IsFirstPlace}
@@ -363,7 +363,7 @@ module _ (s : State) (node g most : ℕ) (empty : List ℕ) (well : KeepsRules s
       → In h old.members → (is_filled (rec_at t.records format.groups_file h) ≡ true) ⊎ In h empty
   still n h old ne i = ⊎_elim (λ f. inl (filled_stays h ne ∙ f)) (λ j. ⊎_elim (λ e. absurd (ne e)) (λ k. inr k) j) (old.filled h i)
 
-  grouped_now : IsGrouped (kind_at t.records format.nodes_file) (first_link t.records) (rec_at t.records format.groups_file) (group_at t.records) empty
+  grouped_now : KeepsGroups t.records empty
   unfolding xs
   grouped_now = record {
     owned = λ h q e. fr.dense_same s.records t.records node stepped.frame q.owner (well.grouped.owned h q (sym (group_stays_at h (not_g h q e)) ∙ e));
@@ -382,8 +382,7 @@ module _ (s : State) (node g most : ℕ) (empty : List ℕ) (well : KeepsRules s
       none_left : (h : ℕ) → IsGroupOf t.records node h → h ≢ g
       none_left h is e = group_used (kind_at t.records format.groups_file h) is.kind (ap (kind_at t.records format.groups_file) e ∙ has.gone)
 
-  exact_now : AreExact (kind_at t.records format.groups_file) (rec_at t.records format.groups_file) (group_at t.records) (rel_at t.records)
-      (high t.records format.relationships_file)
+  exact_now : KeepsCounts t.records
   exact_now h q is kind = let ne = not_g h q is in
       counts_by (rec_at s.records format.groups_file h) (rec_at t.records format.groups_file h) q (rel_at s.records) (rel_at t.records)
       (high s.records format.relationships_file) (high t.records format.relationships_file)

@@ -8,7 +8,7 @@ use Rattle.rec_bytes.specs.Record.{field}
 use Rattle.rec_bytes.specs.Space.{meta_in, put}
 use Rattle.rec_bytes.proofs.Spaces.{put_other, put_other_file, put_same}
 use Rattle.store_rules.specs.Ranges.{Fits}
-use Rattle.store_rules.specs.Rules.{Head, IsGrouped, IsSplit, Owns, first_of, is_filled, next_free}
+use Rattle.store_rules.specs.Rules.{Head, IsGrouped, IsSplit, KeepsGroups, Owns, first_of, is_filled, next_free}
 use Rattle.store_rules.specs.Views.{GroupRow, Records, first_link, group_at, high, is_group_kind, is_live, key_in, kind_at, kind_in, rec_at, rel_at, row_if}
 use Rattle.store_rules.proofs.ChainLaws.{chain_stays, walk_stays}
 use Rattle.store_rules.proofs.GroupLaws.{IsFirstPlace}
@@ -134,7 +134,7 @@ module _ (s : Records) (shape : Shape) (node g : ℕ) (rec : Rec) (used : is_gro
       };
     }
 
-    grouped : (empty : List ℕ) → IsGrouped (kind_at s format.nodes_file) (first_link s) (rec_at s format.groups_file) (group_at s) empty
+    grouped : (empty : List ℕ) → KeepsGroups s empty
         → IsGrouped (kind_at s format.nodes_file) (first_link s) (rec_at t format.groups_file) (group_at s) empty
     grouped empty old = record {
       owned = old.owned;

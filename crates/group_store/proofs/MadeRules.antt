@@ -24,7 +24,7 @@ use Rattle.rec_bytes.proofs.Tables.{field-with_fields_other}
 use Rattle.rel_store.proofs.RelRecords.{byte-zeros}
 use Rattle.store_rules.specs.Chains.{In, IsChain, next_in, prev_in}
 use Rattle.store_rules.specs.Ranges.{Fits, bytes_of, is_in, layout_by, may, must}
-use Rattle.store_rules.specs.Rules.{HasCounts, HasGroups, Head, IsEnd, IsGrouped, IsInGroup, IsListed, Owns, first_of, is_filled}
+use Rattle.store_rules.specs.Rules.{HasCounts, HasGroups, Head, IsEnd, IsInGroup, IsListed, KeepsGroups, Owns, first_of, is_filled}
 use Rattle.store_rules.specs.Views as views
 use Rattle.store_rules.specs.Views.{Records, RelRow, first_link, group_at, group_in, high, is_group_kind, key_in, kind_at, kind_in, rec_at, rel_at, row_if}
 use Rattle.store_rules.proofs.ChainLaws.{chain_stays, walk_of_chain}
@@ -412,7 +412,7 @@ module _ (s u : State) (node label id : ℕ) (rest : List ℕ) (most : ℕ) (emp
       let c = number g 4 28 (omega arith) ne (λ _. inr (omega arith)) in
       λ i. not (nat_eq (a i) format.nil && (nat_eq (b i) format.nil && nat_eq (c i) format.nil))
 
-  grouped_now : IsGrouped (kind_at now.records format.nodes_file) (first_link now.records) (rec_at now.records format.groups_file) (group_at now.records)
+  grouped_now : KeepsGroups now.records
       (id ∷ empty)
   grouped_now = record {
     owned = λ g q e. ⊎_elim

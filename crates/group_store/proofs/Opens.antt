@@ -8,7 +8,7 @@ use Rattle.rec_bytes.specs.RecordFiles.{room_of}
 use Rattle.rec_bytes.specs.Space.{SameButReads, State, meta_of}
 use Rattle.store_rules.specs.Breaking.{IsOnChain}
 use Rattle.store_rules.specs.Ends.{IsEndHead, Regroups}
-use Rattle.store_rules.specs.Rules.{AreExact, Head, IsOn, KeepsRules, Owns, node_head}
+use Rattle.store_rules.specs.Rules.{Head, IsOn, KeepsCounts, KeepsRules, Owns, node_head}
 use Rattle.store_rules.specs.Views.{GroupRow, Records, RelRow, first_link, group_at, group_in, high, kind_at, rec_at, rel_at}
 use Rattle.store_rules.specs.Writes.{WritesBeside}
 use Rattle.store_rules.proofs.ChainLaws.{walk_of_chain}
@@ -55,7 +55,7 @@ all_but s shape node most empty well = record {
 }
 
 pub but_all : (s : Records) (shape : Shape) (node most : ℕ) (empty : List ℕ) → KeepsBut s shape node [] most empty
-    → AreExact (kind_at s format.groups_file) (rec_at s format.groups_file) (group_at s) (rel_at s) (high s format.relationships_file)
+    → KeepsCounts s
     → KeepsRules s shape most empty
 but_all s shape node most empty well exact = record {
   ranges = well.others.ranges;

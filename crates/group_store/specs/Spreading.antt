@@ -22,13 +22,12 @@ use Rattle.store_rules.specs.Breaking.{IsHeadChain}
 use Rattle.store_rules.specs.Chains.{In, IsWalk}
 use Rattle.store_rules.specs.Ends.{Regroups}
 use Rattle.store_rules.specs.Ranges.{AreInRange, is_reused}
-use Rattle.store_rules.specs.Rules.{AllListed, AreAllLive, AreCounted, AreDefined, AreNamed}
-use Rattle.store_rules.specs.Rules.{AreNames, HasEnds}
-use Rattle.store_rules.specs.Rules.{HasGroup, HaveProperties, Head, IsEnd, IsGrouped}
-use Rattle.store_rules.specs.Rules.{HasCounts, IsSplit, Owns, StandsAt, first_of}
-use Rattle.store_rules.specs.Rules.{property_files}
-use Rattle.store_rules.specs.Views.{GroupRow, Records, RelRow, degree, first_link, group_at, high}
-use Rattle.store_rules.specs.Views.{is_live, kind_at, node_at, rec_at, rel_at}
+use Rattle.store_rules.specs.Rules.{AllListed, AreAllLive, HasCounts, HasEnds, HasGroup, Head}
+use Rattle.store_rules.specs.Rules.{IsEnd, IsSplit, KeepsDefinitions, KeepsDegrees, KeepsGroups}
+use Rattle.store_rules.specs.Rules.{KeepsLabels, KeepsNames, KeepsProperties, Owns, StandsAt}
+use Rattle.store_rules.specs.Rules.{first_of}
+use Rattle.store_rules.specs.Views.{GroupRow, Records, RelRow, first_link, group_at, high, is_live}
+use Rattle.store_rules.specs.Views.{kind_at, rec_at, rel_at}
 
 -- ---- the rules, but that some relationships are in none of the node's groups
 
@@ -39,14 +38,11 @@ pub record KeepsOthers (records : Records) (shape : Shape) (most : ℕ) : Type 0
       → (free : List ℕ) × IsSplit records file (is_live records file) free
   pub kept : (file : ℕ) → is_meta_file file ≡ true → is_reused file ≡ false
       → AreAllLive records file
-  pub properties : HaveProperties (property_files records) (node_at records) (rel_at records)
-      (high records format.names_file)
-  pub named : AreNamed (node_at records) (rel_at records) (high records format.names_file)
-  pub defined : AreDefined (kind_at records format.index_file)
-      (rec_at records format.index_file) (high records format.names_file)
-  pub names : AreNames (rec_at records format.names_file) (high records format.names_file)
-  pub degrees : AreCounted (kind_at records format.nodes_file) (degree records) (rel_at records)
-      (high records format.relationships_file) most
+  pub properties : KeepsProperties records
+  pub named : KeepsLabels records
+  pub defined : KeepsDefinitions records
+  pub names : KeepsNames records
+  pub degrees : KeepsDegrees records most
 
 -- the head is that of a chain of one of the node's groups
 pub record IsHeadOf (groups : ℕ → Option GroupRow) (node : ℕ) (h : Head) : Type 0 where
@@ -76,8 +72,7 @@ pub record KeepsBut (records : Records) (shape : Shape) (node : ℕ) (rest : Lis
   pub others : KeepsOthers records shape most
   pub linked : IsLinkedBut records (kind_at records format.nodes_file) (rel_at records)
       (group_at records) node rest
-  pub grouped : IsGrouped (kind_at records format.nodes_file) (first_link records)
-      (rec_at records format.groups_file) (group_at records) empty
+  pub grouped : KeepsGroups records empty
 
 -- ---- the numbers of counted groups
 

@@ -4,11 +4,11 @@ use Rattle.rec_bytes.specs.declared.record.Rec.{Rec}
 use Rattle.rec_bytes.specs.Format as format
 use Rattle.rec_bytes.specs.Record.{field}
 use Rattle.store_rules.specs.Breaking.{DefinitionKeeps}
-use Rattle.store_rules.specs.Rules as rules
 use Rattle.store_rules.specs.Views.{Records, high, kind_at, rec_at}
 use Rattle.store_rules.proofs.ViewLaws.{kind_below}
 use Rattle.record_lists.proofs.RecordLaws.{kind_read}
 use Rattle.store_check.specs.Holding.{AreDefinitionsRight}
+use Rattle.store_rules.specs.Rules.{KeepsDefinitions}
 
 module _ (records : Records) where
   definition_low : (d : ℕ) → kind_at records format.index_file d ≡ format.definition → d < high records format.index_file
@@ -16,8 +16,7 @@ module _ (records : Records) where
       (λ z. let one : 1 ≡ 0 = sym kind ∙ z in omega arith)
 
   -- where each definition keeps the rule, the store does
-  pub are_defined : AreDefinitionsRight records → rules.AreDefined (kind_at records format.index_file) (rec_at records format.index_file)
-      (high records format.names_file)
+  pub are_defined : AreDefinitionsRight records → KeepsDefinitions records
   are_defined right = record {
     labels = λ d kind. (right.keeps d (definition_low d kind)).label kind;
     keys = λ d kind. (right.keeps d (definition_low d kind)).key kind;

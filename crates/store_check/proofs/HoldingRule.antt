@@ -13,6 +13,7 @@ use Rattle.store_rules.proofs.ElementOwners.{owns_is}
 use Rattle.store_rules.proofs.PropertyHolds.{blocks_one, owns_text, text_of, text_owner}
 use Rattle.record_lists.proofs.LiveLaws.{live_below}
 use Rattle.store_check.proofs.PropertyLaws.{properties_one}
+use Rattle.store_rules.specs.Rules.{KeepsLabels}
 
 -- lists of owners, from what each has
 module _ (owner : ℕ → ℕ → Option ℕ) (Is : ℕ → ℕ → ℕ → List ℕ → Type 0) (keeps : (file x first : ℕ) → owner file x ≡ Some first → (xs : List ℕ) × Is file x first
@@ -75,7 +76,7 @@ module _ (records : Records) where
       distinct = λ file x first p q own i j e. (list file x first own).distinct p q i j e;
     }
 
-    pub are_named : rules.AreNamed (node_at records) (rel_at records) (high records format.names_file)
+    pub are_named : KeepsLabels records
     are_named = record {
       nodes_named = λ x row live.
           let r = some_row (kind_at records 1 x) (node_in (rec_at records 1 x) x) row live in

@@ -10,8 +10,8 @@ use Rattle.store_rules.specs.Breaking.Breaks.{OwnRecord, OwnerGroups, RecordRang
 use Rattle.store_rules.specs.Breaking.Breaks.{WrongDegree, WrongElement, WrongHolding, WrongMeta, WrongName, WrongText}
 use Rattle.store_rules.specs.Indexes.{IsIndexed}
 use Rattle.store_rules.specs.Rules as rules
-use Rattle.store_rules.specs.Rules.{IsWellFormed}
-use Rattle.store_rules.specs.Views.{Records, high, is_live, rec_at}
+use Rattle.store_rules.specs.Rules.{IsWellFormed, KeepsNames}
+use Rattle.store_rules.specs.Views.{Records, high, is_live}
 use Rattle.store_rules.proofs.ChainRules.{chained_of}
 use Rattle.store_rules.proofs.ElementOwners.{label_kept}
 use Rattle.store_rules.proofs.GroupOwners.{member_keeps, owner_keeps}
@@ -20,7 +20,7 @@ use Rattle.store_rules.proofs.MetaRights.{metas_right}
 use Rattle.store_rules.proofs.PropertyHolds.{block_kept, element_list, held_kept, text_kept}
 
 -- where the store keeps the rule each name does
-name_keeps : (records : Records) → rules.AreNames (rec_at records format.names_file) (high records format.names_file) → (x : ℕ)
+name_keeps : (records : Records) → KeepsNames records → (x : ℕ)
     → x < high records format.names_file → NameKeeps records x
 name_keeps records h x lt = record { form = h.form x lt; alone = λ y low e. h.distinct y x low lt e }
 

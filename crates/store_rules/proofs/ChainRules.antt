@@ -9,8 +9,8 @@ use Rattle.store_rules.specs.Breaking.{IsHeadOf, IsInChain, IsOnChain, IsOwnedBy
 use Rattle.store_rules.specs.Breaking.IsOnChain.{First, Next}
 use Rattle.store_rules.specs.Chains.{In, IsChain, IsWalk, next_in, prev_in}
 use Rattle.store_rules.specs.Rules as rules
-use Rattle.store_rules.specs.Rules.{Head}
-use Rattle.store_rules.specs.Views.{GroupRow, RelRow, Records, first_link, group_at, group_in, high, kind_at, rec_at, rel_at}
+use Rattle.store_rules.specs.Rules.{Head, KeepsGroups, KeepsLinks}
+use Rattle.store_rules.specs.Views.{GroupRow, Records, RelRow, first_link, group_at, group_in, high, kind_at, rec_at, rel_at}
 use Rattle.store_rules.proofs.ChainLaws.{walk_of_chain}
 use Rattle.store_rules.proofs.GroupLaws.{IsFirstPlace}
 use Rattle.store_rules.proofs.GroupPlaces.{first_place, group_on, some_place}
@@ -108,10 +108,10 @@ module _ (records : Records) where
       (walk_of_chain next prev format.nil (rules.first_of records head) ys b.chain)
 
   abbrev pub Linked : Type 0
-  Linked = rules.IsLinked records (kind_at records format.nodes_file) (rel_at records) (group_at records)
+  Linked = KeepsLinks records
 
   abbrev pub Grouped : Type 0
-  Grouped = rules.IsGrouped (kind_at records format.nodes_file) (first_link records) (rec_at records format.groups_file) (group_at records) []
+  Grouped = KeepsGroups records []
 
   -- ---- where each group is on its owner's chain
 

@@ -5,15 +5,15 @@ use Rattle.rec_bytes.specs.Format as format
 use Rattle.rec_bytes.specs.Meta as metas
 use Rattle.rec_bytes.specs.Record.{field}
 use Rattle.store_rules.specs.RuleList.{IsSameFile}
-use Rattle.store_rules.specs.Rules.{AreDefined}
 use Rattle.store_rules.specs.Views.{Records, high, kind_at, kind_in, rec_at}
 use Rattle.store_rules.proofs.Changes as ch
 use Rattle.store_rules.proofs.Changes.{IsChanged}
 use Rattle.store_rules.proofs.NumberLaws.{nat_cases}
+use Rattle.store_rules.specs.Rules.{KeepsDefinitions}
 
 -- what the rule says of the definitions of a store
 abbrev pub Defines : Records → Type 0
-Defines s = AreDefined (kind_at s format.index_file) (rec_at s format.index_file) (high s format.names_file)
+Defines s = KeepsDefinitions s
 
 -- the label and the key of a record are names
 abbrev pub IsOfNames : Records → Rec → Type 0

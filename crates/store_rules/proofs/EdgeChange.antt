@@ -16,11 +16,11 @@ use Rattle.store_rules.specs.Properties.{property_records}
 use Rattle.store_rules.specs.Ranges.{AreInRange, is_reused}
 use Rattle.store_rules.specs.Rows.{collect, ids}
 use Rattle.store_rules.specs.RuleList.{IsSameFile}
-use Rattle.store_rules.specs.Rules.{AllListed, AreNamed, AreNames, HasCounts, HasEnds, HasGroup, HasGroups}
-use Rattle.store_rules.specs.Rules.{HaveProperties, IsEnd, IsGrouped, IsLinked, IsSplit, KeepsRules, Owns}
-use Rattle.store_rules.specs.Rules.{PropertyFiles, StandsAt, degree_of, is_filled, next_free, property_files, rel_first}
-use Rattle.store_rules.specs.Views.{GroupRow, NodeRow, Records, RelRow, degree, first_link, group_at, high, is_live}
-use Rattle.store_rules.specs.Views.{key_in, kind_at, kind_in, node_at, rec_at, rel_at, rel_in, row_if, text_of}
+use Rattle.store_rules.specs.Rules.{AllListed, AreNamed, AreNames, HasCounts, HasEnds, HasGroup, HasGroups, HaveProperties, IsEnd, IsGrouped, IsLinked}
+use Rattle.store_rules.specs.Rules.{IsSplit, KeepsGroups, KeepsLabels, KeepsLinks, KeepsNames, KeepsProperties, KeepsRules, Owns, PropertyFiles, StandsAt}
+use Rattle.store_rules.specs.Rules.{degree_of, is_filled, next_free, property_files, rel_first}
+use Rattle.store_rules.specs.Views.{GroupRow, NodeRow, Records, RelRow, degree, first_link, group_at, high, is_live, key_in, kind_at, kind_in, node_at, rec_at}
+use Rattle.store_rules.specs.Views.{rel_at, rel_in, row_if, text_of}
 use Rattle.store_rules.proofs.ChainLaws.{chain_stays, walk_stays}
 use Rattle.store_rules.proofs.Changes as ch
 use Rattle.store_rules.proofs.Changes.{IsChanged}
@@ -232,7 +232,7 @@ module _ (s t : Records) (shape : Shape) (id : ℕ) {most : ℕ} {before empty :
       (λ (k : x ≡ id). new (now.row row (ap (rel_at t) (sym k) ∙ e)))
       (λ (ne : x ≢ id). old (sym (now.change.rels x ne) ∙ e)) (nat_cases x id)
 
-  linked : IsLinked t (kind_at t format.nodes_file) (rel_at t) (group_at t)
+  linked : KeepsLinks t
   linked = subst (λ k. IsLinked t k (rel_at t) (group_at t)) (sym (kinds_same s t id now.change))
       (subst (IsLinked t (kind_at s format.nodes_file) (rel_at t)) (sym (groups_same s t id now.change)) (record {
         ends = λ x row e. by_row (HasEnds (kind_at s format.nodes_file)) x row e (λ (r : IsGoodRow s row). r.ends) (λ k. well.linked.ends x row k);
@@ -241,7 +241,7 @@ module _ (s t : Records) (shape : Shape) (id : ℕ) {most : ℕ} {before empty :
         listed = now.listed;
       }))
 
-  grouped : IsGrouped (kind_at t format.nodes_file) (first_link t) (rec_at t format.groups_file) (group_at t) empty
+  grouped : KeepsGroups t empty
   grouped = subst (λ r. IsGrouped (kind_at t format.nodes_file) (first_link t) (rec_at t format.groups_file) r empty) (sym (groups_same s t id now.change))
       (record {
         owned = λ g row e. kinds row.owner ∙ well.grouped.owned g row e;
@@ -266,7 +266,7 @@ module _ (s t : Records) (shape : Shape) (id : ℕ) {most : ℕ} {before empty :
         once = λ g k i j e. old.once g k i j (sym (number g format.group_type (omega arith)) ∙ e ∙ number k format.group_type (omega arith));
       }
 
-  properties : HaveProperties (property_files t) (node_at t) (rel_at t) (high t format.names_file)
+  properties : KeepsProperties t
   properties = subst (λ (f : PropertyFiles). HaveProperties f (node_at t) (rel_at t) (high t format.names_file)) (sym (properties_stay s t id now.change))
       (subst (λ (n : ℕ → Option NodeRow). HaveProperties (property_files s) n (rel_at t) (high t format.names_file)) (sym (nodes_same s t id now.change))
       (subst (HaveProperties (property_files s) (node_at s) (rel_at t)) (sym (name_mark s t id now.change))
@@ -278,13 +278,13 @@ module _ (s t : Records) (shape : Shape) (id : ℕ) {most : ℕ} {before empty :
       none_held None h = λ first e. absurd cc
       none_held (Some row) h = λ first e. let p : row.property ≡ first = cc in sym p ∙ h row refl
 
-  named : AreNamed (node_at t) (rel_at t) (high t format.names_file)
+  named : KeepsLabels t
   named = subst (AreNamed (node_at t) (rel_at t)) (sym (name_mark s t id now.change)) (record {
     nodes_named = λ x row e. well.named.nodes_named x row (ap (λ (f : ℕ → Option NodeRow). f x) (sym (nodes_same s t id now.change)) ∙ e);
     rels_named = λ x row e. by_row (λ r. r.label < high s format.names_file) x row e (λ (r : IsGoodRow s row). r.named) (λ k. well.named.rels_named x row k);
   })
 
-  names : AreNames (rec_at t format.names_file) (high t format.names_file)
+  names : KeepsNames t
   names = subst (λ r. AreNames r (high t format.names_file)) (sym (name_file s t id now.change))
       (subst (AreNames (rec_at s format.names_file)) (sym (name_mark s t id now.change)) well.names)
 

@@ -8,6 +8,7 @@ use Rattle.store_rules.specs.Rules as rules
 use Rattle.store_rules.specs.Views.{NodeRow, Records, RelRow, high, is_live, kind_at, node_at, node_in, rec_at, rel_at, rel_in}
 use Rattle.store_rules.proofs.PropertyOwners.{used_of_live}
 use Rattle.store_rules.proofs.ViewLaws.{row_some}
+use Rattle.store_rules.specs.Rules.{KeepsLabels}
 
 module _ (records : Records) (x : ℕ) where
   -- what an owner of properties is
@@ -67,7 +68,7 @@ module _ (records : Records) (x : ℕ) where
 
 -- where the labels of all elements are names, that of each is
 pub label_kept : (records : Records) (file x : ℕ) → is_element_file file ≡ true
-    → rules.AreNamed (node_at records) (rel_at records) (high records format.names_file)
+    → KeepsLabels records
     → is_live records file x ≡ true → label_of records file x < high records format.names_file
 label_kept records file x known h live = ⊎_elim
     (λ (t : nat_eq file 1 ≡ true). let e = eqb-true file 1 t in subst (λ f. label_of records f x < high records format.names_file) (sym e)

@@ -2,8 +2,8 @@
 use Rattle.std.proofs.Common.{◌≡◌, ◌≢◌, ℕ, true, Option, Some, List, [], ◌∷◌, sym, ap, ◌∙◌, inl, inr, ⊎_elim, refl}
 use Rattle.rec_bytes.specs.Format as format
 use Rattle.store_rules.specs.Chains.{In, IsChain}
-use Rattle.store_rules.specs.Rules.{AllListed, GroupHead, Head, IsGrouped, IsInGroup, Owns, StandsAt, first_of, is_filled}
-use Rattle.store_rules.specs.Views.{GroupRow, Records, RelRow, first_link, group_at, key_in, kind_at, rec_at}
+use Rattle.store_rules.specs.Rules.{AllListed, GroupHead, Head, IsInGroup, KeepsGroups, Owns, StandsAt, first_of, is_filled}
+use Rattle.store_rules.specs.Views.{GroupRow, Records, RelRow, group_at, key_in, kind_at, rec_at}
 use Rattle.store_rules.proofs.GroupLaws.{IsFirstPlace, chain_filled, filled_chain, group_id}
 
 -- the head of a chain of a group
@@ -24,7 +24,7 @@ chain_member next prev before from [] chain some = absurd (some chain)
 chain_member next prev before from (y ∷ ys) chain some = (y, inl refl)
 
 -- the groups are those of one store, and their heads are listed in another
-module _ (s : Records) {empty : List ℕ} (grouped : IsGrouped (kind_at s format.nodes_file) (first_link s) (rec_at s format.groups_file) (group_at s) empty)
+module _ (s : Records) {empty : List ℕ} (grouped : KeepsGroups s empty)
     (g : ℕ) (row : GroupRow) (is : group_at s g ≡ Some row) where
   -- the chains of a group in use are its owner's
   pub owns_chain : (at : ℕ) → IsFirstPlace at → GroupHead (kind_at s format.nodes_file) (group_at s) (group_head g at) row.owner

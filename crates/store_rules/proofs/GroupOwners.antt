@@ -2,14 +2,13 @@
 use Rattle.std.proofs.Common.{◌≡◌, ℕ, List, ⊎_elim, refl}
 use Rattle.rec_bytes.specs.Format as format
 use Rattle.store_rules.specs.Breaking.{IsGroupChain, MemberKeeps, OwnerKeeps}
-use Rattle.store_rules.specs.Rules as rules
-use Rattle.store_rules.specs.Views.{Records, group_at, high, kind_at, rec_at, rel_at}
+use Rattle.store_rules.specs.Views.{Records, kind_at}
 use Rattle.store_rules.proofs.ChainRules.{Grouped}
+use Rattle.store_rules.specs.Rules.{KeepsCounts}
 
 -- the counts of counted groups are exact
 abbrev pub Exact : Records → Type 0
-Exact records = rules.AreExact (kind_at records format.groups_file) (rec_at records format.groups_file) (group_at records) (rel_at records)
-    (high records format.relationships_file)
+Exact records = KeepsCounts records
 
 module _ (records : Records) where
   abbrev groups_of : Grouped records → (n : ℕ) → kind_at records format.nodes_file n ≡ format.dense → (members : List ℕ) × IsGroupChain records n members

@@ -16,8 +16,8 @@ use Rattle.store_rules.specs.Graph.{edge_from, edge_of, graph_of, names_of, node
 use Rattle.store_rules.specs.Properties.{properties_from, property_records}
 use Rattle.store_rules.specs.Ranges.{Fits}
 use Rattle.store_rules.specs.Rows.{collect}
-use Rattle.store_rules.specs.Rules.{AreNamed, AreNames, HaveProperties, Head, IsListed, KeepsRules, Owns, StandsAt}
-use Rattle.store_rules.specs.Rules.{node_first, property_files, property_owner, rel_first}
+use Rattle.store_rules.specs.Rules.{AreNamed, HaveProperties, Head, IsListed, KeepsLabels, KeepsNames, KeepsProperties, KeepsRules, Owns, StandsAt, node_first}
+use Rattle.store_rules.specs.Rules.{property_files, property_owner, rel_first}
 use Rattle.store_rules.specs.Views.{NodeRow, Records, RelRow, group_at, high, kind_at, node_at, node_in, rec_at, rel_at, row_if, text_of}
 use Rattle.store_rules.proofs.Changes as ch
 use Rattle.store_rules.proofs.Changes.{IsChanged}
@@ -80,7 +80,7 @@ module _ (s t : Records) (shape : Shape) (rec : Rec) (text : List ℕ) (made : I
         other_head (inl k) e = let f = ap (λ (z : Head). z.key.file) k.is in omega arith
         other_head (inr k) e = let f = ap (λ (z : Key). z.file) k.key in omega arith
 
-    properties : HaveProperties (property_files t) (node_at t) (rel_at t) (high t format.names_file)
+    properties : KeepsProperties t
     properties = un.properties s t format.names_file count made.change refl (node_at t) (high t format.names_file)
         (subst (λ (n : ℕ → Option NodeRow). HaveProperties (property_files s) n (rel_at s) (high t format.names_file)) (sym node_rows) (record {
           held = well.properties.held;
@@ -93,7 +93,7 @@ module _ (s t : Records) (shape : Shape) (rec : Rec) (text : List ℕ) (made : I
           texts = well.properties.texts;
         }))
 
-    named : AreNamed (node_at t) (rel_at t) (high t format.names_file)
+    named : KeepsLabels t
     named = subst (λ n. AreNamed n (rel_at t) (high t format.names_file)) (sym node_rows)
         (subst (λ r. AreNamed (node_at s) r (high t format.names_file)) (sym (un.rels_same s t format.names_file count made.change refl)) (record {
           nodes_named = λ x row e. let k = well.named.nodes_named x row e in let m = made.mark in omega arith;
@@ -107,7 +107,7 @@ module _ (s t : Records) (shape : Shape) (rec : Rec) (text : List ℕ) (made : I
     old_text : (x : ℕ) → x < count → text_of (rec_at t format.names_file x) ≡ text_of (rec_at s format.names_file x)
     old_text x lt = ap text_of (other_name x lt)
 
-    names : AreNames (rec_at t format.names_file) (high t format.names_file)
+    names : KeepsNames t
     names = record {
       form = λ x lt. ⊎_elim (λ (k : x < count). subst IsShortName (sym (old_text x k)) (well.names.form x k))
           (λ (k : x ≡ count). subst IsShortName (sym (ap (λ z. text_of (rec_at t format.names_file z)) k ∙ text_here)) made.form) (low_or_last x lt);

@@ -18,8 +18,8 @@ use Rattle.rec_bytes.proofs.Spaces.{laid_over-at}
 use Rattle.store_rules.specs.Graph.{edge_of, graph_of, indexes_from, node_of}
 use Rattle.store_rules.specs.Rows.{collect, ids}
 use Rattle.store_rules.specs.Indexes.{HasNoIndex}
-use Rattle.store_rules.specs.Rules.{AreHeld, HaveProperties, Head, IsListed, IsWellFormed, IsSplit, Owns, StandsAt}
-use Rattle.store_rules.specs.Rules.{block_owner, node_first, property_files, property_owner, rel_first}
+use Rattle.store_rules.specs.Rules.{AreHeld, Head, IsListed, IsSplit, IsWellFormed, KeepsProperties, Owns, StandsAt, block_owner, node_first, property_owner}
+use Rattle.store_rules.specs.Rules.{rel_first}
 use Rattle.store_rules.specs.Views.{Records, group_at, group_in, high, is_live, kind_at, node_at, node_in, rec_at, rel_at, rel_in, text_of}
 use Rattle.store_rules.proofs.MetaLaws.{meta_of_reused}
 use Rattle.store_rules.proofs.ViewLaws.{kind_high, live_false, row_none}
@@ -89,7 +89,7 @@ module _ (before : Records) (shape : Shape) where
     once = λ f x first g y second p e d i j. absurd (not_some (owner f x) first (none f x) e);
   }
 
-  properties : HaveProperties (property_files new) (node_at new) (rel_at new) (high new format.names_file)
+  properties : KeepsProperties new
   properties = record {
     held = held_none (property_owner (node_at new) (rel_at new)) _ _ no_owner (λ p. not_live format.properties_file p refl);
     keys = record {

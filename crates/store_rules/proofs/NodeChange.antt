@@ -11,7 +11,7 @@ use Rattle.rec_bytes.specs.Space.{meta_in}
 use Rattle.store_rules.specs.Graph.{edge_from, graph_of, names_of, node_from, node_of}
 use Rattle.store_rules.specs.Properties.{property_records}
 use Rattle.store_rules.specs.Rows.{collect}
-use Rattle.store_rules.specs.Rules.{AreNames, GroupHead, Head, IsListed, KeepsRules, Owns, SparseHead, StandsAt}
+use Rattle.store_rules.specs.Rules.{AreNames, GroupHead, Head, IsListed, KeepsNames, KeepsRules, Owns, SparseHead, StandsAt}
 use Rattle.store_rules.specs.Views.{Records, first_link, group_at, high, is_live, kind_at, node_at, node_in, rec_at, rel_at, row_if, text_of}
 use Rattle.store_rules.proofs.Changes as ch
 use Rattle.store_rules.proofs.Changes.{IsChanged}
@@ -80,7 +80,7 @@ module _ (s t : Records) (id : ℕ) (change : IsChanged s t format.nodes_file id
   row_other x ne = node_text x ∙ ap (node_from (rec_at s format.names_file) (property_records s)) (node_other x ne)
 
   module _ (shape : Shape) {most : ℕ} {empty : List ℕ} (well : KeepsRules s shape most empty) where
-    pub names : AreNames (rec_at t format.names_file) (high t format.names_file)
+    pub names : KeepsNames t
     names = subst (λ r. AreNames r (high t format.names_file)) (sym name_file) (subst (λ m. AreNames (rec_at s format.names_file) m) (sym name_mark) well.names)
 
     -- a head of another node lists what it did

@@ -8,8 +8,8 @@ use Rattle.rec_bytes.specs.Record.{field}
 use Rattle.store_rules.specs.Graph.{graph_of, node_from, node_of}
 use Rattle.store_rules.specs.Properties.{property_records}
 use Rattle.store_rules.specs.Rows.{collect, ids}
-use Rattle.store_rules.specs.Rules.{AreCounted, AreNamed, HaveProperties, Head, IsEnd, IsListed, KeepsRules, Owns}
-use Rattle.store_rules.specs.Rules.{StandsAt, node_first, property_files, stands_in}
+use Rattle.store_rules.specs.Rules.{AreNamed, HaveProperties, Head, IsEnd, IsListed, KeepsDegrees, KeepsLabels, KeepsProperties, KeepsRules, Owns, StandsAt}
+use Rattle.store_rules.specs.Rules.{node_first, property_files, stands_in}
 use Rattle.store_rules.specs.Views.{GroupRow, Records, RelRow, degree, group_at, high, kind_at, node_at, node_in, rec_at, rel_at, rel_in}
 use Rattle.store_rules.proofs.Changes as ch
 use Rattle.store_rules.proofs.Counts.{ids_empty}
@@ -72,7 +72,7 @@ module _ (s t : Records) (shape : Shape) (id : ℕ) (lost : IsGone s t shape for
   dense_new : (n : ℕ) → kind_at t format.nodes_file n ≡ format.dense → n ≢ id
   dense_new n d = other n (λ z. let p = sym z ∙ d in omega arith)
 
-  properties : HaveProperties (property_files t) (node_at t) (rel_at t) (high t format.names_file)
+  properties : KeepsProperties t
   properties = subst (HaveProperties (property_files t) (node_at t) (rel_at t)) (sym (nc.name_mark s t id lost.change))
       (un.properties s t format.nodes_file id lost.change refl (node_at t) (high s format.names_file)
       (properties_bare (property_files s) (node_at s) (node_at t) (rel_at s) (rel_at s) (high s format.names_file) format.nodes_file id
@@ -83,7 +83,7 @@ module _ (s t : Records) (shape : Shape) (id : ℕ) (lost : IsGone s t shape for
       inner : {a : ℕ} (b : ℕ) → a ≡ format.nil → Some a ≡ Some b → b ≡ format.nil
       inner b e q = cc
 
-  named : AreNamed (node_at t) (rel_at t) (high t format.names_file)
+  named : KeepsLabels t
   named = subst (λ r. AreNamed (node_at t) r (high t format.names_file)) (sym (un.rels_same s t format.nodes_file id lost.change refl))
       (subst (λ m. AreNamed (node_at t) (rel_at s) m) (sym (nc.name_mark s t id lost.change)) (record {
         nodes_named = λ x row e. well.named.nodes_named x row (sym (nc.node_other s t id lost.change x (λ k. absurd (let z : None ≡ Some row = sym node_gone
@@ -94,7 +94,7 @@ module _ (s t : Records) (shape : Shape) (id : ℕ) (lost : IsGone s t shape for
   degree_other : (n : ℕ) → n ≢ id → degree t n ≡ degree s n
   degree_other n ne = ap (λ r. field 4 r format.node_degree) (nc.record_other s t id lost.change n ne)
 
-  degrees : AreCounted (kind_at t format.nodes_file) (degree t) (rel_at t) (high t format.relationships_file) most
+  degrees : KeepsDegrees t most
   degrees = un.degrees s t format.nodes_file id lost.change refl most
       (λ n some. let ne = other n some in degree_other n ne ∙ well.degrees.each n (λ z. some (kind_other n ne ∙ z)))
       (λ n d. let ne = other n (λ z. let p = sym z ∙ d in omega arith) in let z = degree_other n ne in let b = well.degrees.few n (sym (kind_other n ne) ∙ d) in

@@ -11,9 +11,8 @@ use Rattle.rec_bytes.specs.Record.{field}
 use Rattle.store_rules.specs.Graph.{graph_of, node_from, node_of}
 use Rattle.store_rules.specs.Properties.{property_records}
 use Rattle.store_rules.specs.Ranges.{Fits}
-use Rattle.store_rules.specs.Rules.{AreCounted, AreNamed, HaveProperties, Head, IsEnd, IsListed, KeepsRules, Owns}
-use Rattle.store_rules.specs.Rules.{SparseHead, GroupHead, StandsAt, degree_of, node_first, node_head, property_files}
-use Rattle.store_rules.specs.Rules.{stands_in}
+use Rattle.store_rules.specs.Rules.{AreNamed, GroupHead, HaveProperties, Head, IsEnd, IsListed, KeepsDegrees, KeepsLabels, KeepsProperties, KeepsRules, Owns}
+use Rattle.store_rules.specs.Rules.{SparseHead, StandsAt, degree_of, node_first, node_head, property_files, stands_in}
 use Rattle.store_rules.specs.Views.{NodeRow, Records, RelRow, degree, group_at, high, kind_at, node_at, node_in, rec_at, rel_at, row_if, text_of}
 use Rattle.store_rules.proofs.Changes as ch
 use Rattle.store_rules.proofs.Counts.{ids_none}
@@ -84,7 +83,7 @@ module _ (s t : Records) (shape : Shape) (id number : ℕ) (rec : Rec) (made : I
   dense_old : (n : ℕ) → kind_at t format.nodes_file n ≡ format.dense → n ≢ id
   dense_old n d e = let p = sym (ap (kind_at t format.nodes_file) e ∙ kind_new) ∙ d in omega arith
 
-  properties : HaveProperties (property_files t) (node_at t) (rel_at t) (high t format.names_file)
+  properties : KeepsProperties t
   properties = subst (HaveProperties (property_files t) (node_at t) (rel_at t)) (sym (nc.name_mark s t id made.change))
       (un.properties s t format.nodes_file id made.change refl (node_at t) (high s format.names_file)
       (properties_bare (property_files s) (node_at s) (node_at t) (rel_at s) (rel_at s) (high s format.names_file) format.nodes_file id
@@ -92,7 +91,7 @@ module _ (s t : Records) (shape : Shape) (id number : ℕ) (rec : Rec) (made : I
       (λ first e. let z : Some format.nil ≡ Some first = ap node_first (sym node_new) ∙ e in cc)
       (owner_beside_node (node_at s) (node_at t) (rel_at s) id (nc.node_other s t id made.change)) well.properties))
 
-  named : AreNamed (node_at t) (rel_at t) (high t format.names_file)
+  named : KeepsLabels t
   named = subst (λ r. AreNamed (node_at t) r (high t format.names_file)) (sym (un.rels_same s t format.nodes_file id made.change refl))
       (subst (λ m. AreNamed (node_at t) (rel_at s) m) (sym (nc.name_mark s t id made.change)) (record {
         nodes_named = λ x row e. ⊎_elim
@@ -120,7 +119,7 @@ module _ (s t : Records) (shape : Shape) (id number : ℕ) (rec : Rec) (made : I
   degree_other : (n : ℕ) → n ≢ id → degree t n ≡ degree s n
   degree_other n ne = ap (λ r. field 4 r format.node_degree) (nc.record_other s t id made.change n ne)
 
-  degrees : AreCounted (kind_at t format.nodes_file) (degree t) (rel_at t) (high t format.relationships_file) most
+  degrees : KeepsDegrees t most
   degrees = un.degrees s t format.nodes_file id made.change refl most
       (λ n some. ⊎_elim
       (λ (e : n ≡ id). subst (λ z. degree t z ≡ degree_of (rel_at s) (high s format.relationships_file) z) (sym e)

@@ -2,8 +2,8 @@
 use Rattle.std.proofs.Common.{◌≡◌, ℕ, Option, Some, List, sym, ap, ◌∙◌, subst, inl, inr, ⊎_elim, arith}
 use Rattle.rec_bytes.specs.Format as format
 use Rattle.rec_bytes.specs.Record.{field}
-use Rattle.store_rules.specs.Rules.{HasGroup, Head, IsEnd, IsGrouped, IsInGroup, IsOn, Owns}
-use Rattle.store_rules.specs.Views.{GroupRow, Records, RelRow, first_link, group_at, group_in, key_in, kind_at, rec_at}
+use Rattle.store_rules.specs.Rules.{HasGroup, Head, IsEnd, IsInGroup, IsOn, KeepsGroups, Owns}
+use Rattle.store_rules.specs.Views.{GroupRow, Records, RelRow, group_at, group_in, key_in, kind_at, rec_at}
 use Rattle.store_rules.proofs.GroupPlaces.{on_group, one_place}
 use Rattle.store_rules.proofs.ViewLaws.{some_row}
 
@@ -25,7 +25,7 @@ module _ (kind : ℕ → ℕ) (groups : ℕ → Option GroupRow) where
   on_has_group h n row (inr o) on dense = record { row = o.row; group = o.group; owner = o.owner; label = sym (on_group kind groups h n o row on).0 }
 
 -- a node has one head where a relationship of a row stands
-module _ (s : Records) (empty : List ℕ) (grouped : IsGrouped (kind_at s format.nodes_file) (first_link s) (rec_at s format.groups_file) (group_at s) empty)
+module _ (s : Records) (empty : List ℕ) (grouped : KeepsGroups s empty)
   where
     abbrev Own : Head → ℕ → Type 0
     Own = Owns (kind_at s format.nodes_file) (group_at s)

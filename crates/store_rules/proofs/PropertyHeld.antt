@@ -8,7 +8,8 @@ use Rattle.rec_bytes.specs.Format as format
 use Rattle.rec_bytes.specs.Record.{field}
 use Rattle.store_rules.specs.Chains.{In, IsWalk}
 use Rattle.store_rules.specs.Properties.{IsProperty, Property, blocks_of, head_of, ids_of, long_text, next_block, next_property, property_records}
-use Rattle.store_rules.specs.Rules.{AreHeld, ArePieces, HaveKeys, HaveProperties, HaveTexts, KeepsRules, node_first, property_files, rel_first}
+use Rattle.store_rules.specs.Rules.{AreHeld, ArePieces, HaveKeys, HaveProperties, HaveTexts, KeepsProperties, KeepsRules, node_first, property_files}
+use Rattle.store_rules.specs.Rules.{rel_first}
 use Rattle.store_rules.specs.Views.{Records, high, is_live, kind_at, node_at, rec_at, rel_at}
 use Rattle.store_rules.proofs.Frames.{pair_cases}
 use Rattle.store_rules.proofs.HeldChange.{AreRelisted, Stays, relisted, stays_kept}
@@ -327,7 +328,7 @@ module _ (s t : Records) (shape : Shape) (file x : ℕ) (old new : List Property
   }
 
   -- the fifth rule is kept
-  pub properties_held : HaveProperties (property_files t) (node_at t) (rel_at t) (high t format.names_file)
+  pub properties_held : KeepsProperties t
   unfolding relisted
   properties_held = subst (HaveProperties (property_files t) (node_at t) (rel_at t)) (sym (fr.name_mark s t shape file x old new h))
       (record { held = held_now; keys = keys_now; blocks = blocks_now; texts = texts_now })

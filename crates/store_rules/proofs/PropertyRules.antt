@@ -16,9 +16,9 @@ use Rattle.store_rules.specs.Chains.{IsWalk, next_in, place_of, prev_in}
 use Rattle.store_rules.specs.Properties.{Property}
 use Rattle.store_rules.specs.Ranges.{AreInRange, Fits, is_reused}
 use Rattle.store_rules.specs.Rows.{ids}
-use Rattle.store_rules.specs.Rules.{AreAllLive, AreCounted, AreNamed, AreNames, Head, IsGrouped, IsLinked, IsSplit}
-use Rattle.store_rules.specs.Rules.{KeepsRules, Owns, first_of, next_free, AreExact, HasCounts}
-use Rattle.store_rules.specs.Views.{Records, degree, first_link, group_at, high, is_live, kind_at, node_at, rec_at, rel_at, GroupRow}
+use Rattle.store_rules.specs.Rules.{AreAllLive, AreCounted, AreNamed, AreNames, HasCounts, Head, IsGrouped, IsLinked, IsSplit, KeepsCounts, KeepsDegrees}
+use Rattle.store_rules.specs.Rules.{KeepsGroups, KeepsLabels, KeepsLinks, KeepsNames, KeepsRules, Owns, first_of, next_free}
+use Rattle.store_rules.specs.Views.{GroupRow, Records, degree, first_link, group_at, high, is_live, kind_at, node_at, rec_at, rel_at}
 use Rattle.store_rules.proofs.ChainLaws.{walk_stays}
 use Rattle.store_rules.proofs.DefinedStays.{defined_stay}
 use Rattle.store_rules.proofs.Frames.{pair_cases}
@@ -157,15 +157,15 @@ module _ (s t : Records) (shape : Shape) (file x : ℕ) (old new : List Property
       ∙ sym (ap (λ q. field 4 (s q) d.field) k.key)
 
   -- the third rule
-  linked : IsLinked s (kind_at s format.nodes_file) (rel_at s) (group_at s) → IsLinked t (kind_at t format.nodes_file) (rel_at t) (group_at t)
+  linked : KeepsLinks s → KeepsLinks t
   linked was = subst (λ k. IsLinked t k (rel_at t) (group_at t)) (sym (fr.node_kinds s t shape file x old new h))
       (subst (IsLinked t (kind_at s format.nodes_file) (rel_at t)) (sym (fr.groups_same s t shape file x old new h))
       (twin.linked_alike s t (kind_at s format.nodes_file) (rel_at s) (rel_at t) (group_at s) rels_there rels_back next_same prev_same
       (head_same (kind_at s format.nodes_file)) was))
 
   -- the fourth
-  grouped : {empty : List ℕ} → IsGrouped (kind_at s format.nodes_file) (first_link s) (rec_at s format.groups_file) (group_at s) empty
-      → IsGrouped (kind_at t format.nodes_file) (first_link t) (rec_at t format.groups_file) (group_at t) empty
+  grouped : {empty : List ℕ} → KeepsGroups s empty
+      → KeepsGroups t empty
   grouped {empty} was = subst (λ k. IsGrouped k (first_link t) (rec_at t format.groups_file) (group_at t) empty)
       (sym (fr.node_kinds s t shape file x old new h))
       (subst (λ f. IsGrouped (kind_at s format.nodes_file) f (rec_at t format.groups_file) (group_at t) empty) (sym (fr.first_links s t shape file x old new h))
@@ -173,8 +173,8 @@ module _ (s t : Records) (shape : Shape) (file x : ℕ) (old new : List Property
       (subst (λ g. IsGrouped (kind_at s format.nodes_file) (first_link s) (rec_at s format.groups_file) g empty)
       (sym (fr.groups_same s t shape file x old new h)) was)))
 
-  exact : AreExact (kind_at s format.groups_file) (rec_at s format.groups_file) (group_at s) (rel_at s) (high s format.relationships_file)
-      → AreExact (kind_at t format.groups_file) (rec_at t format.groups_file) (group_at t) (rel_at t) (high t format.relationships_file)
+  exact : KeepsCounts s
+      → KeepsCounts t
   exact was g row is kind = subst (λ (f : ℕ → Rec). HasCounts (f g) row (rel_at t) (high t format.relationships_file))
       (sym (fr.group_file s t shape file x old new h))
       (subst (λ m. HasCounts (rec_at s format.groups_file g) row (rel_at t) m) (sym (fr.mark_same s t shape file x old new h format.relationships_file
@@ -184,18 +184,18 @@ module _ (s t : Records) (shape : Shape) (file x : ℕ) (old new : List Property
       (sym (fr.kind_same s t shape file x old new h format.groups_file g refl (λ e. omega arith) (λ e. omega arith)) ∙ kind))))
 
   -- the sixth
-  names : AreNames (rec_at s format.names_file) (high s format.names_file) → AreNames (rec_at t format.names_file) (high t format.names_file)
+  names : KeepsNames s → KeepsNames t
   names was = subst (λ r. AreNames r (high t format.names_file)) (sym (fr.name_file s t shape file x old new h))
       (subst (AreNames (rec_at s format.names_file)) (sym (fr.name_mark s t shape file x old new h)) was)
 
   -- labels and types are names
-  named : AreNamed (node_at s) (rel_at s) (high s format.names_file) → AreNamed (node_at t) (rel_at t) (high t format.names_file)
+  named : KeepsLabels s → KeepsLabels t
   named was = subst (AreNamed (node_at t) (rel_at t)) (sym (fr.name_mark s t shape file x old new h))
       (twin.named_alike (node_at s) (node_at t) (rel_at s) (rel_at t) (high s format.names_file) nodes_back rels_back was)
 
   -- the seventh
-  degrees : {most : ℕ} → AreCounted (kind_at s format.nodes_file) (degree s) (rel_at s) (high s format.relationships_file) most
-      → AreCounted (kind_at t format.nodes_file) (degree t) (rel_at t) (high t format.relationships_file) most
+  degrees : {most : ℕ} → KeepsDegrees s most
+      → KeepsDegrees t most
   degrees {most = most} was = subst (λ k. AreCounted k (degree t) (rel_at t) (high t format.relationships_file) most)
       (sym (fr.node_kinds s t shape file x old new h))
       (subst (λ m. AreCounted (kind_at s format.nodes_file) (degree t) (rel_at t) m most)

@@ -12,13 +12,13 @@ use Rattle.rec_bytes.specs.Space.{meta_in}
 use Rattle.store_rules.specs.Chains.{IsChain, IsWalk, next_in, prev_in}
 use Rattle.store_rules.specs.Indexes.{AreIndexed, wanted_in}
 use Rattle.store_rules.specs.Properties.{property_records}
-use Rattle.store_rules.specs.Rules.{AreCounted, AreExact, AreNamed, AreNames, HaveProperties, Head, IsGrouped, IsLinked}
-use Rattle.store_rules.specs.Rules.{IsListed, IsSplit, KeepsRules, Owns, PropertyFiles, StandsAt, first_of}
+use Rattle.store_rules.specs.Rules.{AreCounted, AreExact, AreNamed, AreNames, HaveProperties, Head, IsGrouped, IsLinked, IsListed, IsSplit, KeepsCounts}
+use Rattle.store_rules.specs.Rules.{KeepsDegrees, KeepsGroups, KeepsLabels, KeepsLinks, KeepsNames, KeepsRules, Owns, PropertyFiles, StandsAt, first_of}
 use Rattle.store_rules.specs.Rules.{property_files}
 use Rattle.store_rules.specs.RuleList.{AreSame, IsSameFile, IsSplitFile, KeepsThose, Rule, Slack, but_index, holds, is_local, reads}
 use Rattle.store_rules.specs.RuleList.Rule.{Counts, Defined, Degrees, Grouped, Labels, Linked, Names, Properties, Ranges, Split, Indexed}
-use Rattle.store_rules.specs.Views.{GroupRow, NodeRow, Records, RelRow, degree, first_link, group_at, group_in, high}
-use Rattle.store_rules.specs.Views.{is_live, kind_at, kind_in, node_at, node_in, rec_at, rel_at, rel_in, row_if}
+use Rattle.store_rules.specs.Views.{GroupRow, NodeRow, Records, RelRow, group_at, group_in, high, is_live, kind_at, kind_in, node_at, node_in, rel_at, rel_in}
+use Rattle.store_rules.specs.Views.{row_if}
 use Rattle.store_rules.proofs.DefinedStays.{defined_stay}
 use Rattle.store_rules.proofs.IndexStays.{indexes_stay, wanted_same}
 
@@ -65,7 +65,7 @@ module _ (s t : Records) where
       }
 
   linked_stays : IsSameFile s t format.nodes_file → IsSameFile s t format.relationships_file → IsSameFile s t format.groups_file
-      → IsLinked s (kind_at s format.nodes_file) (rel_at s) (group_at s) → IsLinked t (kind_at t format.nodes_file) (rel_at t) (group_at t)
+      → KeepsLinks s → KeepsLinks t
   linked_stays nodes rels groups h =
       subst (λ (v : (ℕ → ℕ) × ((ℕ → Option RelRow) × (ℕ → Option GroupRow))). IsLinked t v.0 v.1.0 v.1.1)
       (λ i. (sym (kind_same format.nodes_file nodes) i, (sym (rels_same rels) i, sym (groups_same groups) i)))
@@ -87,16 +87,16 @@ module _ (s t : Records) where
       }
 
   grouped_stays : (empty : List ℕ) → IsSameFile s t format.nodes_file → IsSameFile s t format.groups_file
-      → IsGrouped (kind_at s format.nodes_file) (first_link s) (rec_at s format.groups_file) (group_at s) empty
-      → IsGrouped (kind_at t format.nodes_file) (first_link t) (rec_at t format.groups_file) (group_at t) empty
+      → KeepsGroups s empty
+      → KeepsGroups t empty
   grouped_stays empty nodes groups h =
       subst (λ (v : ((ℕ → ℕ) × (ℕ → Rec)) × ((ℕ → Rec) × (ℕ → Option GroupRow))). IsGrouped v.0.0 (λ n. field 4 (v.0.1 n) format.node_first_link)
       v.1.0 v.1.1 empty)
       (λ i. ((sym (kind_same format.nodes_file nodes) i, sym nodes.records i), (sym groups.records i, sym (groups_same groups) i))) h
 
   counts_stay : IsSameFile s t format.groups_file → IsSameFile s t format.relationships_file
-      → AreExact (kind_at s format.groups_file) (rec_at s format.groups_file) (group_at s) (rel_at s) (high s format.relationships_file)
-      → AreExact (kind_at t format.groups_file) (rec_at t format.groups_file) (group_at t) (rel_at t) (high t format.relationships_file)
+      → KeepsCounts s
+      → KeepsCounts t
   counts_stay groups rels h =
       subst (λ (v : ((ℕ → ℕ) × (ℕ → Rec)) × ((ℕ → Option GroupRow) × ((ℕ → Option RelRow) × ℕ))). AreExact v.0.0 v.0.1 v.1.0 v.1.1.0 v.1.1.1)
       (λ i. (
@@ -111,18 +111,18 @@ module _ (s t : Records) where
         ),
       )) h
 
-  names_stay : IsSameFile s t format.names_file → AreNames (rec_at s format.names_file) (high s format.names_file)
-      → AreNames (rec_at t format.names_file) (high t format.names_file)
+  names_stay : IsSameFile s t format.names_file → KeepsNames s
+      → KeepsNames t
   names_stay names h = subst (λ (v : (ℕ → Rec) × ℕ). AreNames v.0 v.1) (λ i. (sym names.records i, sym (high_same format.names_file names) i)) h
 
   labels_stay : IsSameFile s t format.nodes_file → IsSameFile s t format.relationships_file → IsSameFile s t format.names_file
-      → AreNamed (node_at s) (rel_at s) (high s format.names_file) → AreNamed (node_at t) (rel_at t) (high t format.names_file)
+      → KeepsLabels s → KeepsLabels t
   labels_stay nodes rels names h = subst (λ (v : (ℕ → Option NodeRow) × ((ℕ → Option RelRow) × ℕ)). AreNamed v.0 v.1.0 v.1.1)
       (λ i. (sym (nodes_same nodes) i, (sym (rels_same rels) i, sym (high_same format.names_file names) i))) h
 
   degrees_stay : (most : ℕ) → IsSameFile s t format.nodes_file → IsSameFile s t format.relationships_file
-      → AreCounted (kind_at s format.nodes_file) (degree s) (rel_at s) (high s format.relationships_file) most
-      → AreCounted (kind_at t format.nodes_file) (degree t) (rel_at t) (high t format.relationships_file) most
+      → KeepsDegrees s most
+      → KeepsDegrees t most
   degrees_stay most nodes rels h =
       subst (λ (v : ((ℕ → ℕ) × (ℕ → Rec)) × ((ℕ → Option RelRow) × ℕ)). AreCounted v.0.0 (λ n. field 4 (v.0.1 n) format.node_degree) v.1.0 v.1.1 most)
       (λ i. ((sym (kind_same format.nodes_file nodes) i, sym nodes.records i), (sym (rels_same rels) i, sym (high_same format.relationships_file rels) i))) h

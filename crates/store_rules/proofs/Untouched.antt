@@ -5,8 +5,8 @@ use Rattle.std.proofs.lemmas.Bool.{true≢false}
 use Rattle.rec_bytes.specs.declared.key.Key.{Key}
 use Rattle.rec_bytes.specs.Format as format
 use Rattle.rec_bytes.specs.RecordFiles.{is_meta_file}
-use Rattle.store_rules.specs.Rules.{AreCounted, AreExact, HasCounts, HaveProperties, Head, IsEnd, IsGrouped, IsLinked}
-use Rattle.store_rules.specs.Rules.{IsListed, Owns, StandsAt, degree_of, property_files}
+use Rattle.store_rules.specs.Rules.{AreCounted, HasCounts, HaveProperties, Head, IsEnd, IsGrouped, IsLinked, IsListed, KeepsCounts, KeepsDegrees, KeepsGroups}
+use Rattle.store_rules.specs.Rules.{KeepsLinks, Owns, StandsAt, degree_of, property_files}
 use Rattle.store_rules.specs.Views.{GroupRow, NodeRow, Records, RelRow, degree, first_link, group_at, group_in, high, kind_at, rec_at, rel_at, rel_in, row_if}
 use Rattle.store_rules.proofs.Changes as ch
 use Rattle.store_rules.proofs.Changes.{IsChanged}
@@ -48,7 +48,7 @@ module _ (s t : Records) (file id : ℕ) (change : IsChanged s t file id) (apart
   -- the third rule, where the heads of the nodes list what stood at them, and the ends of relationships are the nodes that they were
   pub linked : ((x n : ℕ) (row : RelRow) → rel_at s x ≡ Some row → IsEnd n row → kind_at t format.nodes_file n ≡ kind_at s format.nodes_file n)
       → ((h : Head) (n : ℕ) → Owns (kind_at t format.nodes_file) (group_at s) h n → IsListed t h n (StandsAt (rel_at s) (group_at s) h))
-      → IsLinked s (kind_at s format.nodes_file) (rel_at s) (group_at s) → IsLinked t (kind_at t format.nodes_file) (rel_at t) (group_at t)
+      → KeepsLinks s → KeepsLinks t
   linked stay each old = subst (λ r. IsLinked t (kind_at t format.nodes_file) r (group_at t)) (sym rels_same)
       (subst (λ g. IsLinked t (kind_at t format.nodes_file) (rel_at s) g) (sym groups_same) (record {
         ends = λ x row e. let k = old.ends x row e in record {
@@ -63,16 +63,16 @@ module _ (s t : Records) (file id : ℕ) (change : IsChanged s t file id) (apart
   pub grouped : {empty : List ℕ} → ((n g : ℕ) (row : GroupRow) → group_at s g ≡ Some row → row.owner ≡ n → kind_at s format.nodes_file n ≡ format.dense
       → kind_at t format.nodes_file n ≡ format.dense)
       → ((n : ℕ) → kind_at t format.nodes_file n ≡ format.dense → (kind_at s format.nodes_file n ≡ format.dense) × (first_link t n ≡ first_link s n))
-      → IsGrouped (kind_at s format.nodes_file) (first_link s) (rec_at s format.groups_file) (group_at s) empty
-      → IsGrouped (kind_at t format.nodes_file) (first_link t) (rec_at t format.groups_file) (group_at t) empty
+      → KeepsGroups s empty
+      → KeepsGroups t empty
   grouped {empty} there back old = subst (λ r. IsGrouped (kind_at t format.nodes_file) (first_link t) r (group_at t) empty) (sym group_file_same)
       (subst (λ g. IsGrouped (kind_at t format.nodes_file) (first_link t) (rec_at s format.groups_file) g empty) (sym groups_same)
       (grouped_stays (kind_at s format.nodes_file) (kind_at t format.nodes_file) (first_link s) (first_link t) (rec_at s format.groups_file) (group_at s)
       there back old))
 
   -- and counted groups stay exact
-  pub exact : AreExact (kind_at s format.groups_file) (rec_at s format.groups_file) (group_at s) (rel_at s) (high s format.relationships_file)
-      → AreExact (kind_at t format.groups_file) (rec_at t format.groups_file) (group_at t) (rel_at t) (high t format.relationships_file)
+  pub exact : KeepsCounts s
+      → KeepsCounts t
   exact old g row is kind = subst (λ r. HasCounts r row (rel_at t) (high t format.relationships_file)) (sym ((same format.groups_file refl refl).each g))
       (subst (λ r. HasCounts (rec_at s format.groups_file g) row r (high t format.relationships_file)) (sym rels_same)
       (subst (λ m. HasCounts (rec_at s format.groups_file g) row (rel_at s) m) (sym rel_mark)
@@ -89,6 +89,6 @@ module _ (s t : Records) (file id : ℕ) (change : IsChanged s t file id) (apart
   pub degrees : (most : ℕ) → ((n : ℕ) → kind_at t format.nodes_file n ≢ format.free_kind → degree t n ≡ degree_of (rel_at s) (high s format.relationships_file)
       n)
       → ((n : ℕ) → kind_at t format.nodes_file n ≡ format.sparse → degree t n ≤ most)
-      → AreCounted (kind_at t format.nodes_file) (degree t) (rel_at t) (high t format.relationships_file) most
+      → KeepsDegrees t most
   degrees most each few = subst (λ r. AreCounted (kind_at t format.nodes_file) (degree t) r (high t format.relationships_file) most) (sym rels_same)
       (subst (λ m. AreCounted (kind_at t format.nodes_file) (degree t) (rel_at s) m most) (sym rel_mark) (record { each = each; few = few }))

@@ -16,8 +16,10 @@ use Rattle.store_rules.specs.Indexes.{AreIndexed, indexed_key, indexed_label, wa
 use Rattle.store_rules.specs.Ranges.{AreInRange, Fits, is_reused}
 use Rattle.store_rules.specs.Rows.{ids}
 use Rattle.store_rules.specs.Rules as rules
-use Rattle.store_rules.specs.Views.{GroupRow, RelRow, Records, degree, first_link, group_at, high}
+use Rattle.store_rules.specs.Views.{GroupRow, Records, RelRow, degree, first_link, group_at, high}
 use Rattle.store_rules.specs.Views.{is_live, key_in, kind_at, node_at, rec_at, rel_at, text_of}
+use Rattle.store_rules.specs.Rules.{KeepsCounts, KeepsDefinitions, KeepsDegrees, KeepsGroups}
+use Rattle.store_rules.specs.Rules.{KeepsLabels, KeepsNames}
 
 -- ---- what each rule says of the whole store
 
@@ -31,20 +33,16 @@ pub record AreSplit (records : Records) : Type 0 where
 
 -- The fourth rule: each group is on its owner's chain, and the counts of counted ones are exact.
 pub record AreGroups (records : Records) : Type 0 where
-  pub grouped : rules.IsGrouped (kind_at records format.nodes_file) (first_link records)
-      (rec_at records format.groups_file) (group_at records) []
-  pub exact : rules.AreExact (kind_at records format.groups_file)
-      (rec_at records format.groups_file) (group_at records) (rel_at records)
-      (high records format.relationships_file)
+  pub grouped : KeepsGroups records []
+  pub exact : KeepsCounts records
 
 -- The fifth rule: properties and blocks are held, and keys, labels and types are names, those of
 -- definitions too.
 pub record AreProperties (records : Records) : Type 0 where
   pub properties : rules.HaveProperties (rules.property_files records) (node_at records)
       (rel_at records) (high records format.names_file)
-  pub named : rules.AreNamed (node_at records) (rel_at records) (high records format.names_file)
-  pub defined : rules.AreDefined (kind_at records format.index_file)
-      (rec_at records format.index_file) (high records format.names_file)
+  pub named : KeepsLabels records
+  pub defined : KeepsDefinitions records
 
 -- ---- what each rule says of one record
 
@@ -333,11 +331,9 @@ Keeps records shape (suc (suc (suc zero))) = AreChained records
 Keeps records shape (suc (suc (suc (suc zero)))) =
     AreGroups records
 Keeps records shape (suc (suc (suc (suc (suc zero))))) = AreProperties records
-Keeps records shape (suc (suc (suc (suc (suc (suc zero)))))) =
-    rules.AreNames (rec_at records format.names_file) (high records format.names_file)
+Keeps records shape (suc (suc (suc (suc (suc (suc zero)))))) = KeepsNames records
 Keeps records shape (suc (suc (suc (suc (suc (suc (suc zero))))))) =
-    rules.AreCounted (kind_at records format.nodes_file) (degree records) (rel_at records)
-    (high records format.relationships_file) shape.threshold
+    KeepsDegrees records shape.threshold
 Keeps records shape (suc (suc (suc (suc (suc (suc (suc (suc zero)))))))) =
     AreIndexed records (wanted_in records)
 Keeps records shape (suc (suc (suc (suc (suc (suc (suc (suc (suc n))))))))) = Unit {0}

@@ -6,11 +6,10 @@ use Rattle.rec_bytes.specs.Format as format
 use Rattle.rec_bytes.specs.RecordFiles.{is_meta_file, meta_key_of}
 use Rattle.store_rules.specs.Indexes.{AreIndexed, wanted_in}
 use Rattle.store_rules.specs.Ranges.{AreInRange, is_reused}
-use Rattle.store_rules.specs.Rules.{AreAllLive, AreCounted, AreDefined, AreExact, AreNamed}
-use Rattle.store_rules.specs.Rules.{AreNames, HaveProperties, IsGrouped, IsLinked, IsSplit}
-use Rattle.store_rules.specs.Rules.{property_files}
-use Rattle.store_rules.specs.Views.{Records, degree, first_link, group_at, high, is_live, kind_at}
-use Rattle.store_rules.specs.Views.{node_at, rec_at, rel_at}
+use Rattle.store_rules.specs.Rules.{AreAllLive, IsSplit, KeepsCounts, KeepsDefinitions}
+use Rattle.store_rules.specs.Rules.{KeepsDegrees, KeepsGroups, KeepsLabels, KeepsLinks, KeepsNames}
+use Rattle.store_rules.specs.Rules.{KeepsProperties}
+use Rattle.store_rules.specs.Views.{Records, is_live, rec_at}
 
 -- A rule, by its name. The second is one for each file.
 pub data Rule : Type 0 where
@@ -42,27 +41,14 @@ pub record IsSplitFile (records : Records) (file : ℕ) : Type 0 where
 abbrev pub holds : Rule → Records → Shape → Slack → Type 0
 holds Ranges records shape slack = AreInRange records shape
 holds (Split file) records shape slack = IsSplitFile records file
-holds Linked records shape slack =
-    IsLinked records (kind_at records format.nodes_file) (rel_at records) (group_at records)
-holds Grouped records shape slack =
-    IsGrouped (kind_at records format.nodes_file) (first_link records)
-    (rec_at records format.groups_file) (group_at records) slack.empty
-holds Counts records shape slack =
-    AreExact (kind_at records format.groups_file) (rec_at records format.groups_file)
-    (group_at records) (rel_at records) (high records format.relationships_file)
-holds Properties records shape slack =
-    HaveProperties (property_files records) (node_at records) (rel_at records)
-    (high records format.names_file)
-holds Labels records shape slack =
-    AreNamed (node_at records) (rel_at records) (high records format.names_file)
-holds Defined records shape slack =
-    AreDefined (kind_at records format.index_file) (rec_at records format.index_file)
-    (high records format.names_file)
-holds Names records shape slack =
-    AreNames (rec_at records format.names_file) (high records format.names_file)
-holds Degrees records shape slack =
-    AreCounted (kind_at records format.nodes_file) (degree records) (rel_at records)
-    (high records format.relationships_file) slack.most
+holds Linked records shape slack = KeepsLinks records
+holds Grouped records shape slack = KeepsGroups records slack.empty
+holds Counts records shape slack = KeepsCounts records
+holds Properties records shape slack = KeepsProperties records
+holds Labels records shape slack = KeepsLabels records
+holds Defined records shape slack = KeepsDefinitions records
+holds Names records shape slack = KeepsNames records
+holds Degrees records shape slack = KeepsDegrees records slack.most
 holds Indexed records shape slack = AreIndexed records (wanted_in records)
 
 -- the rules that pass the test

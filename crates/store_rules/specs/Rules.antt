@@ -316,6 +316,46 @@ pub record AreCounted (kind degrees : ℕ → ℕ)
   pub each : (n : ℕ) → kind n ≢ format.free_kind → degrees n ≡ degree_of rels mark n
   pub few : (n : ℕ) → kind n ≡ format.sparse → degrees n ≤ most
 
+-- ---- what each says of records
+
+abbrev pub KeepsLinks : Records → Type 0
+KeepsLinks records =
+    IsLinked records (kind_at records format.nodes_file) (rel_at records) (group_at records)
+
+-- these groups may be empty
+abbrev pub KeepsGroups : Records → List ℕ → Type 0
+KeepsGroups records empty =
+    IsGrouped (kind_at records format.nodes_file) (first_link records)
+    (rec_at records format.groups_file) (group_at records) empty
+
+abbrev pub KeepsCounts : Records → Type 0
+KeepsCounts records =
+    AreExact (kind_at records format.groups_file) (rec_at records format.groups_file)
+    (group_at records) (rel_at records) (high records format.relationships_file)
+
+abbrev pub KeepsProperties : Records → Type 0
+KeepsProperties records =
+    HaveProperties (property_files records) (node_at records) (rel_at records)
+    (high records format.names_file)
+
+abbrev pub KeepsLabels : Records → Type 0
+KeepsLabels records =
+    AreNamed (node_at records) (rel_at records) (high records format.names_file)
+
+abbrev pub KeepsDefinitions : Records → Type 0
+KeepsDefinitions records =
+    AreDefined (kind_at records format.index_file) (rec_at records format.index_file)
+    (high records format.names_file)
+
+abbrev pub KeepsNames : Records → Type 0
+KeepsNames records = AreNames (rec_at records format.names_file) (high records format.names_file)
+
+-- so many relationships a sparse node may have
+abbrev pub KeepsDegrees : Records → ℕ → Type 0
+KeepsDegrees records most =
+    AreCounted (kind_at records format.nodes_file) (degree records) (rel_at records)
+    (high records format.relationships_file) most
+
 -- ---- these rules together; the eighth, of the indexes, stands beside them
 
 -- The first seven rules of a store of this shape. So many relationships a sparse node may have, and
@@ -327,20 +367,14 @@ pub record KeepsRules (records : Records) (shape : Shape) (most : ℕ) (empty : 
       → (free : List ℕ) × IsSplit records file (is_live records file) free
   pub kept : (file : ℕ) → is_meta_file file ≡ true → is_reused file ≡ false
       → AreAllLive records file
-  pub linked : IsLinked records (kind_at records format.nodes_file) (rel_at records)
-      (group_at records)
-  pub grouped : IsGrouped (kind_at records format.nodes_file) (first_link records)
-      (rec_at records format.groups_file) (group_at records) empty
-  pub exact : AreExact (kind_at records format.groups_file) (rec_at records format.groups_file)
-      (group_at records) (rel_at records) (high records format.relationships_file)
-  pub properties : HaveProperties (property_files records) (node_at records) (rel_at records)
-      (high records format.names_file)
-  pub named : AreNamed (node_at records) (rel_at records) (high records format.names_file)
-  pub defined : AreDefined (kind_at records format.index_file)
-      (rec_at records format.index_file) (high records format.names_file)
-  pub names : AreNames (rec_at records format.names_file) (high records format.names_file)
-  pub degrees : AreCounted (kind_at records format.nodes_file) (degree records) (rel_at records)
-      (high records format.relationships_file) most
+  pub linked : KeepsLinks records
+  pub grouped : KeepsGroups records empty
+  pub exact : KeepsCounts records
+  pub properties : KeepsProperties records
+  pub named : KeepsLabels records
+  pub defined : KeepsDefinitions records
+  pub names : KeepsNames records
+  pub degrees : KeepsDegrees records most
 
 -- the records of a well-formed store of this shape, whatever its indexes are
 abbrev pub IsWellFormed : Records → Shape → Type 0

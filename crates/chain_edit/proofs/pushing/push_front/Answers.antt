@@ -173,7 +173,8 @@ pub returns-in_err-back-clause-breaks : goal.returns-in_err-back-clause-breaks
 returns-in_err-back-clause-breaks g c _ _ _ = space_has _ tt tt c.from_residual-in_err-back.result c.in_err-back.field-0.0 c.from_residual-in_err-back.ensures.1
 
 pub returns-in_err-back-clause-not_damaged : goal.returns-in_err-back-clause-not_damaged
-returns-in_err-back-clause-not_damaged g c _ _ = space_has _ tt tt c.from_residual-in_err-back.result c.in_err-back.field-0.0 c.from_residual-in_err-back.ensures.1
+returns-in_err-back-clause-not_damaged g c _ _ =
+    space_has _ tt tt c.from_residual-in_err-back.result c.in_err-back.field-0.0 c.from_residual-in_err-back.ensures.1
 
 pub returns-in_err-back-clause-unwritten : goal.returns-in_err-back-clause-unwritten
 returns-in_err-back-clause-unwritten g c = space_has _ tt tt c.from_residual-in_err-back.result c.in_err-back.field-0.0 c.from_residual-in_err-back.ensures.1

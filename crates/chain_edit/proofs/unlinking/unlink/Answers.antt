@@ -715,7 +715,8 @@ pub returns-in_err-put-clause-breaks : goal.returns-in_err-put-clause-breaks
 returns-in_err-put-clause-breaks g c _ _ _ _ = space_has _ tt tt c.from_residual-in_err-put.result c.in_err-put.field-0.0 c.from_residual-in_err-put.ensures.1
 
 pub returns-in_err-put-clause-not_damaged : goal.returns-in_err-put-clause-not_damaged
-returns-in_err-put-clause-not_damaged g c _ _ _ _ _ = space_has _ tt tt c.from_residual-in_err-put.result c.in_err-put.field-0.0 c.from_residual-in_err-put.ensures.1
+returns-in_err-put-clause-not_damaged g c _ _ _ _ _ =
+    space_has _ tt tt c.from_residual-in_err-put.result c.in_err-put.field-0.0 c.from_residual-in_err-put.ensures.1
 
 pub returns-in_err-put-clause-unwritten : goal.returns-in_err-put-clause-unwritten
 returns-in_err-put-clause-unwritten g c = space_has _ tt tt c.from_residual-in_err-put.result c.in_err-put.field-0.0 c.from_residual-in_err-put.ensures.1

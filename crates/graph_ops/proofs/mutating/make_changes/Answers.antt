@@ -187,7 +187,8 @@ pub returns-in_err-weight-in-AddE-clause-ids : goal.returns-in_err-weight-in-Add
 returns-in_err-weight-in-AddE-clause-ids g c _ = never_ok c.from_residual-in_err-weight-in-AddE.result _ _ c.from_residual-in_err-weight-in-AddE.ensures.1
 
 pub returns-in_err-weight-in-Property-clause-ids : goal.returns-in_err-weight-in-Property-clause-ids
-returns-in_err-weight-in-Property-clause-ids g c _ = never_ok c.from_residual-in_err-weight-in-Property.result _ _ c.from_residual-in_err-weight-in-Property.ensures.1
+returns-in_err-weight-in-Property-clause-ids g c _ =
+    never_ok c.from_residual-in_err-weight-in-Property.result _ _ c.from_residual-in_err-weight-in-Property.ensures.1
 
 pub returns-in_err-weight-in-Drop-clause-ids : goal.returns-in_err-weight-in-Drop-clause-ids
 returns-in_err-weight-in-Drop-clause-ids g c _ = never_ok c.from_residual-in_err-weight-in-Drop.result _ _ c.from_residual-in_err-weight-in-Drop.ensures.1

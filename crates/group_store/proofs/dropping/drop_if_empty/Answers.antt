@@ -640,7 +640,8 @@ returns-in_err-give-clause-breaks g c _ _ _ _ = space_has _ tt tt c.from_residua
     c.from_residual-in_err-give.ensures.1
 
 pub returns-in_err-give-clause-not_damaged : goal.returns-in_err-give-clause-not_damaged
-returns-in_err-give-clause-not_damaged g c _ _ _ = space_has _ tt tt c.from_residual-in_err-give.result c.in_err-give.field-0.0 c.from_residual-in_err-give.ensures.1
+returns-in_err-give-clause-not_damaged g c _ _ _ =
+    space_has _ tt tt c.from_residual-in_err-give.result c.in_err-give.field-0.0 c.from_residual-in_err-give.ensures.1
 
 pub returns-in_err-give-clause-unwritten : goal.returns-in_err-give-clause-unwritten
 returns-in_err-give-clause-unwritten g c = space_has _ tt tt c.from_residual-in_err-give.result c.in_err-give.field-0.0 c.from_residual-in_err-give.ensures.1

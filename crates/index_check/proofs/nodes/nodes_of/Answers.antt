@@ -128,7 +128,8 @@ pub returns-in_err-push-in-Some-clause-low : goal.returns-in_err-push-in-Some-cl
 returns-in_err-push-in-Some-clause-low g c = never_ok c.from_residual-in_err-push-in-Some.result _ _ c.from_residual-in_err-push-in-Some.ensures.1
 
 pub returns-in_err-push-in-Some-clause-not_damaged : goal.returns-in_err-push-in-Some-clause-not_damaged
-returns-in_err-push-in-Some-clause-not_damaged g c _ _ = same_has _ c.from_residual-in_err-push-in-Some.result _ c.from_residual-in_err-push-in-Some.ensures.1 tt
+returns-in_err-push-in-Some-clause-not_damaged g c _ _ =
+    same_has _ c.from_residual-in_err-push-in-Some.result _ c.from_residual-in_err-push-in-Some.ensures.1 tt
 
 pub returns-clause-cause : goal.returns-clause-cause
 returns-clause-cause g c = ok_cause _ _ _ _ c.loop-id.invariant.read.later

@@ -25,7 +25,8 @@ returns-in_err-release-clause-not_damaged g c tells e held = space_exit c.from_r
     c.from_residual-in_err-release.ensures.1
 
 pub returns-in_err-give-clause-not_damaged : goal.returns-in_err-give-clause-not_damaged
-returns-in_err-give-clause-not_damaged g c tells e held = space_exit c.from_residual-in_err-give.result c.in_err-give.field-0.0 c.from_residual-in_err-give.ensures.1
+returns-in_err-give-clause-not_damaged g c tells e held =
+    space_exit c.from_residual-in_err-give.result c.in_err-give.field-0.0 c.from_residual-in_err-give.ensures.1
 
 pub returns-clause-dropped : goal.returns-clause-dropped
 returns-clause-dropped g c tells e held =

@@ -65,11 +65,13 @@ returns-in-Node-clause-found g c =
     rw (c.in-Node.is, c.drafted_done.ensures)
     (found-call (commands.Delete (targets.Node c.in-Node.id)) c.args.self.now tt (λ (weight : ℕ). answers.Done) (λ (weight : ℕ). weight)
     (IsDeleteCause s t c.in-Node.id) c.delete_node.result (λ told. c.delete_node.ensures.found told)
-    (λ fault at_once. deletion-aside s t c.in-Node.id fault) s t c.args.self.now.names.names c.args.self.now.names.names (λ told. c.delete_node.ensures.caused told))
+    (λ fault at_once. deletion-aside s t c.in-Node.id fault) s t c.args.self.now.names.names c.args.self.now.names.names
+    (λ told. c.delete_node.ensures.caused told))
 
 pub returns-in-Edge-clause-found : goal.returns-in-Edge-clause-found
 returns-in-Edge-clause-found g c =
     rw (c.in-Edge.is, c.drafted_done-in-Edge.ensures)
     (found-all (commands.Delete (targets.Edge c.in-Edge.id)) c.args.self.now (λ (weight : ℕ). answers.Done) (λ (weight : ℕ). weight)
     c.delete_edge.result (λ told. c.delete_edge.ensures.damaged told) tt
-    (state_of c.args.self.now.store) (state_of c.delete_edge.new.space) c.args.self.now.names.names c.args.self.now.names.names (λ told. c.delete_edge.ensures.caused told))
+    (state_of c.args.self.now.store) (state_of c.delete_edge.new.space) c.args.self.now.names.names c.args.self.now.names.names
+    (λ told. c.delete_edge.ensures.caused told))
