@@ -13,6 +13,9 @@ use Rattle.expand.specs.ExpandFault as expand
 use Rattle.expand.proofs.LoadedRows.{row_fault}
 use Rattle.plain_graph.specs.Adjacency.{Adjacency}
 use Rattle.plain_graph.specs.Reached.{IsAnswer}
+use Rattle.chain_edit.specs.Walking.{ReadsAtMost}
+use Rattle.path_find.specs.Costs.{TwoSearches, searches_reads}
+use Rattle.path_find.specs.Meeting.{reversed}
 use Rattle.path_find.specs.Damage.{BlamesBroken}
 use Rattle.plain_graph.specs.Reached.{IsLeastOrNone}
 use Rattle.path_find.specs.Finding.{IsPathFault, TellsEnds}
@@ -78,3 +81,20 @@ module _ (s : State) (store : IsWhole s) (direction : Direction) (labels : List 
       (subst (λ (u : State). has_node (graph_in u) to ≡ true) (sym same) to_there) in
       let at_s = subst (λ (u : State). IsLeastOrNone (neighbours_at u direction labels) from to walk) same at_t in
       subst (λ (near : Adjacency). IsLeastOrNone near from to walk) (neighbours_are s store direction labels types stand) at_s
+
+  -- and what was read for it
+  pub costs_walk : (t : State) → SameButReads s t → (from to : ℕ) → has_node (graph_in s) from ≡ true → has_node (graph_in s) to ≡ true → (walk : List ℕ)
+      → (new : State) → (IsWhole t → has_node (graph_in t) from ≡ true → has_node (graph_in t) to ≡ true
+      → (searches : TwoSearches (neighbours_at t direction labels) (neighbours_at t (reversed direction) labels) from to walk)
+      × ReadsAtMost (searches_reads t direction labels searches) t new)
+      → (searches : TwoSearches (adjacency_of s direction types) (adjacency_of s (reversed direction) types) from to walk)
+      × ReadsAtMost (searches_reads s direction labels searches) t new
+  costs_walk t same from to there to_there walk new cost =
+      let at_t = cost (subst IsWhole (sym same) store) (subst (λ (u : State). has_node (graph_in u) from ≡ true) (sym same) there)
+      (subst (λ (u : State). has_node (graph_in u) to ≡ true) (sym same) to_there) in
+      let at_s = subst (λ (u : State). (searches : TwoSearches (neighbours_at u direction labels) (neighbours_at u (reversed direction) labels) from to walk)
+      × ReadsAtMost (searches_reads u direction labels searches) t new) same at_t in
+      let near = subst (λ (near : Adjacency). (searches : TwoSearches near (neighbours_at s (reversed direction) labels) from to walk)
+      × ReadsAtMost (searches_reads s direction labels searches) t new) (neighbours_are s store direction labels types stand) at_s in
+      subst (λ (back : Adjacency). (searches : TwoSearches (adjacency_of s direction types) back from to walk)
+      × ReadsAtMost (searches_reads s direction labels searches) t new) (neighbours_are s store (reversed direction) labels types stand) near

@@ -7,7 +7,7 @@ use Rattle.plain_graph.specs.Reached.{HoldReached, IsAnswer}
 use Rattle.plain_graph.specs.Levels.{HasLevel, level_of}
 use Rattle.path_find.specs.Reading.{AreLevelsOf}
 use Rattle.path_find.specs.Search.{IsSearched}
-use Rattle.path_find.specs.Tree.{Rows, Spans, level_at, node_at, row_count, way_to}
+use Rattle.path_find.specs.Tree.{Rows, Spans, level_at, node_at, parent_at, row_count, way_to}
 use Rattle.plain_graph.specs.Walks.{HasNoWalk, IsDistance, IsNotAfter, IsShortest, IsWalk, LeadsTo}
 use Rattle.plain_graph.specs.declared.node_level.NodeLevel.{NodeLevel}
 use Rattle.path_find.proofs.TreeWalks.{length-way_to, level-least, one_row, reached, way_to-leads, way_to-least}
@@ -103,7 +103,12 @@ module _ (near : Adjacency) (rows : Rows) (from to : ℕ) (searched : IsSearched
 
     goal_most : (i : ℕ) → i < row_count rows → level_at rows i ≤ level_at rows goal
     goal_most i lt = elim (cases_lt 0 i) [
-      | inl pos ↦ let narrow = searched.narrow goal i low is pos lt in let level = (searched.tree.grown i pos lt).level in omega (arith, narrow, level)
+      | inl pos ↦
+          let grown = searched.tree.grown i pos lt in
+          let earlier = grown.earlier in
+          let level = grown.level in
+          let nearer = searched.nearer goal (parent_at rows i) low is (searched.tree.early i pos lt) (omega (arith, earlier, lt)) in
+          omega (arith, nearer, level)
       | inr le ↦ let none : i ≡ 0 = omega arith in let same = ap (level_at rows) none in let root = searched.tree.root in omega (arith, same, root)
     ]
 

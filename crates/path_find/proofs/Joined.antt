@@ -1,14 +1,18 @@
 -- What searches from both ends have found is the least walk.
-use Rattle.std.proofs.Common.{◌≡◌, ◌<◌, ◌≤◌, inl, inr, ℕ, ◌+◌, List, [], ◌∷◌, ◌++◌, length, Contains, refl, sym, ap, subst, ◌∙◌, arith}
+use Rattle.std.proofs.Common.{◌≡◌, ◌<◌, ◌≤◌, inl, inr, ℕ, ◌+◌, List, [], ◌∷◌, ◌++◌, length, take, drop, Contains, refl, sym, ap, subst, ◌∙◌, arith}
+use Rattle.std.specs.Prelude.{IfSome}
 use Rattle.std.proofs.lemmas.Bool.{cases_lt}
 use Rattle.std.proofs.lemmas.List.{length-append}
 use Rattle.std.proofs.lemmas.List.Elements.{Contains-get_or}
 use Rattle.plain_graph.specs.Adjacency.{Adjacency}
 use Rattle.plain_graph.specs.Walks.{HasNoWalk, IsLeastShortest, IsNotAfter, IsWalk, LeadsTo}
 use Rattle.plain_graph.specs.Reached.{IsLeastOrNone}
+use Rattle.path_find.specs.Checking.{edges_of}
+use Rattle.path_find.specs.Costs.{but_last}
 use Rattle.path_find.specs.Meeting.{AreApart, AreJoined, IsShared}
 use Rattle.path_find.specs.Reach.{AreLayers}
 use Rattle.path_find.specs.Tree.{Rows, Spans, level_at, node_at, row_count, way_to}
+use Rattle.path_find.proofs.Costs.{drop_way}
 use Rattle.path_find.proofs.Descents.{behind, descent-leads, descent-least}
 use Rattle.path_find.proofs.ListOrder.{not_after-earlier, not_after-join}
 use Rattle.path_find.proofs.Opposites.{AreOpposite, turn}
@@ -221,6 +225,17 @@ module _ (near back : Adjacency) (there : AreOpposite near back) (return : AreOp
             sym is.0,
             first later (subst (λ n. LeadsTo near n later to) is.0 is.1) (let mine = long in omega
                 (arith, same, mine)),
+          )
+
+      -- the walk has the edges of both, and the way on is what is left of it
+      pub meets_at : IfSome (edges_of walk) (λ edges. ahead_depth + behind_depth ≡ edges)
+          × (but_last (node_at ahead joined.row) joined.way ≡ take behind_depth (drop ahead_depth walk))
+      meets_at =
+          let left = drop_way ahead ahead_done ahead_layers.tree ahead_depth joined.row joined.way joined.low full.first in
+          let walk_is = joined.is ∙ ap (λ l. from ∷ (way_to ahead l joined.row ++ joined.way)) full.first in (
+            subst (λ (list : List ℕ). IfSome (edges_of list) (λ edges. ahead_depth + behind_depth ≡ edges)) (sym joined.is) (sym long),
+            ap (λ n. take n (node_at ahead joined.row ∷ joined.way)) (joined.long ∙ full.second)
+                ∙ ap (take behind_depth) (sym left ∙ ap (drop ahead_depth) (sym walk_is)),
           )
 
       pub least_walk : IsLeastOrNone near from to walk

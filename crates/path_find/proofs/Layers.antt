@@ -12,6 +12,7 @@ layers_begin node = record {
   tree = tree_begin node;
   within = omega arith;
   most = λ i low. by i low;
+  below = λ i lt. absurd (omega arith);
   complete = λ i low less. absurd (omega arith);
 }
   where
@@ -67,6 +68,7 @@ module _ (old new : Rows) (done depth : ℕ) (layers : AreLayers old done depth)
       | inl early ↦ let same = grows.levels i early in let most = layers.most i early in omega (arith, same, most)
       | inr late ↦ let is = level_new i late low in omega (arith, is)
     ];
+    below = λ i early. let same = grows.levels i early in let most = layers.most i early in omega (arith, same, most);
     complete = λ i low less. elim (cases_lt i (row_count old)) [
       | inl early ↦ early
       | inr late ↦ let is = level_new i late low in absurd (omega (arith, is, less))

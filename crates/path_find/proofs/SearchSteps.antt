@@ -1,10 +1,11 @@
 -- The steps of a search.
-use Rattle.std.proofs.Common.{◌≡◌, ◌<◌, ◌≤◌, inl, inr, ℕ, zero, suc, ◌+◌, true, refl, sym, ap, ◌∙◌, arith}
+use Rattle.std.proofs.Common.{◌≡◌, ◌<◌, ◌≤◌, inl, inr, ℕ, zero, suc, ◌+◌, take, true, refl, sym, ap, ◌∙◌, arith}
 use Rattle.std.proofs.lemmas.Bool.{cases_lt}
 use Rattle.plain_graph.specs.Adjacency.{Adjacency}
 use Rattle.path_find.specs.Growing.{Extends}
-use Rattle.path_find.specs.Search.{IsFoundWithin, IsNarrow, IsSearched}
-use Rattle.path_find.specs.Tree.{IsTree, Rows, Spans, level_at, node_at, one_row, parent_at, row_count}
+use Rattle.path_find.specs.Search.{AreNearer, IsFoundWithin, IsSearched}
+use Rattle.path_find.specs.Tree.{IsTree, Rows, Spans, level_at, node_at, one_row, row_count}
+use Rattle.path_find.proofs.Costs.{take_same}
 use Rattle.path_find.proofs.TreeWalks.{level-rises}
 
 -- ---- the first node alone
@@ -36,11 +37,10 @@ module _ (from : ℕ) where
 -- ---- on by one row
 
 module _ (rows new : Rows) (at to : ℕ) (tree : IsTree rows at) (tree' : IsTree new (at + 1)) (low : at < row_count rows) (extends : Extends rows new at) where
-  pub narrow_on : ((target : ℕ) → target < row_count rows → node_at rows target ≡ to → level_at rows at < level_at rows target) → IsNarrow new to
-  narrow_on before target i target_low is pos i_low =
-      let early = tree'.early i pos i_low in
-      let up = level-rises rows at tree (level_at rows (parent_at new i)) (parent_at new i) at refl (omega (arith, early)) low in
-      let up_same = extends.levels (parent_at new i) (omega (arith, early, low)) in
+  pub nearer_on : ((target : ℕ) → target < row_count rows → node_at rows target ≡ to → level_at rows at < level_at rows target) → AreNearer new (at + 1) to
+  nearer_on before target i target_low is lt i_low =
+      let up = level-rises rows at tree (level_at rows i) i at refl (omega (arith, lt)) low in
+      let up_same = extends.levels i (omega (arith, lt, low)) in
       elim (cases_lt target (row_count rows)) [
         | inl old ↦
             let less = before target old (sym (extends.nodes target old) ∙ is) in
@@ -53,6 +53,10 @@ module _ (rows new : Rows) (at to : ℕ) (tree : IsTree rows at) (tree' : IsTree
             let same = extends.levels at low in
             omega (arith, up, up_same, grown, parent, same)
       ]
+
+  pub first_kept : take (at + 1) new.nodes ≡ take (at + 1) rows.nodes
+  first_kept = let more = extends.more in take_same (at + 1) new.nodes rows.nodes (omega (arith, low, more)) (omega (arith, low))
+      (λ i lt. extends.nodes i (omega (arith, lt, low)))
 
   pub first_on : (from : ℕ) → node_at rows 0 ≡ from → node_at new 0 ≡ from
   first_on from is = extends.nodes 0 tree.some ∙ is
@@ -70,12 +74,20 @@ tree_past rows at tree = record {
   early = λ i pos lt. let early = tree.early i pos lt in omega (arith, early);
 }
 
+-- and it is nearer than the target
+pub nearer_past : (rows : Rows) (at to : ℕ) → IsTree rows at → at < row_count rows
+    → ((target : ℕ) → target < row_count rows → node_at rows target ≡ to → level_at rows at < level_at rows target) → AreNearer rows (at + 1) to
+nearer_past rows at to tree low before target i target_low is lt i_low =
+    let up = level-rises rows at tree (level_at rows i) i at refl (omega (arith, lt)) low in
+    let less = before target target_low is in
+    omega (arith, up, less)
+
 -- ---- the end
 
-module _ (rows : Rows) (at from to : ℕ) (tree : IsTree rows at) (first : node_at rows 0 ≡ from) (narrow : IsNarrow rows to) where
+module _ (rows : Rows) (at from to : ℕ) (tree : IsTree rows at) (first : node_at rows 0 ≡ from) (nearer : AreNearer rows at to) where
   -- all rows are done
   abbrev pub searched_all : row_count rows ≤ at → IsSearched rows from to
-  searched_all all = record { done = at; tree = tree; first = first; narrow = narrow; left = λ i late low. absurd (omega arith) }
+  searched_all all = record { done = at; tree = tree; first = first; nearer = nearer; left = λ i late low. absurd (omega arith) }
 
   -- or those nearer than the target
   abbrev pub searched_near : at < row_count rows → IsFoundWithin rows to (level_at rows at) → IsSearched rows from to
@@ -83,7 +95,7 @@ module _ (rows : Rows) (at from to : ℕ) (tree : IsTree rows at) (first : node_
     done = at;
     tree = tree;
     first = first;
-    narrow = narrow;
+    nearer = nearer;
     left = λ i late i_low. record {
       row = found.row;
       low = found.low;

@@ -1,4 +1,5 @@
 pub mod Checking
+pub mod Costs
 pub mod Damage
 pub mod Ends
 pub mod Finding

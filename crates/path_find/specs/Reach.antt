@@ -8,6 +8,7 @@ pub record AreLayers (rows : Rows) (done depth : ℕ) : Type 0 where
   pub tree : IsTree rows done
   pub within : done ≤ row_count rows
   pub most : (i : ℕ) → i < row_count rows → level_at rows i ≤ depth
+  pub below : (i : ℕ) → i < done → level_at rows i < depth
   pub complete : (i : ℕ) → i < row_count rows → level_at rows i < depth → i < done
 
 -- the rows have levels up to some, of which the last may grow

@@ -1,6 +1,7 @@
 //! Whether levels prove what they are to prove.
 
 ghost use Rattle.std.specs.Prelude.{◌≡◌, ◌↔◌, IfErr, IfOk, IsTrue, List, ℕ, map};
+ghost use Rattle.std.specs.List.{sum_by};
 ghost use Rattle.std.specs.Bool.{OnFalse, OnTrue};
 ghost use Rattle.plain_graph.specs.Levels.{IsCertified, IsShortestOrNone};
 ghost use Rattle.rec_bytes.specs.Fault.{HasFaultCause};
@@ -13,6 +14,8 @@ ghost use Rattle.path_find.specs.Checking.{
   is_last,
   is_past,
 };
+ghost use Rattle.chain_edit.specs.Walking.{ReadsAtMost};
+ghost use Rattle.path_find.specs.Costs.{check_reads, row_reads};
 ghost use Rattle.path_find.specs.Damage.{BlamesBroken};
 ghost use Rattle.path_find.specs.Reading.{node_of};
 ghost use Rattle.path_find.specs.Reads.{StandFor, adjacency_of};
@@ -39,10 +42,6 @@ struct Claim<'a> {
 
 /// Whether the levels prove that no walk that is sought is shorter, or where no walk is given, that
 /// there is none.
-///
-/// It costs what `expand` reads at each node of the walk but the last, and once more at each node
-/// of the levels that is nearer than the target, or at each of them where no walk is given. The
-/// others cost a read each.
 pub fn check_levels<R: Reads>(
     alloc: Global,
     reads: &mut R,
@@ -60,6 +59,10 @@ pub fn check_levels<R: Reads>(
         → IfOk result (λ yes. IsTrue yes
         → IsShortestOrNone (adjacency_of (R.state reads.old) sought.now.direction types)
         sought.now.from sought.now.to answer.now.walk) }
+    // whatever is answered
+    ensures cost { R.tells → IsWhole (R.state reads.old) → ReadsAtMost
+        (check_reads (R.state reads.old) sought.now.direction sought.now.labels.now
+        answer.now.walk answer.now.levels) (R.state reads.old) (R.state reads.new) }
     ensures damaged { R.tells → IfErr result (BlamesBroken (R.state reads.old)) }
     ensures read { IsRead R.Reads reads.old reads.new }
     ensures cause { HasFaultCause (R.faults reads.old) (R.faults reads.new) result }
@@ -108,6 +111,9 @@ fn all_spread<R: Reads>(
     ensures no { R.tells → IsWhole (R.state reads.old) → IfOk result (λ yes. OnFalse yes
         (¬ AllSpread (neighbours_for (R.state reads.old) sought.now)
         claim.now.levels.now claim.now.edges)) }
+    ensures cost { R.tells → IsWhole (R.state reads.old) → ReadsAtMost
+        (sum_by (row_reads (R.state reads.old) sought.now.direction sought.now.labels.now
+        claim.now.edges) claim.now.levels.now) (R.state reads.old) (R.state reads.new) }
     ensures damaged { R.tells → IfErr result (BlamesBroken (R.state reads.old)) }
     ensures read { IsRead R.Reads reads.old reads.new }
     ensures cause { HasFaultCause (R.faults reads.old) (R.faults reads.new) result }
@@ -138,6 +144,9 @@ fn is_spread<R: Reads>(
     ensures no { R.tells → IsWhole (R.state reads.old) → IfOk result (λ yes. OnFalse yes
         (¬ IsSpreadAt (neighbours_for (R.state reads.old) sought.now)
         claim.now.levels.now claim.now.edges row)) }
+    ensures cost { R.tells → IsWhole (R.state reads.old) → ReadsAtMost
+        (row_reads (R.state reads.old) sought.now.direction sought.now.labels.now
+        claim.now.edges row) (R.state reads.old) (R.state reads.new) }
     ensures damaged { R.tells → IfErr result (BlamesBroken (R.state reads.old)) }
     ensures read { IsRead R.Reads reads.old reads.new }
     ensures cause { HasFaultCause (R.faults reads.old) (R.faults reads.new) result }

@@ -3,6 +3,9 @@
 ghost use Rattle.std.specs.Prelude.{◌≡◌, ◌<◌, ℕ, IfErr, IfNone, IfOk, IfSome, length};
 ghost use Rattle.rec_bytes.specs.Fault.{HasFaultCause};
 ghost use Rattle.rec_bytes.specs.Frame.{IsRead};
+ghost use Rattle.chain_edit.specs.Walking.{ReadsAtMost};
+ghost use Rattle.expand.specs.Costs.{most_reads};
+ghost use Rattle.path_find.specs.Costs.{but_last, nodes_reads};
 ghost use Rattle.path_find.specs.Damage.{BlamesBroken};
 ghost use Rattle.path_find.specs.Meeting.{
   CanDescend,
@@ -14,7 +17,7 @@ ghost use Rattle.path_find.specs.Meeting.{
   SomeAtLevel,
 };
 ghost use Rattle.path_find.specs.Reading.{IsSomeTree};
-ghost use Rattle.path_find.specs.Tree.{level_at, row_count};
+ghost use Rattle.path_find.specs.Tree.{level_at, node_at, row_count};
 ghost use Rattle.path_find.specs.WalkSearch.{neighbours_for};
 ghost use Rattle.store_rules.specs.Rules.{IsWhole};
 
@@ -25,7 +28,6 @@ use rec_bytes::{Fault, Reads};
 use std::alloc::Global;
 
 /// The nodes after a row's up to the first one's, each the least neighbour that is a level lower.
-/// The neighbours of each but the last are read once.
 pub(crate) fn descend<R: Reads>(
     alloc: Global,
     space: &mut R,
@@ -42,6 +44,9 @@ pub(crate) fn descend<R: Reads>(
     ensures long { R.tells → IsWhole (R.state space.old)
         → CanDescend (neighbours_for (R.state space.old) sought.now) tree.now
         → IfOk result (λ way. length way.items ≡ level_at tree.now row) }
+    ensures cost { R.tells → IsWhole (R.state space.old) → IfOk result (λ way. ReadsAtMost
+        (nodes_reads (R.state space.old) sought.now.direction sought.now.labels.now
+        (but_last (node_at tree.now row) way.items)) (R.state space.old) (R.state space.new)) }
     ensures damaged { R.tells → IfErr result (BlamesBroken (R.state space.old)) }
     ensures read { IsRead R.Reads space.old space.new }
     ensures cause { HasFaultCause (R.faults space.old) (R.faults space.new) result }
@@ -75,6 +80,9 @@ fn next_row<R: Reads>(
         HasNearer (neighbours_for (R.state space.old) sought.now) tree.now at level
         → IsNextRow (neighbours_for (R.state space.old) sought.now) tree.now at level
         row) }
+    ensures cost { R.tells → IsWhole (R.state space.old)
+        → ReadsAtMost (most_reads (R.state space.old) sought.now.direction sought.now.labels.now
+        (node_at tree.now at)) (R.state space.old) (R.state space.new) }
     ensures damaged { R.tells → IfErr result (BlamesBroken (R.state space.old)) }
     ensures read { IsRead R.Reads space.old space.new }
     ensures cause { HasFaultCause (R.faults space.old) (R.faults space.new) result }

@@ -1,14 +1,17 @@
-ghost use Rattle.std.specs.Prelude.{ℕ, List, IfErr, IfOk};
+ghost use Rattle.std.specs.Prelude.{◌<◌, ℕ, List, Contains, IfErr, IfOk};
 ghost use Rattle.plain_graph.specs.Graph.{has_node};
 ghost use Rattle.rec_bytes.specs.Frame.{IsRead};
 ghost use Rattle.expand.specs.ExpandFault.{HasExpandCause};
 ghost use Rattle.plain_graph.specs.Adjacency.{Adjacency};
 ghost use Rattle.plain_graph.specs.Reached.{IsAnswer};
+ghost use Rattle.chain_edit.specs.Walking.{ReadsAtMost};
+ghost use Rattle.path_find.specs.Costs.{ReadsEnds, nearer_nodes, path_reads};
 ghost use Rattle.path_find.specs.Finding.{IsPathFault, TellsEnds};
 ghost use Rattle.plain_graph.specs.Levels.{IsCertified, IsShortestOrNone};
 ghost use Rattle.path_find.specs.Reading.{IsSomeTree};
 ghost use Rattle.path_find.specs.Reads.{StandFor, adjacency_of};
-ghost use Rattle.path_find.specs.Search.{HasSearched};
+ghost use Rattle.path_find.specs.Search.{AreNearer, HasSearched};
+ghost use Rattle.path_find.specs.Tree.{node_at, row_count};
 ghost use Rattle.store_rules.specs.Rules.{IsWhole};
 ghost use Rattle.store_rules.specs.Graph.{graph_in};
 
@@ -26,9 +29,6 @@ use std::alloc::{AllocError, Global};
 /// numbers, or of all types where none is given. Of the shortest walks it is the one whose list of
 /// identifiers is least; it is empty where there is none. The levels hold the nodes that no more
 /// edges reach, or without a walk all that any number of edges reaches.
-///
-/// It costs a read for each of the two nodes, and what `expand` reads at each node that is nearer
-/// than the target, once.
 pub fn find_path<R: Reads>(
     alloc: Global,
     reads: &mut R,
@@ -50,6 +50,11 @@ pub fn find_path<R: Reads>(
         → StandFor (R.state reads.old).records labels.now types → IfOk result (λ answer.
         IsCertified (adjacency_of (R.state reads.old) direction types) from to
         answer.walk answer.levels) }
+    // a node that is nearer than the target is read once, and no other but the two
+    ensures cost { R.tells → IsWhole (R.state reads.old) → IfOk result (λ answer. ReadsAtMost
+        (path_reads (R.state reads.old) direction labels.now answer.walk answer.levels)
+        (R.state reads.old) (R.state reads.new)) }
+    ensures missing_cost { IfErr result (ReadsEnds (R.state reads.old) (R.state reads.new)) }
     ensures missing { R.tells → IsWhole (R.state reads.old)
         → TellsEnds result from to (has_node (graph_in (R.state reads.old)) from)
         (has_node (graph_in (R.state reads.old)) to) }
@@ -73,8 +78,12 @@ pub fn find_path<R: Reads>(
 /// What a search of the target found.
 fn answer_of(alloc: Global, tree: &Tree, to: u32) -> Result<Answer, AllocError>
     requires { IsSomeTree tree.now }
-    ensures { (near : Adjacency) (from : ℕ) → HasSearched near tree.now from to
+    ensures is { (near : Adjacency) (from : ℕ) → HasSearched near tree.now from to
         → IfOk result (λ answer. IsAnswer near from to answer.walk answer.levels) }
+    // the nodes of rows that are nearer are told as such
+    ensures nearer { (done : ℕ) → AreNearer tree.now done to → IfOk result (λ answer.
+        (i : ℕ) → i < done → i < row_count tree.now
+        → Contains (nearer_nodes answer.walk answer.levels) (node_at tree.now i)) }
 {
     let walk = match tree.find(to) {
         Some(row) => walk_to(alloc, tree, row)?,

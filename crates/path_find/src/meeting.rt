@@ -5,6 +5,15 @@ ghost use Rattle.std.specs.Bool.{OnFalse, OnTrue};
 ghost use Rattle.plain_graph.specs.Graph.{has_node};
 ghost use Rattle.rec_bytes.specs.Fault.{HasFaultCause};
 ghost use Rattle.rec_bytes.specs.Frame.{IsRead};
+ghost use Rattle.chain_edit.specs.Walking.{ReadsAtMost};
+ghost use Rattle.path_find.specs.Costs.{
+  ReadsBetween,
+  TwoSearches,
+  but_last,
+  nodes_reads,
+  reach_reads,
+  searches_reads,
+};
 ghost use Rattle.path_find.specs.Damage.{BlamesBroken};
 ghost use Rattle.plain_graph.specs.Reached.{IsLeastOrNone};
 ghost use Rattle.path_find.specs.Meeting.{
@@ -17,7 +26,7 @@ ghost use Rattle.path_find.specs.Meeting.{
 };
 ghost use Rattle.path_find.specs.Reach.{AreLayers, begun};
 ghost use Rattle.path_find.specs.Reading.{IsSomeTree};
-ghost use Rattle.path_find.specs.Tree.{IsTree, Spans, row_count};
+ghost use Rattle.path_find.specs.Tree.{IsTree, Spans, node_at, row_count};
 ghost use Rattle.path_find.specs.WalkSearch.{neighbours_back, neighbours_for};
 ghost use Rattle.store_rules.specs.Rules.{IsWhole};
 ghost use Rattle.store_rules.specs.Graph.{graph_in};
@@ -44,6 +53,14 @@ pub(crate) fn meet<R: Reads>(
         → has_node (graph_in (R.state space.old)) sought.now.to ≡ true → IfOk result (λ walk.
         IsLeastOrNone (neighbours_for (R.state space.old) sought.now)
         sought.now.from sought.now.to walk.items) }
+    ensures cost { R.tells → IsWhole (R.state space.old)
+        → has_node (graph_in (R.state space.old)) sought.now.from ≡ true
+        → has_node (graph_in (R.state space.old)) sought.now.to ≡ true → IfOk result (λ walk.
+        (searches : TwoSearches (neighbours_for (R.state space.old) sought.now)
+        (neighbours_back (R.state space.old) sought.now)
+        sought.now.from sought.now.to walk.items)
+        × ReadsAtMost (searches_reads (R.state space.old) sought.now.direction
+        sought.now.labels.now searches) (R.state space.old) (R.state space.new)) }
     ensures damaged { R.tells → IfErr result (BlamesBroken (R.state space.old)) }
     ensures read { IsRead R.Reads space.old space.new }
     ensures cause { HasFaultCause (R.faults space.old) (R.faults space.new) result }
@@ -68,6 +85,14 @@ fn meet_between<R: Reads>(
         → has_node (graph_in (R.state space.old)) sought.now.to ≡ true → IfOk result (λ walk.
         IsLeastOrNone (neighbours_for (R.state space.old) sought.now)
         sought.now.from sought.now.to walk.items) }
+    ensures cost { R.tells → IsWhole (R.state space.old)
+        → has_node (graph_in (R.state space.old)) sought.now.from ≡ true
+        → has_node (graph_in (R.state space.old)) sought.now.to ≡ true → IfOk result (λ walk.
+        (searches : TwoSearches (neighbours_for (R.state space.old) sought.now)
+        (neighbours_back (R.state space.old) sought.now)
+        sought.now.from sought.now.to walk.items)
+        × ReadsAtMost (searches_reads (R.state space.old) sought.now.direction
+        sought.now.labels.now searches) (R.state space.old) (R.state space.new)) }
     ensures damaged { R.tells → IfErr result (BlamesBroken (R.state space.old)) }
     ensures read { IsRead R.Reads space.old space.new }
     ensures cause { HasFaultCause (R.faults space.old) (R.faults space.new) result }
@@ -117,6 +142,10 @@ fn approach<R: Reads>(
         behind.old.tree behind.old.done
         → Spans (neighbours_back (R.state space.old) sought.now)
         behind.new.tree behind.new.done) }
+    ensures cost { R.tells → IsWhole (R.state space.old) → OnOk result (ReadsBetween
+        (reach_reads (R.state space.old) sought.now ahead.old behind.old)
+        (reach_reads (R.state space.old) sought.now ahead.new behind.new)
+        (R.state space.old) (R.state space.new)) }
     ensures damaged { R.tells → IfErr result (BlamesBroken (R.state space.old)) }
     ensures read { IsRead R.Reads space.old space.new }
     ensures cause { HasFaultCause (R.faults space.old) (R.faults space.new) result }
@@ -162,6 +191,13 @@ fn join<R: Reads>(
         CanDescend (neighbours_for (R.state space.old) sought.now) behind.now
         → AreJoined (neighbours_for (R.state space.old) sought.now) ahead.now behind.now
         walk.items) }
+    ensures cost { R.tells → IsWhole (R.state space.old) → IfOk result (λ walk.
+        CanDescend (neighbours_for (R.state space.old) sought.now) behind.now
+        → (joined : AreJoined (neighbours_for (R.state space.old) sought.now)
+        ahead.now behind.now walk.items) × ReadsAtMost (nodes_reads (R.state space.old)
+        sought.now.direction sought.now.labels.now
+        (but_last (node_at ahead.now joined.row) joined.way))
+        (R.state space.old) (R.state space.new)) }
     ensures damaged { R.tells → IfErr result (BlamesBroken (R.state space.old)) }
     ensures read { IsRead R.Reads space.old space.new }
     ensures cause { HasFaultCause (R.faults space.old) (R.faults space.new) result }

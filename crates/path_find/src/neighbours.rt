@@ -5,6 +5,8 @@ ghost use Rattle.std.specs.List.Sorted.{IsNonDecreasing};
 ghost use Rattle.plain_graph.specs.Graph.{has_node};
 ghost use Rattle.rec_bytes.specs.Fault.{HasFaultCause};
 ghost use Rattle.rec_bytes.specs.Frame.{IsRead};
+ghost use Rattle.chain_edit.specs.Walking.{ReadsAtMost};
+ghost use Rattle.expand.specs.Costs.{most_reads};
 ghost use Rattle.path_find.specs.Damage.{BlamesBroken};
 ghost use Rattle.path_find.specs.Reads.{neighbours_at};
 ghost use Rattle.path_find.specs.Tree.{AreNeighbours};
@@ -34,6 +36,10 @@ pub(crate) fn neighbours<R: Reads>(
     ensures there { R.tells → IsWhole (R.state space.old) → IfOk result (λ found. IfSome found
         (λ ends. has_node (graph_in (R.state space.old)) node ≡ true)) }
     ensures ascending { IfOk result (λ found. IfSome found (λ ends. IsNonDecreasing ends.items)) }
+    // whatever is found, what `expand` reads
+    ensures cost { R.tells → IsWhole (R.state space.old)
+        → ReadsAtMost (most_reads (R.state space.old) direction labels.now node)
+        (R.state space.old) (R.state space.new) }
     ensures damaged { R.tells → IfErr result (BlamesBroken (R.state space.old)) }
     ensures read { IsRead R.Reads space.old space.new }
     ensures cause { HasFaultCause (R.faults space.old) (R.faults space.new) result }

@@ -4,6 +4,7 @@ ghost use Rattle.std.specs.Prelude.{◌≡◌, ◌<◌, ◌≤◌, ◌⊎◌, �
 ghost use Rattle.std.specs.Bool.{OnFalse, OnTrue};
 ghost use Rattle.rec_bytes.specs.Fault.{HasFaultCause};
 ghost use Rattle.rec_bytes.specs.Frame.{IsRead};
+ghost use Rattle.path_find.specs.Costs.{ReadsBetween, rows_reads};
 ghost use Rattle.path_find.specs.Damage.{BlamesBroken};
 ghost use Rattle.path_find.specs.Reach.{GrowsFrom, begun};
 ghost use Rattle.path_find.specs.Reads.{neighbours_at};
@@ -82,6 +83,10 @@ pub(crate) fn grow<R: Reads>(
         Spans (neighbours_at (R.state space.old) direction labels.now) reach.old.tree reach.old.done
         → Spans (neighbours_at (R.state space.old) direction labels.now) reach.new.tree
         (row_count reach.old.tree)) }
+    ensures cost { R.tells → IsWhole (R.state space.old) → OnOk result (ReadsBetween
+        (rows_reads (R.state space.old) direction labels.now reach.old.tree reach.old.done)
+        (rows_reads (R.state space.old) direction labels.now reach.new.tree reach.new.done)
+        (R.state space.old) (R.state space.new)) }
     ensures damaged { R.tells → IfErr result (BlamesBroken (R.state space.old)) }
     ensures read { IsRead R.Reads space.old space.new }
     ensures cause { HasFaultCause (R.faults space.old) (R.faults space.new) result }

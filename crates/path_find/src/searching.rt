@@ -5,6 +5,8 @@ ghost use Rattle.std.specs.Bool.{OnTrue, OnFalse};
 ghost use Rattle.plain_graph.specs.Graph.{has_node};
 ghost use Rattle.rec_bytes.specs.Fault.{HasFaultCause};
 ghost use Rattle.rec_bytes.specs.Frame.{IsRead};
+ghost use Rattle.chain_edit.specs.Walking.{ReadsAtMost};
+ghost use Rattle.path_find.specs.Costs.{rows_reads};
 ghost use Rattle.path_find.specs.Damage.{BlamesBroken};
 ghost use Rattle.path_find.specs.Reads.{neighbours_at};
 ghost use Rattle.path_find.specs.Reading.{IsSomeTree};
@@ -21,7 +23,7 @@ use rec_bytes::{Fault, Reads};
 use std::alloc::Global;
 
 /// Finds nodes from one on, the neighbours of each in turn, until all are found that are no farther
-/// than the target. Each node's neighbours are read once.
+/// than the target.
 pub(crate) fn search<R: Reads>(
     alloc: Global,
     space: &mut R,
@@ -34,6 +36,11 @@ pub(crate) fn search<R: Reads>(
     ensures spans { R.tells → IsWhole (R.state space.old)
         → has_node (graph_in (R.state space.old)) from ≡ true → IfOk result (λ tree.
         HasSearched (neighbours_at (R.state space.old) direction labels.now) tree from to) }
+    // each node is read once, and none as far as the target
+    ensures cost { R.tells → IsWhole (R.state space.old) → IfOk result (λ tree.
+        (searched : IsSearched tree from to) × ReadsAtMost
+        (rows_reads (R.state space.old) direction labels.now tree searched.done)
+        (R.state space.old) (R.state space.new)) }
     ensures damaged { R.tells → IfErr result (BlamesBroken (R.state space.old)) }
     ensures read { IsRead R.Reads space.old space.new }
     ensures cause { HasFaultCause (R.faults space.old) (R.faults space.new) result }

@@ -1,10 +1,13 @@
 //! Whether nodes are a walk.
 
-ghost use Rattle.std.specs.Prelude.{Contains, IfErr, IfOk};
+ghost use Rattle.std.specs.Prelude.{◌+◌, Contains, IfErr, IfOk};
 ghost use Rattle.std.specs.Bool.{OnFalse, OnTrue};
 ghost use Rattle.rec_bytes.specs.Fault.{HasFaultCause};
 ghost use Rattle.rec_bytes.specs.Frame.{IsRead};
 ghost use Rattle.path_find.specs.Checking.{IsStep, IsWalkOrNone};
+ghost use Rattle.chain_edit.specs.Walking.{ReadsAtMost};
+ghost use Rattle.expand.specs.Costs.{most_reads};
+ghost use Rattle.path_find.specs.Costs.{left_nodes, nodes_reads};
 ghost use Rattle.path_find.specs.Damage.{BlamesBroken};
 ghost use Rattle.path_find.specs.WalkSearch.{neighbours_for};
 ghost use Rattle.store_rules.specs.Rules.{IsWhole};
@@ -28,6 +31,9 @@ pub(crate) fn is_walk<R: Reads>(
     ensures no { R.tells → IsWhole (R.state reads.old) → IfOk result (λ yes. OnFalse yes
         (¬ IsWalkOrNone (neighbours_for (R.state reads.old) sought.now)
         sought.now.from sought.now.to walk.now)) }
+    ensures cost { R.tells → IsWhole (R.state reads.old) → ReadsAtMost
+        (nodes_reads (R.state reads.old) sought.now.direction sought.now.labels.now
+        (left_nodes walk.now) + 1) (R.state reads.old) (R.state reads.new) }
     ensures damaged { R.tells → IfErr result (BlamesBroken (R.state reads.old)) }
     ensures read { IsRead R.Reads reads.old reads.new }
     ensures cause { HasFaultCause (R.faults reads.old) (R.faults reads.new) result }
@@ -64,6 +70,9 @@ fn is_step<R: Reads>(
         (IsStep (neighbours_for (R.state reads.old) sought.now) node next)) }
     ensures no { R.tells → IsWhole (R.state reads.old) → IfOk result (λ yes. OnFalse yes
         (¬ IsStep (neighbours_for (R.state reads.old) sought.now) node next)) }
+    ensures cost { R.tells → IsWhole (R.state reads.old) → ReadsAtMost
+        (most_reads (R.state reads.old) sought.now.direction sought.now.labels.now node)
+        (R.state reads.old) (R.state reads.new) }
     ensures damaged { R.tells → IfErr result (BlamesBroken (R.state reads.old)) }
     ensures read { IsRead R.Reads reads.old reads.new }
     ensures cause { HasFaultCause (R.faults reads.old) (R.faults reads.new) result }

@@ -1,13 +1,16 @@
-use Rattle.std.proofs.Common.{◌≡◌, get_or, sym, subst, arith, inl, inr}
+use Rattle.std.proofs.Common.{◌≡◌, ◌+◌, get_or, sym, subst, arith, inl, inr}
 use Rattle.std.proofs.lemmas.Bool.{OnFalse_at, OnTrue_at, cases_lt}
 use Rattle.std.proofs.lemmas.List.{get_or_default}
 use Rattle.std.proofs.lemmas.List.Elements.{Contains-get_or, at_from_Contains}
 use Rattle.std.proofs.lemmas.Result.{err_from_is_err_and}
 use Rattle.plain_graph.specs.Levels.{level_of}
 use Rattle.rec_bytes.specs.Space.{State}
+use Rattle.chain_edit.specs.Walking.{ReadsAtMost}
+use Rattle.path_find.specs.Costs.{row_reads}
+use Rattle.path_find.proofs.Costs.{first_reads-all, first_reads-more, reads_none}
 use Rattle.path_find.specs.Checking.{IsSpreadAt}
 use Rattle.path_find.specs.WalkSearch.{neighbours_for}
-use Rattle.path_find.proofs.OnlyReads.{broken-read, is_read-on, same-read, store-read}
+use Rattle.path_find.proofs.OnlyReads.{broken-read, is_read-none, is_read-on, same-read, store-read}
 use Rattle.path_find.proofs.Causes.{cause_passed}
 use Rattle.rec_bytes.proofs.Causes.{never_ok, ok_cause}
 use Rattle.path_find.proofs.checking.all_spread.Goals as goal
@@ -34,6 +37,23 @@ pub loop-row-preserved : goal.loop-row-preserved
 loop-row-preserved g c = record {
   read = is_read-on g.R.Reads g.met.R.Reads.further_onward c.args.reads.now c.loop-row.reads c.is_spread.new.reads c.loop-row.invariant.read
       c.is_spread.ensures.read;
+  cost = λ tells store.
+      let levels = c.args.claim.now.levels.now in
+      let index = c.loop-row.row-index in
+      let old = g.R.Reads.state c.args.reads.now in
+      let mid = g.R.Reads.state c.loop-row.reads in
+      let after = g.R.Reads.state c.is_spread.new.reads in
+      let direction = c.args.sought.now.direction in
+      let labels = c.args.sought.now.labels.now in
+      let edges = c.args.claim.now.edges in
+      let read = c.loop-row.invariant.read in
+      let same = same-read g.R.Reads g.met.R.Reads.onward_shape c.args.reads.now c.loop-row.reads read in
+      let there = store-read g.R.Reads g.met.R.Reads.onward_shape c.args.reads.now c.loop-row.reads read store in
+      let one = subst (λ (s : State). ReadsAtMost (row_reads s direction labels edges (get_or levels index (level_of 0 0))) mid after) same
+      (c.is_spread.ensures.cost tells there) in
+      let next = first_reads-more (row_reads old direction labels edges) levels index old mid after (level_of 0 0) c.loop-row-test.true
+      (c.loop-row.invariant.cost tells store) one in
+      next;
   spread = λ tells store k d lt. elim (cases_lt k c.loop-row.row-index) [
     | inl less ↦ c.loop-row.invariant.spread tells store k d less
     | inr ge ↦
@@ -85,3 +105,57 @@ returns-in_err-spreads-clause-no g c _ _ = never_ok c.from_residual.result _ _ c
 
 pub returns-clause-cause : goal.returns-clause-cause
 returns-clause-cause g c = ok_cause _ _ _ _ (omega arith)
+
+-- ---- what is read
+
+pub returns-in_err-spreads-clause-cost : goal.returns-in_err-spreads-clause-cost
+returns-in_err-spreads-clause-cost g c = λ tells store.
+    let levels = c.args.claim.now.levels.now in
+    let index = c.loop-row.row-index in
+    let old = g.R.Reads.state c.args.reads.now in
+    let mid = g.R.Reads.state c.loop-row.reads in
+    let after = g.R.Reads.state c.is_spread.new.reads in
+    let direction = c.args.sought.now.direction in
+    let labels = c.args.sought.now.labels.now in
+    let edges = c.args.claim.now.edges in
+    let read = c.loop-row.invariant.read in
+    let same = same-read g.R.Reads g.met.R.Reads.onward_shape c.args.reads.now c.loop-row.reads read in
+    let there = store-read g.R.Reads g.met.R.Reads.onward_shape c.args.reads.now c.loop-row.reads read store in
+    let one = subst (λ (s : State). ReadsAtMost (row_reads s direction labels edges (get_or levels index (level_of 0 0))) mid after) same
+    (c.is_spread.ensures.cost tells there) in
+    let next = first_reads-more (row_reads old direction labels edges) levels index old mid after (level_of 0 0) c.loop-row-test.true
+    (c.loop-row.invariant.cost tells store) one in
+    first_reads-all (row_reads old direction labels edges) levels (index + 1) old after after next
+
+pub returns-then-not-spreads-clause-cost : goal.returns-then-not-spreads-clause-cost
+returns-then-not-spreads-clause-cost g c = λ tells store.
+    let levels = c.args.claim.now.levels.now in
+    let index = c.loop-row.row-index in
+    let old = g.R.Reads.state c.args.reads.now in
+    let mid = g.R.Reads.state c.loop-row.reads in
+    let after = g.R.Reads.state c.is_spread.new.reads in
+    let direction = c.args.sought.now.direction in
+    let labels = c.args.sought.now.labels.now in
+    let edges = c.args.claim.now.edges in
+    let read = c.loop-row.invariant.read in
+    let same = same-read g.R.Reads g.met.R.Reads.onward_shape c.args.reads.now c.loop-row.reads read in
+    let there = store-read g.R.Reads g.met.R.Reads.onward_shape c.args.reads.now c.loop-row.reads read store in
+    let one = subst (λ (s : State). ReadsAtMost (row_reads s direction labels edges (get_or levels index (level_of 0 0))) mid after) same
+    (c.is_spread.ensures.cost tells there) in
+    let next = first_reads-more (row_reads old direction labels edges) levels index old mid after (level_of 0 0) c.loop-row-test.true
+    (c.loop-row.invariant.cost tells store) one in
+    first_reads-all (row_reads old direction labels edges) levels (index + 1) old after after next
+
+pub returns-clause-cost : goal.returns-clause-cost
+returns-clause-cost g c = λ tells store.
+    let old = g.R.Reads.state c.args.reads.now in
+    let now = g.R.Reads.state c.loop-row.reads in
+    first_reads-all (row_reads old c.args.sought.now.direction c.args.sought.now.labels.now c.args.claim.now.edges) c.args.claim.now.levels.now
+    c.loop-row.row-index old now now (c.loop-row.invariant.cost tells store)
+
+pub loop-row-init : goal.loop-row-init
+loop-row-init g c = record {
+  read = is_read-none g.R.Reads g.met.R.Reads.stays_onward c.args.reads.now;
+  cost = λ tells store. reads_none _ (g.R.Reads.state c.args.reads.now);
+  spread = λ tells store k d lt. absurd (omega arith);
+}

@@ -1,4 +1,5 @@
-use Rattle.std.proofs.Common.{List, Option, ap, false, rules, subst, sym, ℕ, ◌∙◌, arith}
+use Rattle.std.proofs.Common.{List, Option, ap, false, rules, subst, sym, ℕ, ◌+◌, ◌∙◌, arith}
+use Rattle.std.specs.List.{sum_by}
 use Rattle.std.specs.Bool.{IsTrue, OnFalse, OnTrue}
 use Rattle.std.specs.Prelude.{Bool, Err, IfOk, Ok, Result, ◌↔◌}
 use Rattle.std.proofs.lemmas.Bool.{OnFalse_at, OnTrue_at}
@@ -7,6 +8,10 @@ use Rattle.plain_graph.specs.Adjacency.{Adjacency}
 use Rattle.plain_graph.specs.Levels.{IsCertified}
 use Rattle.plain_graph.specs.declared.node_level.NodeLevel.{NodeLevel}
 use Rattle.rec_bytes.specs.Space.{State}
+use Rattle.chain_edit.specs.Walking.{ReadsAtMost}
+use Rattle.expand.proofs.ReadCounts.{reads_both}
+use Rattle.path_find.specs.Costs.{left_nodes, nodes_reads, row_reads}
+use Rattle.path_find.proofs.Costs.{reads_none, reads_within}
 use Rattle.path_find.specs.Checking.{AllSpread, AreDistinct, HaveEnds, IsWalkOrNone, edges_of}
 use Rattle.path_find.specs.Reads.{adjacency_of}
 use Rattle.path_find.specs.WalkSearch.{neighbours_for}
@@ -157,3 +162,65 @@ pub returns-in_err-leads-clause-cause : goal.returns-in_err-leads-clause-cause
 returns-in_err-leads-clause-cause g c =
     cause_passed _ _ _ c.from_residual-in_err-leads.result c.in_err-leads.field-0.0 (omega arith) c.in_err-leads.ensures.cause
     c.from_residual-in_err-leads.ensures.1
+
+-- ---- what is read
+
+pub returns-in_err-found-clause-cost : goal.returns-in_err-found-clause-cost
+returns-in_err-found-clause-cost g c = λ tells store. reads_none _ (g.R.Reads.state c.args.reads.now)
+
+pub returns-in_default-clause-cost : goal.returns-in_default-clause-cost
+returns-in_default-clause-cost g c = λ tells store. reads_none _ (g.R.Reads.state c.args.reads.now)
+
+pub returns-then-not-have_ends-clause-cost : goal.returns-then-not-have_ends-clause-cost
+returns-then-not-have_ends-clause-cost g c = λ tells store. reads_none _ (g.R.Reads.state c.args.reads.now)
+
+pub returns-in_err-leads-clause-cost : goal.returns-in_err-leads-clause-cost
+returns-in_err-leads-clause-cost g c = λ tells store.
+    let old = g.R.Reads.state c.args.reads.now in
+    let mid = g.R.Reads.state c.is_walk.new.reads in
+    let direction = c.args.sought.now.direction in
+    let labels = c.args.sought.now.labels.now in
+    let W = c.args.answer.now.walk in
+    let L = c.args.answer.now.levels in
+    let steps = subst (λ (walk : List ℕ). ReadsAtMost (nodes_reads old direction labels (left_nodes walk) + 1) old mid) c.as_slice-walk.ensures
+    (c.is_walk.ensures.cost tells store) in
+    let most = nodes_reads old direction labels (left_nodes W) + 1 in
+    let rows = sum_by (row_reads old direction labels (edges_of W)) L in
+    reads_within most (most + rows) (omega arith) steps
+
+pub returns-then-not-leads-clause-cost : goal.returns-then-not-leads-clause-cost
+returns-then-not-leads-clause-cost g c = λ tells store.
+    let old = g.R.Reads.state c.args.reads.now in
+    let mid = g.R.Reads.state c.is_walk.new.reads in
+    let direction = c.args.sought.now.direction in
+    let labels = c.args.sought.now.labels.now in
+    let W = c.args.answer.now.walk in
+    let L = c.args.answer.now.levels in
+    let steps = subst (λ (walk : List ℕ). ReadsAtMost (nodes_reads old direction labels (left_nodes walk) + 1) old mid) c.as_slice-walk.ensures
+    (c.is_walk.ensures.cost tells store) in
+    let most = nodes_reads old direction labels (left_nodes W) + 1 in
+    let rows = sum_by (row_reads old direction labels (edges_of W)) L in
+    reads_within most (most + rows) (omega arith) steps
+
+pub returns-clause-cost : goal.returns-clause-cost
+returns-clause-cost g c = λ tells store.
+    let old = g.R.Reads.state c.args.reads.now in
+    let mid = g.R.Reads.state c.is_walk.new.reads in
+    let direction = c.args.sought.now.direction in
+    let labels = c.args.sought.now.labels.now in
+    let W = c.args.answer.now.walk in
+    let L = c.args.answer.now.levels in
+    let steps = subst (λ (walk : List ℕ). ReadsAtMost (nodes_reads old direction labels (left_nodes walk) + 1) old mid) c.as_slice-walk.ensures
+    (c.is_walk.ensures.cost tells store) in
+    let most = nodes_reads old direction labels (left_nodes W) + 1 in
+    let rows = sum_by (row_reads old direction labels (edges_of W)) L in
+    let after = g.R.Reads.state c.all_spread.new.reads in
+    let read = c.is_walk.ensures.read in
+    let same = same-read g.R.Reads g.met.R.Reads.onward_shape c.args.reads.now c.is_walk.new.reads read in
+    let there = store-read g.R.Reads g.met.R.Reads.onward_shape c.args.reads.now c.is_walk.new.reads read store in
+    let edges = c.edges_of-edges.ensures ∙ ap edges_of c.as_slice-walk.ensures in
+    let spread = subst (λ (l : List NodeLevel). ReadsAtMost (sum_by (row_reads old direction labels (edges_of W)) l) mid after) c.as_slice-levels.ensures
+    (subst (λ (e : Option ℕ). ReadsAtMost (sum_by (row_reads old direction labels e) c.as_slice-levels.result.now) mid after) edges
+    (subst (λ (t : State). ReadsAtMost (sum_by (row_reads t direction labels c.edges_of-edges.result) c.as_slice-levels.result.now) mid after) same
+    (c.all_spread.ensures.cost tells there))) in
+    reads_both old mid after most rows steps spread

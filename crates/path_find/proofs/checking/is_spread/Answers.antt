@@ -1,5 +1,8 @@
-use Rattle.std.proofs.Common.{ℕ, List, sym, subst, ◌∙◌, arith}
+use Rattle.std.proofs.Common.{ℕ, Bool, if◌then◌else◌, List, sym, subst, ◌∙◌, arith}
 use Rattle.std.proofs.lemmas.Bool.{OnFalse_at, OnFalse_from, OnTrue_at, OnTrue_from, false≢true}
+use Rattle.chain_edit.specs.Walking.{ReadsAtMost}
+use Rattle.expand.specs.Costs.{most_reads}
+use Rattle.path_find.proofs.Costs.{reads_none}
 use Rattle.path_find.specs.Checking.{AreIn, IsSpreadAt}
 use Rattle.path_find.specs.WalkSearch.{neighbours_for}
 use Rattle.std.proofs.lemmas.Result.{err_from_is_err_and}
@@ -90,3 +93,43 @@ returns-in_err-there-clause-read g c = c.is_node.ensures.read
 pub returns-in_err-there-clause-cause : goal.returns-in_err-there-clause-cause
 returns-in_err-there-clause-cause g c =
     row_passed _ _ _ c.from_residual.result c.in_err-there.field-0.0 (omega arith) c.in_err-there.ensures.cause c.from_residual.ensures.1
+
+-- ---- what is read
+
+pub returns-then-is_past-clause-cost : goal.returns-then-is_past-clause-cost
+returns-then-is_past-clause-cost g c = λ tells store. reads_none _ (g.R.Reads.state c.args.reads.now)
+
+pub returns-in_err-there-clause-cost : goal.returns-in_err-there-clause-cost
+returns-in_err-there-clause-cost g c = λ tells store.
+    let old = g.R.Reads.state c.args.reads.now in
+    let f = most_reads old c.args.sought.now.direction c.args.sought.now.labels.now c.args.row.node in
+    subst (λ (last : Bool). ReadsAtMost (if last then 1 else f) old (g.R.Reads.state c.is_node.new.reads)) (sym (sym c.is_last.ensures ∙ c.if-is_last.true))
+    c.is_node.ensures.cost
+
+pub returns-then-is_last-clause-cost : goal.returns-then-is_last-clause-cost
+returns-then-is_last-clause-cost g c = λ tells store.
+    let old = g.R.Reads.state c.args.reads.now in
+    let f = most_reads old c.args.sought.now.direction c.args.sought.now.labels.now c.args.row.node in
+    subst (λ (last : Bool). ReadsAtMost (if last then 1 else f) old (g.R.Reads.state c.is_node.new.reads)) (sym (sym c.is_last.ensures ∙ c.if-is_last.true))
+    c.is_node.ensures.cost
+
+pub returns-in_err-found-clause-cost : goal.returns-in_err-found-clause-cost
+returns-in_err-found-clause-cost g c = λ tells store.
+    let old = g.R.Reads.state c.args.reads.now in
+    let f = most_reads old c.args.sought.now.direction c.args.sought.now.labels.now c.args.row.node in
+    subst (λ (last : Bool). ReadsAtMost (if last then 1 else f) old (g.R.Reads.state c.neighbours.new.space)) (sym (sym c.is_last.ensures
+    ∙ c.if-is_last.false)) (c.neighbours.ensures.cost tells store)
+
+pub returns-in-Some-clause-cost : goal.returns-in-Some-clause-cost
+returns-in-Some-clause-cost g c = λ tells store.
+    let old = g.R.Reads.state c.args.reads.now in
+    let f = most_reads old c.args.sought.now.direction c.args.sought.now.labels.now c.args.row.node in
+    subst (λ (last : Bool). ReadsAtMost (if last then 1 else f) old (g.R.Reads.state c.neighbours.new.space)) (sym (sym c.is_last.ensures
+    ∙ c.if-is_last.false)) (c.neighbours.ensures.cost tells store)
+
+pub returns-in-None-clause-cost : goal.returns-in-None-clause-cost
+returns-in-None-clause-cost g c = λ tells store.
+    let old = g.R.Reads.state c.args.reads.now in
+    let f = most_reads old c.args.sought.now.direction c.args.sought.now.labels.now c.args.row.node in
+    subst (λ (last : Bool). ReadsAtMost (if last then 1 else f) old (g.R.Reads.state c.neighbours.new.space)) (sym (sym c.is_last.ensures
+    ∙ c.if-is_last.false)) (c.neighbours.ensures.cost tells store)

@@ -1,10 +1,14 @@
-use Rattle.std.proofs.Common.{◌≡◌, ◌-◌, ◌++◌, ◌∷◌, [], ℕ, suc, List, length, append-nil, sym, ap, subst, ◌∙◌, arith}
+use Rattle.std.proofs.Common.{◌≡◌, ◌-◌, ◌++◌, ◌∷◌, [], ℕ, suc, List, length, slice_index, append-nil, sym, ap, subst, ◌∙◌, arith}
 use Rattle.std.proofs.lemmas.List.{length_push}
 use Rattle.std.proofs.lemmas.Result.{err_from_is_err_and}
 use Rattle.rec_bytes.specs.Space.{State}
+use Rattle.chain_edit.specs.Walking.{ReadsAtMost}
+use Rattle.expand.specs.Costs.{most_reads}
+use Rattle.expand.proofs.ReadCounts.{reads_both}
 use Rattle.path_find.specs.Meeting.{CanDescend, HasNearer, IsDescent, IsNextRow}
 use Rattle.path_find.specs.WalkSearch.{neighbours_for}
 use Rattle.path_find.specs.Tree.{node_at}
+use Rattle.path_find.proofs.Costs.{but_last-more, last_pushed, reads_none}
 use Rattle.path_find.proofs.Descents.{descent_on}
 use Rattle.path_find.proofs.OnlyReads.{broken-read, is_read-none, is_read-on, same-read, store-read}
 use Rattle.chain_edit.proofs.Causes.{same_has}
@@ -24,6 +28,8 @@ loop-level-init g c = record {
   low = c.requires.low;
   long = let none = ap length c.new-way.ensures.items in let level = c.level-level.ensures in omega (arith, none, level);
   read = is_read-none g.R.Reads g.met.R.Reads.stays_onward c.args.space.now;
+  last = ap (λ (way : List ℕ). slice_index (node_at c.args.tree.now c.args.row ∷ way) (length way)) c.new-way.ensures.items;
+  cost = λ tells store. reads_none _ (g.R.Reads.state c.args.space.now);
   level = λ tells store can. sym c.level-level.ensures;
   descends = λ tells store can rest long descends.
       subst (λ (list : List ℕ). IsDescent (neighbours_for (g.R.Reads.state c.args.space.now) c.args.sought.now) c.args.tree.now c.args.row
@@ -55,6 +61,17 @@ loop-level-preserved g c =
       low = c.in_ok-next.ensures.low;
       long = let long = inv.long in let more = length_push way (node_at rows next) in let is = ap length pushed in omega (arith, long, more, is, up);
       read = is_read-on g.R.Reads g.met.R.Reads.further_onward c.args.space.now c.loop-level.space c.next_row.new.space inv.read c.next_row.ensures.read;
+      last = last_pushed (node_at rows c.args.row) way new (node_at rows next) pushed;
+      cost = λ tells store.
+          let mid = g.R.Reads.state c.loop-level.space in
+          let after = g.R.Reads.state c.next_row.new.space in
+          let direction = c.args.sought.now.direction in
+          let labels = c.args.sought.now.labels.now in
+          let one = subst (λ (t : State). ReadsAtMost (most_reads t direction labels (node_at rows at)) mid after) same
+          (c.next_row.ensures.cost tells (store-read g.R.Reads g.met.R.Reads.onward_shape c.args.space.now c.loop-level.space inv.read store)) in
+          subst (λ n. ReadsAtMost n old after)
+          (but_last-more old direction labels (node_at rows c.args.row) way new (node_at rows next) (node_at rows at) pushed inv.last)
+          (reads_both old mid after _ (most_reads old direction labels (node_at rows at)) (inv.cost tells store) one);
       level = λ tells store can. (step tells store can).exact;
       descends = λ tells store can. descent_on near rows c.args.row at next level below way new up (inv.descends tells store can) (step tells store can) pushed;
     }
@@ -103,3 +120,12 @@ returns-in_err-push-clause-long g c _ _ _ = never_ok c.from_residual-in_err-push
 
 pub returns-in_err-push-clause-damaged : goal.returns-in_err-push-clause-damaged
 returns-in_err-push-clause-damaged g c _ = same_has _ c.from_residual-in_err-push.result _ c.from_residual-in_err-push.ensures.1 tt
+
+pub returns-clause-cost : goal.returns-clause-cost
+returns-clause-cost g c = c.loop-level.invariant.cost
+
+pub returns-in_err-next-clause-cost : goal.returns-in_err-next-clause-cost
+returns-in_err-next-clause-cost g c _ _ = never_ok c.from_residual.result _ _ c.from_residual.ensures.1
+
+pub returns-in_err-push-clause-cost : goal.returns-in_err-push-clause-cost
+returns-in_err-push-clause-cost g c _ _ = never_ok c.from_residual-in_err-push.result _ _ c.from_residual-in_err-push.ensures.1

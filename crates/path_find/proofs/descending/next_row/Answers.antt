@@ -1,5 +1,7 @@
 use Rattle.std.proofs.Common.{◌≡◌, ℕ, true, false, List, sym, subst, ◌∙◌}
 use Rattle.plain_graph.specs.Graph.{has_node}
+use Rattle.chain_edit.specs.Walking.{ReadsAtMost}
+use Rattle.expand.specs.Costs.{most_reads}
 use Rattle.path_find.specs.Meeting.{IsFirstAtLevel, SomeAtLevel}
 use Rattle.path_find.specs.WalkSearch.{neighbours_for}
 use Rattle.path_find.specs.Tree.{AreNeighbours}
@@ -26,3 +28,22 @@ returns-in-None-clause-next g c = λ tells store nearer.
     let s = g.R.Reads.state c.args.space.now in
     let gone = rw c.in-None.is at c.in_ok-found.ensures.none tells store in
     absurd (clash (sym nearer.there ∙ subst (λ n. has_node (graph_in s) n ≡ false) c.node-node.ensures gone))
+
+-- whatever is found, the neighbours of the row's node alone are read
+pub returns-in_err-found-clause-cost : goal.returns-in_err-found-clause-cost
+returns-in_err-found-clause-cost g c = λ tells store.
+    let old = g.R.Reads.state c.args.space.now in
+    subst (λ n. ReadsAtMost (most_reads old c.args.sought.now.direction c.args.sought.now.labels.now n) old (g.R.Reads.state c.neighbours.new.space))
+    c.node-node.ensures (c.neighbours.ensures.cost tells store)
+
+pub returns-in-Some-clause-cost : goal.returns-in-Some-clause-cost
+returns-in-Some-clause-cost g c = λ tells store.
+    let old = g.R.Reads.state c.args.space.now in
+    subst (λ n. ReadsAtMost (most_reads old c.args.sought.now.direction c.args.sought.now.labels.now n) old (g.R.Reads.state c.neighbours.new.space))
+    c.node-node.ensures (c.neighbours.ensures.cost tells store)
+
+pub returns-in-None-clause-cost : goal.returns-in-None-clause-cost
+returns-in-None-clause-cost g c = λ tells store.
+    let old = g.R.Reads.state c.args.space.now in
+    subst (λ n. ReadsAtMost (most_reads old c.args.sought.now.direction c.args.sought.now.labels.now n) old (g.R.Reads.state c.neighbours.new.space))
+    c.node-node.ensures (c.neighbours.ensures.cost tells store)

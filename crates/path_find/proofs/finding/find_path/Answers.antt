@@ -1,9 +1,14 @@
-use Rattle.std.proofs.Common.{◌≡◌, None, inl, inr, refl, sym, subst, ◌∙◌, arith}
+use Rattle.std.proofs.Common.{◌≡◌, ◌+◌, None, take, Contains, inl, inr, refl, sym, subst, ◌∙◌, arith}
 use Rattle.std.proofs.lemmas.Bool.{OnFalse_at}
 use Rattle.std.proofs.lemmas.Result.{err_from_is_err_and}
 use Rattle.rec_bytes.specs.Space.{State}
 use Rattle.node_store.specs.Loading.{row_at}
 use Rattle.expand.specs.ExpandFault.{of_row}
+use Rattle.chain_edit.specs.Walking.{ReadsAtMost}
+use Rattle.expand.specs.Costs.{most_reads}
+use Rattle.expand.proofs.ReadCounts.{reads_both}
+use Rattle.path_find.specs.Costs.{nearer_nodes, path_reads, rows_reads}
+use Rattle.path_find.proofs.Costs.{fault_ends, first_member, first_once, reads_within, row_ends, sum_within}
 use Rattle.path_find.specs.Damage.{BlamesBroken}
 use Rattle.path_find.specs.Finding.{IsPathFault}
 use Rattle.path_find.specs.Reads.{adjacency_of}
@@ -11,7 +16,7 @@ use Rattle.path_find.specs.declared.answer.Answer.{Answer}
 use Rattle.plain_graph.specs.Graph.{has_node}
 use Rattle.path_find.proofs.Answered.{answered, closed_graph, ends_there, node_fault, search_fault, search_tells}
 use Rattle.path_find.proofs.Certified.{certified_answer, shortest_or_none}
-use Rattle.path_find.proofs.OnlyReads.{is_read-on, same-read}
+use Rattle.path_find.proofs.OnlyReads.{is_read-on, same-read, store-read}
 use Rattle.chain_edit.proofs.Causes.{same_has}
 use Rattle.expand.proofs.Causes.{expand_cause_passed, expand_memory_cause, row_cause_passed}
 use Rattle.path_find.proofs.Causes.{later_on}
@@ -97,7 +102,7 @@ returns-clause-found g c = λ tells store types stand.
     let there = sym (c.in_ok-from_there.ensures.is tells store) ∙ c.if-not-from_there.false in
     answered (g.R.Reads.state c.args.reads.now) store c.args.direction c.args.labels.now types stand (g.R.Reads.state c.is_node-2.new.reads) same c.args.from
     c.args.to there
-    c.in_ok-tree.tree c.in_ok-answer.answer.walk c.in_ok-answer.answer.levels (c.in_ok-tree.ensures.spans tells) c.in_ok-answer.ensures
+    c.in_ok-tree.tree c.in_ok-answer.answer.walk c.in_ok-answer.answer.levels (c.in_ok-tree.ensures.spans tells) c.in_ok-answer.ensures.is
 
 -- the two clauses after it follow from it
 pub returns-clause-shortest : goal.returns-clause-shortest
@@ -182,3 +187,65 @@ returns-in_err-tree-clause-read g c =
 
 pub returns-in_err-answer-clause-damaged : goal.returns-in_err-answer-clause-damaged
 returns-in_err-answer-clause-damaged g c _ = same_has _ c.from_residual-in_err-answer.result _ c.from_residual-in_err-answer.ensures.1 tt
+
+-- ---- what is read
+
+pub returns-in_err-from_there-clause-missing_cost : goal.returns-in_err-from_there-clause-missing_cost
+returns-in_err-from_there-clause-missing_cost g c =
+    let p = err_from_is_err_and c.from_residual.result c.from_residual.ensures.1 in
+    rw (p.1, p.2) (row_ends (g.R.Reads.state c.args.reads.now) (g.R.Reads.state c.is_node.new.reads) c.in_err-from_there.field-0.0)
+
+pub returns-then-not-from_there-clause-missing_cost : goal.returns-then-not-from_there-clause-missing_cost
+returns-then-not-from_there-clause-missing_cost g c = reads_within 1 2 (omega arith) c.is_node.ensures.cost
+
+pub returns-in_err-to_there-clause-missing_cost : goal.returns-in_err-to_there-clause-missing_cost
+returns-in_err-to_there-clause-missing_cost g c =
+    let p = err_from_is_err_and c.from_residual-in_err-to_there.result c.from_residual-in_err-to_there.ensures.1 in
+    rw (p.1, p.2) (row_ends (g.R.Reads.state c.args.reads.now) (g.R.Reads.state c.is_node-2.new.reads) c.in_err-to_there.field-0.0)
+
+pub returns-then-not-to_there-clause-missing_cost : goal.returns-then-not-to_there-clause-missing_cost
+returns-then-not-to_there-clause-missing_cost g c = reads_both _ _ _ 1 1 c.is_node.ensures.cost c.is_node-2.ensures.cost
+
+pub returns-in_err-tree-clause-missing_cost : goal.returns-in_err-tree-clause-missing_cost
+returns-in_err-tree-clause-missing_cost g c =
+    let p = err_from_is_err_and c.from_residual-in_err-tree.result c.from_residual-in_err-tree.ensures.1 in
+    rw (p.1, p.2) (fault_ends (g.R.Reads.state c.args.reads.now) (g.R.Reads.state c.search.new.space) c.in_err-tree.field-0.0)
+
+pub returns-in_err-answer-clause-missing_cost : goal.returns-in_err-answer-clause-missing_cost
+returns-in_err-answer-clause-missing_cost g c = same_has _ c.from_residual-in_err-answer.result _ c.from_residual-in_err-answer.ensures.1 tt
+
+pub returns-in_err-from_there-clause-cost : goal.returns-in_err-from_there-clause-cost
+returns-in_err-from_there-clause-cost g c _ _ = never_ok c.from_residual.result _ _ c.from_residual.ensures.1
+
+pub returns-in_err-to_there-clause-cost : goal.returns-in_err-to_there-clause-cost
+returns-in_err-to_there-clause-cost g c _ _ = never_ok c.from_residual-in_err-to_there.result _ _ c.from_residual-in_err-to_there.ensures.1
+
+pub returns-in_err-tree-clause-cost : goal.returns-in_err-tree-clause-cost
+returns-in_err-tree-clause-cost g c _ _ = never_ok c.from_residual-in_err-tree.result _ _ c.from_residual-in_err-tree.ensures.1
+
+pub returns-in_err-answer-clause-cost : goal.returns-in_err-answer-clause-cost
+returns-in_err-answer-clause-cost g c _ _ = never_ok c.from_residual-in_err-answer.result _ _ c.from_residual-in_err-answer.ensures.1
+
+pub returns-clause-cost : goal.returns-clause-cost
+returns-clause-cost g c = λ tells store.
+    let a = c.args.reads.now in
+    let s = g.R.Reads.state a in
+    let mid = g.R.Reads.state c.is_node-2.new.reads in
+    let new = g.R.Reads.state c.search.new.space in
+    let both = is_read-on g.R.Reads g.met.R.Reads.further_onward a c.is_node.new.reads c.is_node-2.new.reads c.is_node.ensures.read c.is_node-2.ensures.read in
+    let same = same-read g.R.Reads g.met.R.Reads.onward_shape a c.is_node-2.new.reads both in
+    let direction = c.args.direction in
+    let labels = c.args.labels.now in
+    let rows = c.in_ok-tree.tree in
+    let answer = c.in_ok-answer.answer in
+    let found = c.in_ok-tree.ensures.cost tells (store-read g.R.Reads g.met.R.Reads.onward_shape a c.is_node-2.new.reads both store) in
+    let done = found.0.done in
+    let searched = subst (λ (t : State). ReadsAtMost (rows_reads t direction labels rows done) mid new) same found.1 in
+    let two = reads_both s (g.R.Reads.state c.is_node.new.reads) mid 1 1 c.is_node.ensures.cost c.is_node-2.ensures.cost in
+    let few = sum_within (most_reads s direction labels) (take done rows.nodes) (nearer_nodes answer.walk answer.levels)
+    (first_once rows done found.0.tree done) (λ node has.
+    let first = first_member rows done node has in
+    subst (Contains (nearer_nodes answer.walk answer.levels)) first.is
+    (c.in_ok-answer.ensures.nearer done found.0.nearer first.row first.few first.low)) in
+    reads_within (2 + rows_reads s direction labels rows done) (path_reads s direction labels answer.walk answer.levels) (omega (arith, few))
+    (reads_both s mid new 2 (rows_reads s direction labels rows done) two searched)

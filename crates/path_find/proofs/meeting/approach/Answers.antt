@@ -1,8 +1,11 @@
 use Rattle.std.proofs.Common.{◌+◌, refl, sym, subst, arith}
 use Rattle.std.proofs.lemmas.Bool.{OnFalse_at, OnFalse_from, OnTrue_at, OnTrue_from}
-use Rattle.path_find.specs.Meeting.{AreApart, AreApartFrom, HaveMet}
+use Rattle.plain_graph.specs.declared.direction.Direction.{Direction}
+use Rattle.path_find.specs.Costs.{ReadsBetween, rows_reads}
+use Rattle.path_find.specs.Meeting.{AreApart, AreApartFrom, HaveMet, reversed}
 use Rattle.path_find.specs.Reach.{AreLayers}
 use Rattle.path_find.specs.Tree.{row_count}
+use Rattle.path_find.proofs.Costs.{between_left, between_right}
 use Rattle.path_find.proofs.Layers.{layers_on}
 use Rattle.path_find.proofs.MeetSteps.{apart_ahead, apart_behind, met_behind}
 use Rattle.path_find.proofs.meeting.approach.Goals as goal
@@ -66,3 +69,22 @@ returns-in_ok-grow-2-clause-closer g c = λ ahead_depth behind_depth ahead_layer
       from = refl;
       to = met.grows.nodes 0 behind_layers.tree.some;
     }
+
+pub returns-in_ok-grow-clause-cost : goal.returns-in_ok-grow-clause-cost
+returns-in_ok-grow-clause-cost g c = λ tells store.
+    let sought = c.args.sought.now in
+    let behind = c.args.behind.now in
+    between_left _ _ (rows_reads (g.R.Reads.state c.args.space.now) (reversed sought.direction) sought.labels.now behind.tree behind.done)
+    (c.in_ok-grow.ensures.cost tells store)
+
+pub returns-in_ok-grow-2-clause-cost : goal.returns-in_ok-grow-2-clause-cost
+returns-in_ok-grow-2-clause-cost g c = λ tells store.
+    let sought = c.args.sought.now in
+    let ahead = c.args.ahead.now in
+    let old = g.R.Reads.state c.args.space.now in
+    let behind = c.args.behind.now in
+    let new = c.grow-else-width_of.new.reach in
+    let more = subst (λ (d : Direction). ReadsBetween (rows_reads old d sought.labels.now behind.tree behind.done)
+    (rows_reads old d sought.labels.now new.tree new.done) old (g.R.Reads.state c.grow-else-width_of.new.space)) c.reversed.ensures
+    (c.in_ok-grow-2.ensures.cost tells store) in
+    between_right _ _ (rows_reads old sought.direction sought.labels.now ahead.tree ahead.done) more

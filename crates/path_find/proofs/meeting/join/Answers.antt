@@ -1,4 +1,6 @@
-use Rattle.std.proofs.Common.{◌++◌, ℕ, List, ap, ◌∙◌, arith}
+use Rattle.std.proofs.Common.{◌++◌, ℕ, List, ap, subst, ◌∙◌, arith}
+use Rattle.chain_edit.specs.Walking.{ReadsAtMost}
+use Rattle.path_find.specs.Costs.{but_last, nodes_reads}
 use Rattle.path_find.specs.Meeting.{AreApartFrom}
 use Rattle.path_find.specs.Tree.{row_count}
 use Rattle.rec_bytes.proofs.Causes.{never_ok, ok_cause}
@@ -20,6 +22,16 @@ returns-clause-joins g c = λ tells store can. record {
   long = c.in_ok-way.ensures.long tells store can;
   is = c.in_ok-append.ensures.items ∙ ap (λ (list : List ℕ). list ++ c.in_ok-way.way.items) c.in_ok-walk.ensures;
 }
+
+pub returns-clause-cost : goal.returns-clause-cost
+unfolding returns-clause-joins
+returns-clause-cost g c = λ tells store can.
+    let old = g.R.Reads.state c.args.space.now in
+    let sought = c.args.sought.now in (
+      returns-clause-joins g c tells store can,
+      subst (λ n. ReadsAtMost (nodes_reads old sought.direction sought.labels.now (but_last n c.in_ok-way.way.items)) old (g.R.Reads.state c.descend.new.space))
+          (c.in-Some-find.ensures.is ∙ c.node.ensures) (c.in_ok-way.ensures.cost tells store),
+    )
 
 -- both have found some node
 pub unreachable-requires : goal.unreachable-requires
@@ -70,3 +82,12 @@ returns-in_err-append-clause-read g c = c.descend.ensures.read
 pub returns-in_err-append-clause-cause : goal.returns-in_err-append-clause-cause
 returns-in_err-append-clause-cause g c =
     memory_cause _ _ c.from_residual-in_err-append.result c.in_ok-way.ensures.cause.later c.from_residual-in_err-append.ensures.1
+
+pub returns-in_err-walk-clause-cost : goal.returns-in_err-walk-clause-cost
+returns-in_err-walk-clause-cost g c _ _ = never_ok c.from_residual.result _ _ c.from_residual.ensures.1
+
+pub returns-in_err-way-clause-cost : goal.returns-in_err-way-clause-cost
+returns-in_err-way-clause-cost g c _ _ = never_ok c.from_residual-in_err-way.result _ _ c.from_residual-in_err-way.ensures.1
+
+pub returns-in_err-append-clause-cost : goal.returns-in_err-append-clause-cost
+returns-in_err-append-clause-cost g c _ _ = never_ok c.from_residual-in_err-append.result _ _ c.from_residual-in_err-append.ensures.1

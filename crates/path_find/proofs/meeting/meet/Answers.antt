@@ -48,3 +48,12 @@ returns-clause-read g c = c.meet_between.ensures.read
 
 pub returns-clause-cause : goal.returns-clause-cause
 returns-clause-cause g c = c.meet_between.ensures.cause
+
+pub returns-in_err-ahead-clause-cost : goal.returns-in_err-ahead-clause-cost
+returns-in_err-ahead-clause-cost g c _ _ _ _ = never_ok c.from_residual.result _ _ c.from_residual.ensures.1
+
+pub returns-in_err-behind-clause-cost : goal.returns-in_err-behind-clause-cost
+returns-in_err-behind-clause-cost g c _ _ _ _ = never_ok c.from_residual-in_err-behind.result _ _ c.from_residual-in_err-behind.ensures.1
+
+pub returns-clause-cost : goal.returns-clause-cost
+returns-clause-cost g c = c.meet_between.ensures.cost

@@ -2,6 +2,8 @@ use Rattle.std.proofs.Common.{◌≡◌, ◌+◌, ◌-◌, ◌^◌, true}
 use Rattle.std.specs.Bool.{OnFalse, OnTrue}
 use Rattle.plain_graph.specs.Graph.{has_node}
 use Rattle.rec_bytes.specs.Frame.{IsRead}
+use Rattle.chain_edit.specs.Walking.{ReadsAtMost}
+use Rattle.path_find.specs.Costs.{reach_reads}
 use Rattle.path_find.specs.Meeting.{AreApart, HaveMet, reversed}
 use Rattle.path_find.specs.Reach.{HasLayers}
 use Rattle.path_find.specs.Reads.{neighbours_at}
@@ -25,6 +27,7 @@ invariant-loop-has_met g l =
       met : OnTrue l.has_met (HaveMet l.ahead.tree l.behind.tree);
       apart : OnFalse l.has_met (AreApart l.ahead.tree l.behind.tree);
       read : IsRead g.R.Reads l.fn.space l.space;
+      cost : g.R.Reads.tells → IsWhole old → ReadsAtMost (reach_reads old l.sought l.ahead l.behind) old (g.R.Reads.state l.space);
       ahead_spans : g.R.Reads.tells → IsWhole old → has_node (graph_in old) l.sought.from ≡ true → Spans near l.ahead.tree l.ahead.done;
       behind_spans : g.R.Reads.tells → IsWhole old → has_node (graph_in old) l.sought.to ≡ true → Spans back l.behind.tree l.behind.done;
       longer : g.R.Reads.tells → IsWhole old → has_node (graph_in old) l.sought.from ≡ true → has_node (graph_in old) l.sought.to ≡ true

@@ -37,3 +37,21 @@ returns-in-Err-Disk-clause-read g c = is_read-gets g.R.Reads c.expand.ensures.at
 pub returns-in-Err-Damaged-clause-read : goal.returns-in-Err-Damaged-clause-read
 returns-in-Err-Damaged-clause-read g c = is_read-gets g.R.Reads c.expand.ensures.at_most.count c.args.space.now c.expand.new.space c.expand.ensures.at_most.is
     c.expand.ensures.onward c.expand.ensures.cause.later
+
+pub returns-in_err-ends-in-Ok-clause-cost : goal.returns-in_err-ends-in-Ok-clause-cost
+returns-in_err-ends-in-Ok-clause-cost g c = c.expand.ensures.reads
+
+pub returns-in_ok-ends-in-Ok-clause-cost : goal.returns-in_ok-ends-in-Ok-clause-cost
+returns-in_ok-ends-in-Ok-clause-cost g c = c.expand.ensures.reads
+
+pub returns-in-Err-NoNode-clause-cost : goal.returns-in-Err-NoNode-clause-cost
+returns-in-Err-NoNode-clause-cost g c = c.expand.ensures.reads
+
+pub returns-in-Err-Memory-clause-cost : goal.returns-in-Err-Memory-clause-cost
+returns-in-Err-Memory-clause-cost g c = c.expand.ensures.reads
+
+pub returns-in-Err-Disk-clause-cost : goal.returns-in-Err-Disk-clause-cost
+returns-in-Err-Disk-clause-cost g c = c.expand.ensures.reads
+
+pub returns-in-Err-Damaged-clause-cost : goal.returns-in-Err-Damaged-clause-cost
+returns-in-Err-Damaged-clause-cost g c = c.expand.ensures.reads

@@ -36,3 +36,12 @@ returns-in_err-load-clause-is g c _ _ = never_ok c.from_residual.result _ _ c.fr
 
 pub returns-in_err-load-clause-row : goal.returns-in_err-load-clause-row
 returns-in_err-load-clause-row g c _ = never_ok c.from_residual.result _ _ c.from_residual.ensures.1
+
+pub returns-in_err-load-clause-cost : goal.returns-in_err-load-clause-cost
+returns-in_err-load-clause-cost g c = load_reads (g.R.Reads.state c.args.reads.now) (g.R.Reads.state c.load.new.space) c.args.id 0 c.load.ensures.state
+
+pub returns-in-Some-clause-cost : goal.returns-in-Some-clause-cost
+returns-in-Some-clause-cost g c = load_reads (g.R.Reads.state c.args.reads.now) (g.R.Reads.state c.load.new.space) c.args.id 0 c.load.ensures.state
+
+pub returns-in-None-clause-cost : goal.returns-in-None-clause-cost
+returns-in-None-clause-cost g c = load_reads (g.R.Reads.state c.args.reads.now) (g.R.Reads.state c.load.new.space) c.args.id 0 c.load.ensures.state

@@ -1,14 +1,18 @@
-use Rattle.std.proofs.Common.{◌≡◌, ◌<◌, ◌+◌, true, false, sym, subst, ◌∙◌, refl, arith}
+use Rattle.std.proofs.Common.{◌≡◌, ◌<◌, ◌+◌, take, true, false, sym, subst, ◌∙◌, refl, arith}
 use Rattle.std.proofs.lemmas.Result.{err_from_is_err_and}
 use Rattle.plain_graph.specs.Graph.{has_node}
 use Rattle.rec_bytes.specs.Space.{State}
+use Rattle.chain_edit.specs.Walking.{ReadsAtMost}
+use Rattle.expand.specs.Costs.{most_reads}
+use Rattle.path_find.specs.Costs.{ReadsBetween, rows_reads}
 use Rattle.path_find.specs.Reach.{GrowsFrom}
 use Rattle.path_find.specs.Reads.{neighbours_at}
 use Rattle.path_find.specs.Tree.{AreNeighbours, IsTree, Spans, node_at, row_count}
 use Rattle.path_find.proofs.Layers.{grows-none, grows-on}
 use Rattle.path_find.proofs.OnlyReads.{broken-read, is_read-none, is_read-on, same-read, store-read}
-use Rattle.path_find.proofs.SearchSteps.{tree_past}
+use Rattle.path_find.proofs.SearchSteps.{first_kept, tree_past}
 use Rattle.path_find.specs.declared.reach.Reach.{Reach}
+use Rattle.path_find.proofs.Costs.{between_more, between_none, rows_reads-more}
 use Rattle.path_find.proofs.Causes.{cause_passed, later_on, memory_cause}
 use Rattle.rec_bytes.proofs.Causes.{never_ok, ok_cause}
 use Rattle.path_find.proofs.reach.grow.Goals as goal
@@ -33,6 +37,7 @@ loop-row-init g c = record {
   tree = c.requires.tree;
   grows = grows-none c.args.reach.now.tree c.args.reach.now.done;
   read = is_read-none g.R.Reads g.met.R.Reads.stays_onward c.args.space.now;
+  cost = λ tells store. between_none _ (g.R.Reads.state c.args.space.now);
   spans = λ tells store spans. spans;
 }
 
@@ -53,6 +58,7 @@ loop-row-preserved g c =
     let node = c.node-node.ensures in
     let past = inv.past in
     let Next : Reach → Type 0 = λ reach. (reach.done ≡ start.done) × IsTree reach.tree (row + 1) × GrowsFrom start.tree reach.tree start.done
+    × (take (row + 1) reach.tree.nodes ≡ take (row + 1) rows.nodes)
     × (g.R.Reads.tells → IsWhole old → Spans near start.tree start.done → Spans near reach.tree (row + 1)) in
     let store_mid = λ (store : IsWhole old). store-read g.R.Reads g.met.R.Reads.onward_shape c.args.space.now c.loop-row.space inv.read store in
     let same = same-read g.R.Reads g.met.R.Reads.onward_shape c.args.space.now c.loop-row.space inv.read in
@@ -69,6 +75,7 @@ loop-row-preserved g c =
             inv.done,
             spread.tree,
             grows-on start.tree rows new start.done row past inv.grows spread.extends,
+            first_kept rows new row 0 inv.tree spread.tree low spread.extends,
             λ tells store spans. spread.spans near (inv.spans tells store spans) (are tells store),
           )
       | in_default w ↦
@@ -76,6 +83,7 @@ loop-row-preserved g c =
             inv.done,
             tree_past rows row inv.tree,
             inv.grows,
+            refl,
             λ tells store spans.
                 let gone = rw w.in_default.is at c.in_ok-found.ensures.none tells (store_mid store) in
                 let gone_old = subst (λ (t : State). has_node (graph_in t) c.node-node.result ≡ false) same gone in
@@ -90,7 +98,14 @@ loop-row-preserved g c =
       tree = next.1;
       grows = next.2;
       read = is_read-on g.R.Reads g.met.R.Reads.further_onward c.args.space.now c.loop-row.space c.neighbours.new.space inv.read c.neighbours.ensures.read;
-      spans = next.3;
+      cost = λ tells store.
+          let mid = g.R.Reads.state c.loop-row.space in
+          let new = g.R.Reads.state c.neighbours.new.space in
+          let one = subst (λ (t : State). ReadsAtMost (most_reads t direction labels c.node-node.result) mid new) same
+          (c.neighbours.ensures.cost tells (store_mid store)) in
+          between_more old mid new _ _ (most_reads old direction labels c.node-node.result) _ (inv.cost tells store) one
+          (rows_reads-more rows old direction labels c.match-found.reach.tree row c.node-node.result low node next.3);
+      spans = next.4;
     }
 
 pub returns-in_err-found-clause-read : goal.returns-in_err-found-clause-read
@@ -136,3 +151,21 @@ returns-in_err-spread-clause-spans g c _ _ = never_ok c.from_residual-in_err-spr
 
 pub returns-clause-cause : goal.returns-clause-cause
 returns-clause-cause g c = ok_cause _ _ _ _ (omega arith)
+
+pub returns-clause-cost : goal.returns-clause-cost
+returns-clause-cost g c = λ tells store.
+    let old = g.R.Reads.state c.args.space.now in
+    let test = c.loop-row-test.false in
+    let most = c.loop-row.auto.row-end in
+    let count = c.loop-row.invariant.count in
+    let low = c.requires.low in
+    let all : c.loop-row.row ≡ c.len-count.result = omega (arith, test, most, count, low) in
+    subst (λ n. ReadsBetween (rows_reads old c.args.direction c.args.labels.now c.args.reach.now.tree c.args.reach.now.done)
+    (rows_reads old c.args.direction c.args.labels.now c.loop-row.reach.tree n) old (g.R.Reads.state c.loop-row.space)) all
+    (c.loop-row.invariant.cost tells store)
+
+pub returns-in_err-found-clause-cost : goal.returns-in_err-found-clause-cost
+returns-in_err-found-clause-cost g c _ _ = never_ok c.from_residual.result _ _ c.from_residual.ensures.1
+
+pub returns-in_err-spread-clause-cost : goal.returns-in_err-spread-clause-cost
+returns-in_err-spread-clause-cost g c _ _ = never_ok c.from_residual-in_err-spread.result _ _ c.from_residual-in_err-spread.ensures.1

@@ -46,3 +46,12 @@ returns-in_err-found-clause-read g c = c.neighbours.ensures.read
 pub returns-in_err-found-clause-cause : goal.returns-in_err-found-clause-cause
 returns-in_err-found-clause-cause g c =
     cause_passed _ _ _ c.from_residual.result c.in_err-found.field-0.0 (omega arith) c.in_err-found.ensures.cause c.from_residual.ensures.1
+
+pub returns-in_err-found-clause-cost : goal.returns-in_err-found-clause-cost
+returns-in_err-found-clause-cost g c = c.neighbours.ensures.cost
+
+pub returns-in-Some-clause-cost : goal.returns-in-Some-clause-cost
+returns-in-Some-clause-cost g c = c.neighbours.ensures.cost
+
+pub returns-in-None-clause-cost : goal.returns-in-None-clause-cost
+returns-in-None-clause-cost g c = c.neighbours.ensures.cost
