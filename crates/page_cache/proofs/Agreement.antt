@@ -1,5 +1,5 @@
 -- Kept pages agree with the records.
-use Rattle.std.proofs.Common.{◌≡◌, ◌∙◌, ⊎_elim, ℕ, Bool, true, false, cond, List, [], ◌∷◌, Option, Some, None, is_some, Contains, ap, sym, subst, refl, arith}
+use Rattle.std.proofs.Common.{◌≡◌, ◌∙◌, ◌⊎◌, ⊎_elim, ℕ, Bool, true, false, cond, List, [], ◌∷◌, Option, Some, None, is_some, Contains, ap, sym, subst, refl, arith, IsTrue}
 use Rattle.std.proofs.lemmas.Bool.{false≢true}
 use Rattle.std.proofs.lemmas.Bool.Decides.{nat_tests}
 use Rattle.std.proofs.lemmas.Map.{lookup-remove_entry}
@@ -9,14 +9,15 @@ use Rattle.std.specs.List.{IsDistinct}
 use Rattle.std.specs.Map.{keys_of, lookup, lookup_entry, remove_entry}
 use Rattle.std.specs.Option.{option_map_or}
 use Rattle.lru.proofs.CallerLemmas.{Contains-lookup, Contains-put_entries, Contains-remove_entry}
-use Rattle.lru.specs.LruCache.{promoted, put_entries}
+use Rattle.lru.specs.LruCache.{lru_cache, promoted}
 use Rattle.disk_model.specs.Contents.{Files}
 use Rattle.rec_bytes.specs.declared.key.Key.{Key}
 use Rattle.rec_bytes.specs.Key.{IsKey, key_eq}
 use Rattle.record_file.specs.Records.{SameButRecord, record_at}
 use Rattle.record_file.proofs.Records.{record_at-other}
 use Rattle.page_cache.specs.declared.page.PageKey.{PageKey}
-use Rattle.page_cache.specs.Pages.{Agrees, IsLastUsed, IsPage, IsUsed, KeepsPage, Pages, kept_page, page_eq, page_of, record_in, used_last, with_page}
+use Rattle.page_cache.specs.Pages.{Agrees, IsLastUsed, IsMoved, IsPage, IsPut, IsUsed, KeepsPage, Pages, kept_page, page_eq, page_of, record_in, with_page}
+use Rattle.page_cache.specs.Pages.{without_file}
 use Rattle.page_cache.proofs.RecordInPage.{record_in-is}
 
 pub page_eq-true : (a b : PageKey) → page_eq a b ≡ true → a ≡ b
@@ -52,16 +53,24 @@ agrees_found content pages key bytes valid agrees found =
     agrees.kept key bytes valid (subst (λ page. Contains pages.entries (page, bytes)) (sym (page_eq-true (page_of key) entry.0 entry.2)) entry.1)
 
 -- one page more, as it stands in the content; others may have gone
-pub agrees_put : (content : Files) (cache : Pages) (page : PageKey) (bytes : List ℕ) → Agrees content cache → IsPage content page bytes
-    → Agrees content (record cache { entries = put_entries page_eq cache page bytes })
-agrees_put content cache page bytes agrees is = record {
+pub agrees_put : (content : Files) (cache : Pages) (page : PageKey) (bytes : List ℕ) (shared : Bool) → Agrees content cache → IsPage content page bytes
+    → Agrees content (with_page page bytes shared cache)
+agrees_put content cache page bytes shared agrees is = record {
   kept = λ key held valid i. ⊎_elim
       (λ was. agrees.kept key held valid was)
       (λ new.
       let same : page ≡ page_of key = ⊎_elim (λ e. sym e) (λ other. page_eq-true page (page_of key) other.2) new.1 in
       ap (λ b. record_in b key.id) new.0 ∙ record_in-is content key bytes valid.file (subst (λ p. IsPage content p bytes) same is))
-      (Contains-put_entries page_eq cache page bytes (page_of key, held) i);
+      (Contains-put_entries page_eq (lru_cache cache.entries cache.cap) page bytes (page_of key, held) i);
 }
+
+-- it was put in, or there was no memory for that
+pub agrees_loaded : (content : Files) (page : PageKey) (bytes : List ℕ) (old new : Pages) (kept : Bool) → Agrees content old → IsPage content page bytes
+    → (IsTrue kept → (shared : Bool) × (new ≡ with_page page bytes shared old)) → (kept ≡ false → new ≡ without_file page old) → Agrees content new
+agrees_loaded content page bytes old new true agrees is put refused =
+    subst (Agrees content) (sym (put refl).1) (agrees_put content old page bytes (put refl).0 agrees is)
+agrees_loaded content page bytes old new false agrees is put refused =
+    subst (Agrees content) (sym (refused refl)) (agrees_within content old (without_file page old) agrees (λ entry i. i))
 
 -- the page of a record was taken out, so it is not there
 pub gone_forgotten : (key : Key) (page : PageKey) (before after : Pages) → page ≡ page_of key
@@ -106,14 +115,17 @@ agrees_forgotten old new key page before after its same once then is agrees = re
 -- as many pages may be there as before
 IsUsed-room : (key : Key) (old new : Pages) → IsUsed key old new → new.cap ≡ old.cap
 IsUsed-room key old new used = ⊎_elim
-    (λ (same : IsLastUsed key old × (new ≡ old)). ap (λ (pages : Pages). pages.cap) same.1)
-    (λ (moved : new ≡ used_last key old). ap (λ (pages : Pages). pages.cap) moved)
+    (λ (same : (IsLastUsed key old ⊎ (kept_page key old ≡ None)) × (new ≡ old)). ap (λ (pages : Pages). pages.cap) same.1)
+    (λ (is : IsMoved key old new). ap (λ (pages : Pages). pages.cap) is.moved)
     used
 
 pub KeepsPage-room : (key : Key) (old new : Pages) → KeepsPage key old new → new.cap ≡ old.cap
 KeepsPage-room key old new keeps = ⊎_elim
     (λ used. IsUsed-room key old new used)
-    (λ (put : (bytes : List ℕ) × (new ≡ with_page key bytes old)). ap (λ (pages : Pages). pages.cap) put.1)
+    (λ (came : IsPut key old new ⊎ (new ≡ without_file (page_of key) old)). ⊎_elim
+    (λ (is : IsPut key old new). ap (λ (pages : Pages). pages.cap) is.put)
+    (λ (refused : new ≡ without_file (page_of key) old). ap (λ (pages : Pages). pages.cap) refused)
+    came)
     keeps
 
 -- where a page isn't kept, using it leaves the list as it is

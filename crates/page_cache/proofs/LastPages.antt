@@ -3,14 +3,31 @@ use Rattle.std.proofs.Common.{◌≡◌, ◌∙◌, ⊎_elim, ℕ, zero, suc, �
 use Rattle.std.proofs.Common.{◌∷◌, length, take, Option, Some, None, is_some, ap, sym, refl, arith, nat_eq, slice_get}
 use Rattle.std.proofs.lemmas.Bool.{false≢true}
 use Rattle.std.proofs.lemmas.Bool.Decides.{nat_tests}
+use Rattle.std.proofs.lemmas.Option.{slice_get_within}
 use Rattle.std.specs.Map.{lookup, lookup_entry, remove_entry}
 use Rattle.std.specs.Option.{option_map_or}
 use Rattle.lru.specs.LruCache.{displaced, lru_cache, promoted, put_entries}
 use Rattle.page_cache.specs.declared.last_pages.LastPage.{LastPage}
 use Rattle.page_cache.specs.declared.page.PageKey.{PageKey}
-use Rattle.page_cache.specs.LastPages.{AreFirst, ForgetsGone, ForgetsLast, PutsLast, last_page}
-use Rattle.page_cache.specs.Pages.{Pages, first_of, page_eq}
+use Rattle.page_cache.specs.LastPages.{AreFirst, ForgetsGone, ForgetsLast, PutsLast, last_page, numbered}
+use Rattle.page_cache.specs.Pages.{PageList, first_of, page_eq}
 use Rattle.page_cache.proofs.Agreement.{page_eq-same, page_eq-true}
+
+-- a file that has a last page is one of the files
+last_within : (files : List (Option LastPage)) (page : PageKey) (bytes : List ℕ) → last_page files page ≡ Some bytes → page.file < length files
+last_within files page bytes is = pick (slice_get files page.file) refl is
+  where
+    pick : (found : Option (Option LastPage)) → slice_get files page.file ≡ found → numbered page.number found ≡ Some bytes → page.file < length files
+    pick None there none = absurd (false≢true (ap is_some none))
+    pick (Some slot) there some = slice_get_within files page.file slot there
+
+-- there is no such file, so no last page is of it
+pub apart_past : (files : List (Option LastPage)) (page other : PageKey) (bytes : List ℕ) → length files ≤ page.file → last_page files other ≡ Some bytes
+    → nat_eq page.file other.file ≡ false
+apart_past files page other bytes past is = below page.file other.file (omega (arith, past, last_within files other bytes is))
+  where
+    below : (a b : ℕ) → b < a → nat_eq a b ≡ false
+    below a b less = grind (arith, nat_tests)
 
 abbrev Entries : Type 0
 Entries = List (PageKey × List ℕ)
@@ -151,7 +168,7 @@ lookup-unfound wanted (first ∷ rest) e = by (page_eq wanted first.0) e (λ h. 
     by false h later = later h
 
 -- pages of two files are two
-files_apart : (a b : PageKey) → nat_eq a.file b.file ≡ false → page_eq a b ≡ false
+pub files_apart : (a b : PageKey) → nat_eq a.file b.file ≡ false → page_eq a b ≡ false
 files_apart a b e = grind (arith, nat_tests)
 
 -- a page that comes to the front is the first of its file; of another file, what was the first stays so
@@ -175,7 +192,7 @@ put_front old new page held rest puts other bytes is later = ⊎_elim
     one_file e = ap (λ (p : PageKey). nat_eq page.file p.file) e ∙ equal page.file
 
 -- a page is used
-pub last_used : (old new : List (Option LastPage)) (pages : Pages) (wanted : PageKey) (held : List ℕ) → lookup (page_eq wanted) pages.entries ≡ Some held
+pub last_used : (old new : List (Option LastPage)) (pages : PageList) (wanted : PageKey) (held : List ℕ) → lookup (page_eq wanted) pages.entries ≡ Some held
     → AreFirst old pages → PutsLast wanted held old new → AreFirst new (record pages { entries = promoted (page_eq wanted) pages.entries })
 last_used old new pages wanted held found firsts puts other bytes is = pick (lookup_entry (page_eq wanted) pages.entries) refl
   where
@@ -196,18 +213,18 @@ last_used old new pages wanted held found firsts puts other bytes is = pick (loo
     pick None none = absurd (false≢true (ap is_some (sym (lookup-unfound wanted pages.entries none) ∙ found)))
     pick (Some entry) at = by entry at
 
-pub last_forgotten : (old new : List (Option LastPage)) (pages : Pages) (page : PageKey) → AreFirst old pages → ForgetsLast page old new
+pub last_forgotten : (old new : List (Option LastPage)) (pages : PageList) (page : PageKey) → AreFirst old pages → ForgetsLast page old new
     → AreFirst new (record pages { entries = remove_entry (page_eq page) pages.entries })
 last_forgotten old new pages page firsts forgets other bytes is =
     let was = forgets other bytes is in
     lookup_entry-without (λ (p : PageKey). nat_eq p.file other.file) page pages.entries (other, bytes) (firsts other bytes was.1) was.0
 
-pub last_pushed : (old mid new : List (Option LastPage)) (pages after : Pages) (key : PageKey) (held : List ℕ) (went : Option (PageKey × List ℕ))
+pub last_pushed : (old mid new : List (Option LastPage)) (pages after : PageList) (key : PageKey) (held : List ℕ) (went : Option (PageKey × List ℕ))
     → length pages.entries ≤ pages.cap → 0 < pages.cap
     → AreFirst old pages → PutsLast key held old mid → went ≡ displaced page_eq pages key held → ForgetsGone went mid new
     → after ≡ lru_cache (put_entries page_eq pages key held) pages.cap → AreFirst new after
 last_pushed old mid new pages after key held went fits room firsts puts gone_is forgets after_is other bytes is =
-    ap (λ (p : Pages). first_of other.file p) after_is ∙ pick (lookup_entry (page_eq key) pages.entries) refl
+    ap (λ (p : PageList). first_of other.file p.entries) after_is ∙ pick (lookup_entry (page_eq key) pages.entries) refl
   where
     pick : (at : Option (PageKey × List ℕ)) → lookup_entry (page_eq key) pages.entries ≡ at
         → lookup_entry (λ (p : PageKey). nat_eq p.file other.file) (option_map_or (λ e. (e.0, held) ∷ remove_entry (page_eq key) pages.entries) at
@@ -226,7 +243,7 @@ last_pushed old mid new pages after key held went fits room firsts puts gone_is 
         (λ apart was. lookup_entry-without (λ (p : PageKey). nat_eq p.file other.file) key pages.entries (other, bytes) (firsts other bytes was)
         (files_apart key other apart))
 
-pub last_refused : (old mid new : List (Option LastPage)) (pages : Pages) (key : PageKey) (held : List ℕ) → AreFirst old pages → PutsLast key held old mid
+pub last_refused : (old mid new : List (Option LastPage)) (pages : PageList) (key : PageKey) (held : List ℕ) → AreFirst old pages → PutsLast key held old mid
     → ForgetsLast key mid new → AreFirst new pages
 last_refused old mid new pages key held firsts puts forgets other bytes is =
     let was = forgets other bytes is in

@@ -1,6 +1,7 @@
 -- Of each file the page that was used last.
-use Rattle.std.specs.Prelude.{◌≡◌, ◌⊎◌, ℕ, List, Option, Some, None, cond, false, nat_eq, slice_get}
-use Rattle.page_cache.specs.Pages.{Pages, first_of, page_eq}
+use Rattle.std.specs.Prelude.{◌≡◌, ◌⊎◌, ℕ, List, Option, Some, None, cond, false, map}
+use Rattle.std.specs.Prelude.{nat_eq, slice_get}
+use Rattle.page_cache.specs.Pages.{PageList, Pages, first_of, page_eq}
 use Rattle.page_cache.specs.declared.page.PageKey.{PageKey}
 use Rattle.page_cache.specs.declared.last_pages.LastPage.{LastPage}
 
@@ -14,10 +15,23 @@ numbered number None = None
 abbrev pub last_page : List (Option LastPage) → PageKey → Option (List ℕ)
 last_page files page = numbered page.number (slice_get files page.file)
 
+-- the number of a file's last page
+abbrev pub number_of : Option LastPage → Option ℕ
+number_of (Some last) = Some last.number
+number_of None = None
+
+-- the same, of each file
+abbrev pub numbers_of : List (Option LastPage) → List (Option ℕ)
+numbers_of files = map number_of files
+
+-- what contracts see of the list and of the last pages
+abbrev pub seen : PageList → List (Option LastPage) → Pages
+seen list files = record { entries = list.entries; cap = list.cap; last = numbers_of files }
+
 -- the last page of each file stands first, of that file's pages
-abbrev pub AreFirst : List (Option LastPage) → Pages → Type 0
-AreFirst files pages = (page : PageKey) (bytes : List ℕ) → last_page files page ≡ Some bytes
-    → first_of page.file pages ≡ Some (page, bytes)
+abbrev pub AreFirst : List (Option LastPage) → PageList → Type 0
+AreFirst files list = (page : PageKey) (bytes : List ℕ) → last_page files page ≡ Some bytes
+    → first_of page.file list.entries ≡ Some (page, bytes)
 
 -- each last page was one before, and isn't this one
 abbrev pub ForgetsLast : PageKey → List (Option LastPage) → List (Option LastPage) → Type 0

@@ -8,20 +8,28 @@ use Rattle.std.specs.Prelude.{
   ◌&&◌,
   ℕ,
   Bool,
+  false,
+  cond,
   List,
   [],
   ◌∷◌,
   Contains,
   Option,
   Some,
+  None,
+  IsSome,
+  IsTrue,
   nat_eq,
+  slice_get,
+  slice_set,
   length,
+  replicate,
   take,
   drop,
 }
 use Rattle.std.specs.Map.{lookup, lookup_entry, remove_entry}
-use Rattle.lru.specs.LruCache.{LruCache, promoted, put_entries}
-use Rattle.disk_model.specs.Contents.{Files, Holds}
+use Rattle.lru.specs.LruCache.{LruCache, displaced, lru_cache, promoted, put_entries}
+use Rattle.disk_model.specs.Contents.{Files, Holds, number_of_files}
 use Rattle.rec_bytes.specs.declared.key.Key.{Key}
 use Rattle.rec_bytes.specs.declared.record.Rec.{Rec}
 use Rattle.rec_bytes.specs.Format.{record_bytes}
@@ -38,10 +46,21 @@ page_records = 64
 abbrev pub page_bytes : ℕ
 page_bytes = 4096
 
+-- the kept pages in the order of their use, and how many there may be
+abbrev pub PageList : Type 0
+PageList = LruCache PageKey (List ℕ)
+
 -- The kept pages, first the one that was last put in or moved to the front, and of each the bytes
--- that were read; and how many there may be.
-abbrev pub Pages : Type 0
-Pages = LruCache PageKey (List ℕ)
+-- that were read; how many there may be; and of each file the number of the page that is known as
+-- the one that was used last, if one is.
+pub record Pages : Type 0 where
+  pub entries : List (PageKey × List ℕ)
+  pub cap : ℕ
+  pub last : List (Option ℕ)
+
+-- no page yet, of those that there may be
+abbrev pub no_pages : ℕ → Pages
+no_pages room = record { entries = []; cap = room; last = replicate number_of_files None }
 
 -- the page of a record
 abbrev pub page_of : Key → PageKey
@@ -55,20 +74,58 @@ page_eq a b = nat_eq a.file b.file && nat_eq a.number b.number
 abbrev pub kept_page : Key → Pages → Option (List ℕ)
 kept_page key pages = lookup (page_eq (page_of key)) pages.entries
 
--- the same pages, and the page of the record, if it is kept, is the first
-abbrev pub used_last : Key → Pages → Pages
-used_last key pages = record pages { entries = promoted (page_eq (page_of key)) pages.entries }
+-- of a file a page is known as the one used last, and it has this number
+abbrev pub is_number : ℕ → Option (Option ℕ) → Bool
+is_number number (Some (Some last)) = nat_eq last number
+is_number number (Some None) = false
+is_number number None = false
 
--- the page of the record, with these bytes, is the first; if that is a page too many, the last one
--- is gone
-abbrev pub with_page : Key → List ℕ → Pages → Pages
-with_page key bytes pages =
-    record pages { entries = put_entries page_eq pages (page_of key) bytes }
+-- the page is known as the one of its file that was used last
+abbrev pub is_last : PageKey → List (Option ℕ) → Bool
+is_last page last = is_number page.number (slice_get last page.file)
+
+-- Of its file this page is known as the one used last, or none, where it couldn't be shared. Of
+-- each other file it is the page that it was.
+abbrev pub with_last : PageKey → Bool → List (Option ℕ) → List (Option ℕ)
+with_last page shared last = slice_set last page.file (cond shared (Some page.number) None)
+
+-- This page isn't known as the one of its file that was used last. Of each other page it is known
+-- as before.
+abbrev pub without_last : PageKey → List (Option ℕ) → List (Option ℕ)
+without_last page last = cond (is_last page last) (slice_set last page.file None) last
+
+-- the same of the page that went from the list, if one did
+abbrev pub without_gone : Option (PageKey × List ℕ) → List (Option ℕ) → List (Option ℕ)
+without_gone (Some gone) last = without_last gone.0 last
+without_gone None last = last
+
+-- The same pages, and the page of the record, if it is kept, is the first. It is known as the one
+-- of its file that was used last, if it could be shared.
+abbrev pub used_last : Key → Bool → Pages → Pages
+used_last key shared pages = record pages {
+  entries = promoted (page_eq (page_of key)) pages.entries;
+  last = with_last (page_of key) shared pages.last;
+}
+
+-- The page, with these bytes, is the first. If that is a page too many, the last one is gone, and
+-- isn't known as used last. Of its file the page is known as that, if it could be shared.
+abbrev pub with_page : PageKey → List ℕ → Bool → Pages → Pages
+with_page page bytes shared pages = record pages {
+  entries = put_entries page_eq (lru_cache pages.entries pages.cap) page bytes;
+  last = without_gone (displaced page_eq (lru_cache pages.entries pages.cap) page bytes)
+      (with_last page shared pages.last);
+}
+
+-- the same pages, and of the page's file none is known as the one used last
+abbrev pub without_file : PageKey → Pages → Pages
+without_file page pages = record pages { last = with_last page false pages.last }
 
 -- the same pages but for the one of the record
 abbrev pub without_page : Key → Pages → Pages
-without_page key pages =
-    record pages { entries = remove_entry (page_eq (page_of key)) pages.entries }
+without_page key pages = record pages {
+  entries = remove_entry (page_eq (page_of key)) pages.entries;
+  last = without_last (page_of key) pages.last;
+}
 
 -- the same pages but for those of these records
 abbrev pub without_pages : Pairs → Pages → Pages
@@ -76,22 +133,42 @@ without_pages [] pages = pages
 without_pages (pair ∷ rest) pages = without_pages rest (without_page pair.0 pages)
 
 -- of the pages of a file, the one that stands first in the list, with its bytes
-abbrev pub first_of : ℕ → Pages → Option (PageKey × List ℕ)
-first_of file pages = lookup_entry (λ page. nat_eq page.file file) pages.entries
+abbrev pub first_of : ℕ → List (PageKey × List ℕ) → Option (PageKey × List ℕ)
+first_of file entries = lookup_entry (λ page. nat_eq page.file file) entries
 
--- of the kept pages of its file, the page of the record is the one that was used last
-abbrev pub IsLastUsed : Key → Pages → Type 0
-IsLastUsed key pages = (bytes : List ℕ) × (first_of key.file pages ≡ Some (page_of key, bytes))
+-- The page of the record is known as the one of its file that was used last. Of the kept pages of
+-- its file it is the first in the list.
+pub record IsLastUsed (key : Key) (pages : Pages) : Type 0 where
+  pub known : IsTrue (is_last (page_of key) pages.last)
+  pub bytes : List ℕ
+  pub first : first_of key.file pages.entries ≡ Some (page_of key, bytes)
 
--- A hit puts the page of the record first. Only where that page was used last, of those of its
--- file, may each page stay in its place. No page comes or goes, and each has its bytes. If the page
--- isn't kept, the list stays as it is.
+-- The page of the record is kept, and isn't known as the one of its file that was used last. It
+-- goes to the front, and of its file no other is known then.
+pub record IsMoved (key : Key) (old new : Pages) : Type 0 where
+  pub unknown : is_last (page_of key) old.last ≡ false
+  pub kept : IsSome (kept_page key old)
+  pub shared : Bool
+  pub moved : new ≡ used_last key shared old
+
+-- A hit on the page that is known as the one of its file that was used last leaves all as it is.
+-- Each other hit puts its page first. No page comes or goes, and each has its bytes. If the page
+-- isn't kept, all stays as it is.
 abbrev pub IsUsed : Key → Pages → Pages → Type 0
-IsUsed key old new = (IsLastUsed key old × (new ≡ old)) ⊎ (new ≡ used_last key old)
+IsUsed key old new =
+    ((IsLastUsed key old ⊎ (kept_page key old ≡ None)) × (new ≡ old)) ⊎ IsMoved key old new
 
--- the page of the record was used or put in, and no other came
+-- the page of the record was put in
+pub record IsPut (key : Key) (old new : Pages) : Type 0 where
+  pub bytes : List ℕ
+  pub shared : Bool
+  pub put : new ≡ with_page (page_of key) bytes shared old
+
+-- The page of the record was used or put in, and no other came. If there was no memory to put it
+-- in, of its file none is known as the one used last.
 abbrev pub KeepsPage : Key → Pages → Pages → Type 0
-KeepsPage key old new = IsUsed key old new ⊎ ((bytes : List ℕ) × (new ≡ with_page key bytes old))
+KeepsPage key old new =
+    IsUsed key old new ⊎ (IsPut key old new ⊎ (new ≡ without_file (page_of key) old))
 
 -- the bytes are a page's, as they stand in a content
 pub record IsPage (content : Files) (page : PageKey) (bytes : List ℕ) : Type 0 where

@@ -1,13 +1,12 @@
-ghost use Rattle.std.specs.Prelude.{◌≡◌, ◌≤◌, ◌*◌, [], ℕ, List, Contains, IfOk, IsOk, IsSome};
+ghost use Rattle.std.specs.Prelude.{◌≡◌, ◌≤◌, ◌*◌, ℕ, Bool, List, Contains, IfOk, IsOk, IsSome};
 ghost use Rattle.std.specs.Prelude.{IsTrue, OnErr, OnOk, false, is_some, length, max, None};
 ghost use Rattle.fault_count.specs.Cause.{HasCause};
 ghost use Rattle.disk_model.specs.Contents.{Files};
 ghost use Rattle.disk_model.specs.Spans.{OnlyReads};
 ghost use Rattle.rec_bytes.specs.Key.{IsKey};
 ghost use Rattle.record_file.specs.Records.{KeepsOthers, SameButRecord, record_at};
-ghost use Rattle.lru.specs.LruCache.{lru_cache, put_entries};
-ghost use Rattle.page_cache.specs.Pages.{Agrees, IsUsed, KeepsPage, kept_page, page_eq, page_of};
-ghost use Rattle.page_cache.specs.Pages.{without_page, without_pages};
+ghost use Rattle.page_cache.specs.Pages.{Agrees, IsUsed, KeepsPage, kept_page, no_pages, page_of};
+ghost use Rattle.page_cache.specs.Pages.{with_page, without_file, without_page, without_pages};
 ghost use Rattle.page_cache.specs.Staying.{StayKept};
 
 use crate::last_pages::LastPages;
@@ -20,7 +19,8 @@ use std::alloc::{AllocError, Global};
 use std::marker::Model;
 use std::num::NonZeroUsize;
 
-/// The pages that were used last, in a list. Contracts see their bytes, as they were read.
+/// The pages that were used last, in a list. Contracts see their bytes, as they were read, and of
+/// each file the number of the page that is known as the one used last.
 #[derive(Drop)]
 pub struct PageCache {
     pages: LruCache<PageKey, Page>,
@@ -34,11 +34,11 @@ pub struct PageCache {
 
 impl Model for PageCache {
     ghost use Rattle.page_cache.specs.Pages.{Pages};
-    ghost use Rattle.page_cache.specs.LastPages.{AreFirst};
+    ghost use Rattle.page_cache.specs.LastPages.{AreFirst, seen};
 
     ghost Value = { Pages };
 
-    ghost view = { λ c. c.pages };
+    ghost view = { λ c. seen c.pages c.last.files };
 
     ghost invariant = { λ c. AreFirst c.last.files c.pages };
 }
@@ -46,7 +46,7 @@ impl Model for PageCache {
 impl PageCache {
     /// Room for so many pages, and for one where that is none; no page yet.
     pub fn new(alloc: Global, pages: usize) -> Result<PageCache, AllocError>
-        ensures empty { IfOk result (λ cache. cache ≡ lru_cache [] (max pages 1)) }
+        ensures empty { IfOk result (λ cache. cache ≡ no_pages (max pages 1)) }
         ensures agrees { IfOk result (λ cache. (content : Files) → Agrees content cache) }
     {
         let room = NonZeroUsize::new(pages).unwrap_or(NonZeroUsize::MIN);
@@ -69,8 +69,10 @@ impl PageCache {
 
     /// The record at a key, as it stands in its file. If its page is kept, no call of the disk is
     /// made, and otherwise one. A page that was read is kept, if there is memory for it, and the
-    /// last one of the list goes. A hit puts its page first there, but for one on the page that was
-    /// used last of its file already, which neither hashes nor moves a page.
+    /// last one of the list goes. A hit on the page that is known as the one of its file that was
+    /// used last neither hashes nor moves a page. Any other puts its page first in the list. A page
+    /// that is moved or read is the known one of its file then. If it can't be shared or kept, none
+    /// is.
     pub fn get<D: Disk>(&mut self, disk: &mut D, key: Key) -> Result<Rec, DiskFault>
         requires { IsKey key }
         ensures record { D.tells_reads → Agrees (D.reads disk.old) self.old
@@ -161,7 +163,7 @@ impl PageCache {
 
     /// Drops all pages.
     pub fn clear(&mut self)
-        ensures empty { self.new ≡ record self.old { entries = [] } }
+        ensures empty { self.new ≡ no_pages self.old.cap }
         ensures agrees { (content : Files) → Agrees content self.new }
     {
         self.last = LastPages::new();
@@ -223,11 +225,11 @@ impl PageCache {
     }
 
     // Keeps a page, as the last one of its file, if there is memory for that, and says whether
-    // there was.
+    // there was. If there wasn't, its file has no last page then.
     fn keep(&mut self, key: PageKey, page: Page) -> bool
         ensures kept { IsTrue result
-            → self.new ≡ record self.old { entries = put_entries page_eq self.old key page } }
-        ensures refused { result ≡ false → self.new ≡ self.old }
+            → (shared : Bool) × (self.new ≡ with_page key page shared self.old) }
+        ensures refused { result ≡ false → self.new ≡ without_file key self.old }
     {
         // The contract of `len` says that no more pages are kept than there is room for.
         let _before = self.pages.len();
