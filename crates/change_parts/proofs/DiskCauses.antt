@@ -14,6 +14,9 @@ use Rattle.rec_bytes.specs.declared.row_fault.RowFault.{RowFault}
 use Rattle.rec_bytes.specs.declared.row_fault.RowFault.TheVariants as rows
 use Rattle.rec_bytes.specs.declared.space.SpaceFault.{SpaceFault}
 use Rattle.rec_bytes.specs.declared.space.SpaceFault.TheVariants as spaces
+use Rattle.group_store.specs.OpenFault.{HasOpenCause}
+use Rattle.group_store.specs.declared.open_fault.OpenFault.{OpenFault}
+use Rattle.group_store.specs.declared.open_fault.OpenFault.TheVariants as opens
 use Rattle.name_store.specs.InternFault.{HasInternCause}
 use Rattle.name_store.specs.declared.intern_fault.InternFault.{InternFault}
 use Rattle.name_store.specs.declared.intern_fault.InternFault.TheVariants as interns
@@ -24,7 +27,7 @@ use Rattle.prop_store.specs.SetFault.{HasSetCause}
 use Rattle.prop_store.specs.declared.set_fault.SetFault.{SetFault}
 use Rattle.prop_store.specs.declared.set_fault.SetFault.TheVariants as sets
 use Rattle.change_parts.specs.Assigning.{IsReserveFault}
-use Rattle.change_parts.specs.ChangeFault.{HasChangeCause, of_fault, of_intern, of_make, of_row, of_set, of_space}
+use Rattle.change_parts.specs.ChangeFault.{HasChangeCause, of_fault, of_intern, of_make, of_open, of_row, of_set, of_space}
 use Rattle.change_parts.specs.Rooms.{HasRoom, LacksRoom}
 use Rattle.change_parts.specs.declared.change_fault.ChangeFault.{ChangeFault}
 use Rattle.change_parts.specs.declared.change_fault.ChangeFault.TheVariants.{Disk}
@@ -101,6 +104,16 @@ fault_blames (faults.Damaged damage) e = absurd cc
 pub fault_cause_passed : {T U : Type 0} (before mid now : ℕ) (r : Result T ChangeFault) (fault : Fault) → before ≤ mid
     → HasFaultCause {T = U} mid now (Err fault) → IsErrAnd r (λ f. f ≡ of_fault fault) → HasChangeCause before now r
 fault_cause_passed before mid now r fault early cause is = passed of_fault faults.Disk before mid now r fault (fault_blames fault) early cause is
+
+open_blames : (fault : OpenFault) → of_open fault ≡ Disk → fault ≡ opens.Disk
+open_blames (opens.Full live) e = absurd cc
+open_blames opens.Memory e = absurd cc
+open_blames opens.Disk e = refl
+open_blames (opens.Damaged damage) e = absurd cc
+
+pub open_cause_passed : {T U : Type 0} (before mid now : ℕ) (r : Result T ChangeFault) (fault : OpenFault) → before ≤ mid
+    → HasOpenCause {T = U} mid now (Err fault) → IsErrAnd r (λ f. f ≡ of_open fault) → HasChangeCause before now r
+open_cause_passed before mid now r fault early cause is = passed of_open opens.Disk before mid now r fault (open_blames fault) early cause is
 
 intern_blames : (fault : InternFault) → of_intern fault ≡ Disk → fault ≡ interns.Disk
 intern_blames (interns.NamesFull count) e = absurd cc

@@ -12,6 +12,8 @@ use Rattle.rec_bytes.specs.Cause.{HasDiskCause}
 use Rattle.rec_bytes.specs.Space.{State, SameButReads}
 use Rattle.id_freelist.specs.declared.take_fault.TakeFault.{TakeFault}
 use Rattle.id_freelist.specs.declared.take_fault.TakeFault.TheVariants as take
+use Rattle.group_store.specs.declared.open_fault.OpenFault.{OpenFault}
+use Rattle.group_store.specs.declared.open_fault.OpenFault.TheVariants as opens
 use Rattle.name_store.specs.declared.intern_fault.InternFault.{InternFault}
 use Rattle.name_store.specs.declared.intern_fault.InternFault.TheVariants as intern
 use Rattle.prop_index.specs.declared.make_fault.MakeFault.{MakeFault}
@@ -50,6 +52,12 @@ abbrev pub of_fault : Fault → ChangeFault
 of_fault faults.Memory = Memory
 of_fault faults.Disk = Disk
 of_fault (faults.Damaged damage) = Damaged damage
+
+abbrev pub of_open : OpenFault → ChangeFault
+of_open (opens.Full live) = Full format.groups_file live
+of_open opens.Memory = Memory
+of_open opens.Disk = Disk
+of_open (opens.Damaged damage) = Damaged damage
 
 abbrev pub of_set : SetFault → ChangeFault
 of_set (set.PropsFull count) = PropsFull count

@@ -15,7 +15,6 @@ use Rattle.change_parts.specs.declared.change_fault.ChangeFault.TheVariants.{Too
 use Rattle.change_parts.specs.declared.change_fault.ChangeFault.TheVariants.{IndexTooLarge}
 use Rattle.change_parts.specs.declared.change_fault.ChangeFault.TheVariants.{NamesFull, PropsFull}
 use Rattle.change_parts.specs.declared.change_fault.ChangeFault.TheVariants.{Memory, Disk, Damaged}
-use Rattle.group_store.specs.Opening.{IsFullDamage}
 
 -- what is so of a record that is blamed
 abbrev pub IfBlames : (Damage → Type 0) → ChangeFault → Type 0
@@ -99,12 +98,3 @@ IsOfLists s damage =
 -- no record but those of names, and their meta record, differs
 abbrev pub KeepsButNames : State → State → Type 0
 KeepsButNames s t = IsSameBeside format.names_file s.records t.records
-
--- A record that is blamed where the chains of a new edge are made ready breaks the rule in the
--- space as it is left. Or the file of groups is full, which has a word of its own once the edge is
--- put.
-abbrev pub IsLinkingDamage : State → Damage → Type 0
-IsLinkingDamage t damage = IsBroken t damage ⊎ IsFullDamage t damage
-
-abbrev pub BlamesLinking : State → ChangeFault → Type 0
-BlamesLinking t fault = IfBlames (IsLinkingDamage t) fault

@@ -1,8 +1,9 @@
+use group_store::OpenFault;
 use id_freelist::TakeFault;
 use name_store::InternFault;
 use prop_index::MakeFault;
 use prop_store::SetFault;
-use rec_bytes::{Damage, Fault, INDEX, RowFault, SpaceFault};
+use rec_bytes::{Damage, Fault, GROUPS, INDEX, RowFault, SpaceFault};
 use thiserror::Error;
 
 /// Why a change was refused.
@@ -116,6 +117,22 @@ impl From<Fault> for ChangeFault {
             Fault::Memory => ChangeFault::Memory,
             Fault::Disk => ChangeFault::Disk,
             Fault::Damaged(damage) => ChangeFault::Damaged(damage),
+        }
+    }
+}
+
+impl From<OpenFault> for ChangeFault {
+    ghost from_gives = { λ fault result. result ≡ of_open fault };
+
+    ghost use Rattle.std.specs.Prelude.{◌≡◌};
+    ghost use Rattle.change_parts.specs.ChangeFault.{of_open};
+
+    fn from(fault: OpenFault) -> ChangeFault {
+        match fault {
+            OpenFault::Full { live } => ChangeFault::Full { file: GROUPS, live },
+            OpenFault::Memory => ChangeFault::Memory,
+            OpenFault::Disk => ChangeFault::Disk,
+            OpenFault::Damaged(damage) => ChangeFault::Damaged(damage),
         }
     }
 }

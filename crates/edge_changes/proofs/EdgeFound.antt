@@ -34,17 +34,17 @@ use Rattle.chain_edit.specs.Links.IsLinkDamage.{HighMark, LeadsNowhere}
 use Rattle.chain_edit.specs.Pushing.{IsPushFault, first_damage, pushed}
 use Rattle.chain_edit.proofs.LinkLaws.{key_cases}
 use Rattle.group_store.specs.Counting.{one_more, tallied}
-use Rattle.group_store.specs.Faults.{full_damage}
 use Rattle.group_store.specs.Leaving.{IsLowLink, LeavesBeside}
-use Rattle.group_store.specs.Opening.{GrowsAtMost}
+use Rattle.group_store.specs.OpenFault.{IfRefuses}
+use Rattle.group_store.specs.declared.open_fault.OpenFault.{OpenFault}
+use Rattle.group_store.specs.declared.open_fault.OpenFault.TheVariants as opens
 use Rattle.group_store.specs.Naming.{IsNamedAt, IsOfMarks, NamesAt, NamesFound, NamesMeta}
-use Rattle.change_parts.specs.ChangeFault.{of_fault}
+use Rattle.change_parts.specs.ChangeFault.{of_fault, of_open}
 use Rattle.change_parts.specs.Damage.{BlamesBroken, IfBlames, IsAsFound, IsBroken, IsOfLists, KeepsButNames}
 use Rattle.change_parts.specs.declared.change_fault.ChangeFault.{ChangeFault}
 use Rattle.change_parts.proofs.Adding.{lists_before, lists_broken}
 use Rattle.change_parts.proofs.Broken.{blames_both, blames_more}
-use Rattle.edge_changes.specs.EdgeAdding.{BlamesAdded, BlamesChains, BlamesEnd, BlamesPut, HarmsNoFiles, IsAddDamage, IsChainDamage, IsOfChains, IsOfEnd}
-use Rattle.edge_changes.specs.EdgeAdding.{IsOfEnds, IsPutDamage}
+use Rattle.edge_changes.specs.EdgeAdding.{BlamesAdded, BlamesChains, BlamesEnd, HarmsNoFiles, IsAddDamage, IsChainDamage, IsOfChains, IsOfEnd, IsOfEnds}
 use Rattle.edge_changes.specs.EdgeAdding.{IsOfNodes, KeepsButChains, groups_needed}
 use Rattle.edge_changes.specs.EdgeEnds.{AtEach, AtSome, HasHead, joined, source_of, target_of}
 use Rattle.edge_changes.specs.EdgeJoining.{BlamesEndJoined, IsJoinDamage, IsLostEnd, IsOfLost, KeepsBesideEnd}
@@ -83,23 +83,16 @@ KeepsMarks s t = (damage : Damage) → IsOfMarks damage → IsAsFound s t damage
 abbrev pub KeepsThese : State → State → (Damage → Type 0) → Type 0
 KeepsThese s t these = (damage : Damage) → IsOfMarks damage ⊎ these damage → IsAsFound s t damage
 
-pub chain_then : (j k : ℕ) (s u t : State) (these : Damage → Type 0) → u.shape ≡ s.shape → GrowsAtMost s u j → HarmsNoFiles s u → KeepsThese s u these
-    → (damage : Damage) → IsChainDamage u t k these damage → IsChainDamage s t (j + k) these damage
-chain_then j k s u t these shape grows harmless keeps damage (inl rel) = inl (harmless damage rel)
-chain_then j k s u t these shape grows harmless keeps damage (inr (inl found)) = inr (inl (found.0, found.1 ∙ keeps damage found.0))
-chain_then j k s u t these shape grows harmless keeps damage (inr (inr short)) = inr (inr (record {
-  full = short.full;
-  lacks = let lacks = short.lacks in let room = ap (λ (h : Shape). room_of h format.groups_file) shape in omega (arith, lacks, grows, room);
-}))
+pub chain_then : (s u t : State) (these : Damage → Type 0) → HarmsNoFiles s u → KeepsThese s u these
+    → (damage : Damage) → IsChainDamage u t these damage → IsChainDamage s t these damage
+chain_then s u t these harmless keeps damage (inl rel) = inl (harmless damage rel)
+chain_then s u t these harmless keeps damage (inr found) = inr (found.0, found.1 ∙ keeps damage found.0)
 
 -- it is one of those, too
-pub chain_more : (j k : ℕ) (s t : State) (these those : Damage → Type 0) → j ≤ k → ((damage : Damage) → these damage → those damage) → (damage : Damage)
-    → IsChainDamage s t j these damage → IsChainDamage s t k those damage
-chain_more j k s t these those le more damage (inl rel) = inl rel
-chain_more j k s t these those le more damage (inr (inl found)) =
-    inr (inl (⊎_elim (λ mark. inl mark) (λ this. inr (more damage this)) found.0, found.1))
-chain_more j k s t these those le more damage (inr (inr short)) =
-    inr (inr (record { full = short.full; lacks = let lacks = short.lacks in omega (arith, lacks, le) }))
+pub chain_more : (s t : State) (these those : Damage → Type 0) → ((damage : Damage) → these damage → those damage) → (damage : Damage)
+    → IsChainDamage s t these damage → IsChainDamage s t those damage
+chain_more s t these those more damage (inl rel) = inl rel
+chain_more s t these those more damage (inr found) = inr (⊎_elim (λ mark. inl mark) (λ this. inr (more damage this)) found.0, found.1)
 
 -- no meta record but that of the groups is other
 pub marks_kept : (s t : State) (from to : ℕ) → KeepsButChains s t from to
@@ -146,12 +139,12 @@ pub end_of : (s : State) (from to node : ℕ) → (node ≡ from) ⊎ (node ≡ 
 end_of s from to node is damage at = ⊎_elim (λ group. inl group.0) (λ own. inr (node_of from to node is damage own)) at
 
 -- what is told at an end, in a space after one that left these records of it as they were
-pub end_blames : (j k l : ℕ) (s m t : State) (from to node : ℕ) → (node ≡ from) ⊎ (node ≡ to) → j + k ≤ l → m.shape ≡ s.shape → GrowsAtMost s m j
-    → HarmsNoFiles s m → KeepsThese s m (IsOfEnd m node) → (fault : ChangeFault) → BlamesEnd m t k node fault → BlamesChains s t l from to fault
-end_blames j k l s m t from to node is le shape grows harmless keeps fault told =
-    blames_more (IsChainDamage m t k (IsOfEnd m node)) (IsChainDamage s t l (IsOfEnds from to))
-    (λ damage chain. chain_more (j + k) l s t (IsOfEnd m node) (IsOfEnds from to) le (end_of m from to node is) damage
-    (chain_then j k s m t (IsOfEnd m node) shape grows harmless keeps damage chain)) fault told
+pub end_blames : (s m t : State) (from to node : ℕ) → (node ≡ from) ⊎ (node ≡ to) → HarmsNoFiles s m → KeepsThese s m (IsOfEnd m node)
+    → (fault : ChangeFault) → BlamesEnd m t node fault → BlamesChains s t from to fault
+end_blames s m t from to node is harmless keeps fault told =
+    blames_more (IsChainDamage m t (IsOfEnd m node)) (IsChainDamage s t (IsOfEnds from to))
+    (λ damage chain. chain_more s t (IsOfEnd m node) (IsOfEnds from to) (end_of m from to node is) damage
+    (chain_then s m t (IsOfEnd m node) harmless keeps damage chain)) fault told
 
 -- nothing is other before
 pub these_same : (s : State) (these : Damage → Type 0) → KeepsThese s s these
@@ -200,19 +193,20 @@ other_beside s t a b ne beside damage (inr (inr at)) = beside.others (key_in dam
 
 -- a record that is named where no head is found or made
 named_chain : (k : ℕ) (s t : State) (node : ℕ) → LeavesBeside s.records t.records node → (damage : Damage) → IsNamedAt s node damage
-    → NamesFound s t node (faults.Damaged damage) → NamesMeta s t k (faults.Damaged damage) → IsChainDamage s t k (IsOfEnd s node) damage
+    → NamesFound s t node (opens.Damaged damage) → NamesMeta s t k (opens.Damaged damage) → IsChainDamage s t (IsOfEnd s node) damage
 named_chain k s t node beside damage (inl (inl (inl group))) found metas =
-    ⊎_elim (λ list. inl (inr (inr list))) (λ k. inr (inl (inr (inl (group, k.1)), k.0))) (found.groups group)
-named_chain k s t node beside damage (inl (inl (inr of))) found metas = ⊎_elim (λ list. inl (inr (inr list))) (λ full. inr (inr full)) (metas of)
-named_chain k s t node beside damage (inl (inr at)) found metas = inr (inl (inr (inr (at.0, inl at.1)), found.nodes at.0))
-named_chain k s t node beside damage (inr (inl mark)) found metas = inr (inl (inl mark, marks_beside s t node beside damage mark))
+    ⊎_elim (λ list. inl (inr (inr list))) (λ k. inr (inr (inl (group, k.1)), k.0)) (found.groups group)
+named_chain k s t node beside damage (inl (inl (inr of))) found metas = inl (inr (inr (metas of)))
+named_chain k s t node beside damage (inl (inr at)) found metas = inr (inr (inr (at.0, inl at.1)), found.nodes at.0)
+named_chain k s t node beside damage (inr (inl mark)) found metas = inr (inl mark, marks_beside s t node beside damage mark)
 named_chain k s t node beside damage (inr (inr unread)) found metas = inl (inl unread)
 
-pub open_blames : (k : ℕ) (s t : State) (node : ℕ) (fault : Fault) → NamesAt s node fault → NamesFound s t node fault → NamesMeta s t k fault
-    → IfSome (damage_of fault) (λ _. LeavesBeside s.records t.records node) → BlamesEnd s t k node (of_fault fault)
-open_blames k s t node faults.Memory names found metas beside = tt
-open_blames k s t node faults.Disk names found metas beside = tt
-open_blames k s t node (faults.Damaged damage) names found metas beside = named_chain k s t node beside damage names found metas
+pub open_blames : (k : ℕ) (s t : State) (node : ℕ) (fault : OpenFault) → NamesAt s node fault → NamesFound s t node fault → NamesMeta s t k fault
+    → IfRefuses (LeavesBeside s.records t.records node) fault → BlamesEnd s t node (of_open fault)
+open_blames k s t node (opens.Full live) names found metas beside = tt
+open_blames k s t node opens.Memory names found metas beside = tt
+open_blames k s t node opens.Disk names found metas beside = tt
+open_blames k s t node (opens.Damaged damage) names found metas beside = named_chain k s t node beside damage names found metas
 
 -- an identifier is taken, and the record of a relationship is written
 pub found_placed : (s t : State) (id from to : ℕ)
@@ -229,9 +223,9 @@ found_placed s t id from to changes damage = by (changes.each (key_in damage.fil
 
 -- nothing is written where no identifier is taken
 pub taken_found : (s t : State) → SameButReads s t → (damage : Damage)
-    → IsOfMarks damage ⊎ IsListDamage s.records s.shape format.relationships_file damage → IsChainDamage s t 0 (λ _. ⊥) damage
+    → IsOfMarks damage ⊎ IsListDamage s.records s.shape format.relationships_file damage → IsChainDamage s t (λ _. ⊥) damage
 taken_found s t same damage told = ⊎_elim
-    (λ of. inr (inl (inl of, ap (λ (z : State). z.records (key_in damage.file damage.id)) same))) (λ list. inl (inr (inl list))) told
+    (λ of. inr (inl of, ap (λ (z : State). z.records (key_in damage.file damage.id)) same)) (λ list. inl (inr (inl list))) told
 
 -- no record of another file is written then but a meta record
 pub placed_others : (s t : State) (id : ℕ) → ChangesOnly s t (key_in format.relationships_file id ∷ meta_key_of format.relationships_file ∷ [])
@@ -351,12 +345,12 @@ some_more each some other (Two source target) then is (inr at) = inr (then targe
 pub placed_then : (s u t : State) (ends : Ends EdgeEnd) → HarmsNoList s u format.relationships_file
     → ((key : Key) → key.file ≢ format.relationships_file → key.file ≢ format.meta_file → u.records key ≡ s.records key)
     → rel_mark s ≤ rel_mark u → AtEach (HasHead s.records) ends → (damage : Damage)
-    → IsJoinDamage u t ends damage → IsChainDamage s t 0 (IsOfLost s ends) damage
+    → IsJoinDamage u t ends damage → IsChainDamage s t (IsOfLost s ends) damage
 placed_then s u t ends harmless others grown has damage (inl high) =
     inl (inr (inl (subst (IsListDamage s.records s.shape format.relationships_file) (sym high.0)
     (harmless mark_damage (OutOfRange (λ r. let low = r.mark in let above = high.1 in omega arith))))))
 placed_then s u t ends harmless others grown has damage (inr at) =
-    inr (inl (inr (some_more (HasHead s.records) (IsLostEnd u damage) (IsLostEnd s damage) ends lost has at.0), at.1 ∙ was))
+    inr (inr (some_more (HasHead s.records) (IsLostEnd u damage) (IsLostEnd s damage) ends lost has at.0), at.1 ∙ was)
   where
     same : (end : EdgeEnd) → HasHead s.records end → u.records end.head.key ≡ s.records end.head.key
     same end owns = others end.head.key (head_is_no_rel s.records (head_of end.head) end.node owns) (head_is_no_meta s.records (head_of end.head) end.node owns)
@@ -445,33 +439,19 @@ read_names s n u same keeps key other no_meta = keeps key other no_meta ∙ ap (
 pub broken_added : (s t : State) (fault : ChangeFault) → BlamesBroken s fault → BlamesAdded s t fault
 broken_added s t fault told = blames_more (IsBroken s) (IsAddDamage s t) (λ damage broken. inl broken) fault told
 
--- none of these is the meta record of the groups
-pub no_group_meta : (from to : ℕ) (damage : Damage) → damage ≡ full_damage → IsOfMarks damage ⊎ IsOfEnds from to damage → ⊥
-no_group_meta from to damage is of = by of
-  where
-    file : damage.file ≡ format.meta_file
-    file = ap (λ (d : Damage). d.file) is
-
-    id : damage.id ≡ format.groups_file
-    id = ap (λ (d : Damage). d.id) is
-
-    by : IsOfMarks damage ⊎ IsOfEnds from to damage → ⊥
-    by (inl mark) = let i = id in ⊎_elim (λ (e : damage.id ≡ format.nodes_file). omega arith)
-        (λ (e : damage.id ≡ format.relationships_file). omega arith) mark.1
-    by (inr (inl group)) = let f = file in omega arith
-    by (inr (inr node)) = let f = file in let n = node.0 in omega arith
-
 -- in the chains
-chain_added : (s u t : State) (from to : ℕ) → u.shape ≡ s.shape → KeepsButNames s u → (damage : Damage) → IsBroken t damage → IsPutDamage u t from to damage
+chain_added : (s u t : State) (from to : ℕ) → u.shape ≡ s.shape → KeepsButNames s u → (damage : Damage) → IsBroken t damage
+    → IsChainDamage u t (IsOfEnds from to) damage
     → IsAddDamage s t damage
 chain_added s u t from to shape keeps damage broken (inl file) = inl (files_broken s damage (files_beyond s u shape keeps damage file))
 chain_added s u t from to shape keeps damage broken (inr found) = inr (broken, found.1 ∙ these_beyond s u from to keeps damage found.0)
 
 pub chains_added : (s u t : State) (from to : ℕ) → u.shape ≡ s.shape → KeepsButNames s u → (fault : ChangeFault) → BlamesBroken t fault
-    → BlamesPut u t from to fault → BlamesAdded s t fault
+    → BlamesChains u t from to fault → BlamesAdded s t fault
 chains_added s u t from to shape keeps fault told found =
-    blames_more (λ damage. IsBroken t damage × IsPutDamage u t from to damage) (IsAddDamage s t)
-    (λ damage both. chain_added s u t from to shape keeps damage both.0 both.1) fault (blames_both (IsBroken t) (IsPutDamage u t from to) fault told found)
+    let chains = IsChainDamage u t (IsOfEnds from to) in
+    blames_more (λ damage. IsBroken t damage × chains damage) (IsAddDamage s t)
+    (λ damage both. chain_added s u t from to shape keeps damage both.0 both.1) fault (blames_both (IsBroken t) chains fault told found)
 
 -- the file of groups had the same room before names were made
 pub few_before : (k : ℕ) (s u : State) → k ≡ groups_needed s.shape.threshold → u.shape ≡ s.shape → KeepsButNames s u

@@ -18,11 +18,12 @@ use Rattle.store_rules.specs.Views.{high, key_in, kind_at, kind_in, rec_at}
 use Rattle.chain_edit.specs.Breaks.{IsBreakFault}
 use Rattle.chain_edit.proofs.LinkLaws.{key_cases}
 use Rattle.group_store.specs.Opening.{IsOpenFault}
+use Rattle.group_store.specs.declared.open_fault.OpenFault.{OpenFault}
+use Rattle.group_store.specs.declared.open_fault.OpenFault.TheVariants as opens
 use Rattle.group_store.specs.Leaving.{LeavesBeside}
 use Rattle.group_store.proofs.LeftBeside.{beside_kinds}
-use Rattle.change_parts.specs.ChangeFault.{of_fault}
-use Rattle.change_parts.specs.Damage.{BlamesBroken, IfBlames, KeepsButNames}
-use Rattle.change_parts.specs.Damage.{IsLinkingDamage}
+use Rattle.change_parts.specs.ChangeFault.{of_fault, of_open}
+use Rattle.change_parts.specs.Damage.{BlamesBroken, KeepsButNames}
 use Rattle.edge_changes.specs.EdgeAdding.{IsUsedNode}
 use Rattle.change_parts.specs.Owners.{IsAbsent}
 use Rattle.change_parts.specs.Rooms.{HasRoom}
@@ -49,10 +50,11 @@ absent_blamed s target (Damaged damage) told = told
 
 -- ---- an end for which no head is found or made
 
-pub end_blamed : (t : State) (fault : Fault) → IsOpenFault t fault → IfBlames (IsLinkingDamage t) (of_fault fault)
-end_blamed t faults.Memory told = tt
-end_blamed t faults.Disk told = tt
-end_blamed t (faults.Damaged damage) told = ⊎_elim (λ broken. inl (inl broken)) (λ full. inr full) told
+pub end_blamed : (t : State) (fault : OpenFault) → IsOpenFault t fault → BlamesBroken t (of_open fault)
+end_blamed t (opens.Full live) told = tt
+end_blamed t opens.Memory told = tt
+end_blamed t opens.Disk told = tt
+end_blamed t (opens.Damaged damage) told = inl told
 
 -- ---- nodes that are sparse or dense
 

@@ -9,7 +9,6 @@ use Rattle.id_freelist.specs.ListDamage.{IsListDamage}
 use Rattle.group_store.specs.Densing.{IsSparse}
 use Rattle.group_store.specs.GroupChain.{IsDense}
 use Rattle.group_store.specs.Naming.{IsNoOther, IsOfMarks, IsUnread}
-use Rattle.group_store.specs.Opening.{IsShortDamage}
 use Rattle.change_parts.specs.Damage.{IfBlames, IsAsFound, IsBroken}
 use Rattle.edge_changes.specs.EdgeEnds.{AreApart, source_of, target_of}
 use Rattle.change_parts.specs.Degrees.{HasDegree}
@@ -101,35 +100,23 @@ IsOfEnd s node damage =
     ⊎ IsOfNodes node node damage
 
 -- What is called damaged where an edge comes into its chains: what was wrong with the files before;
--- one of these, or the meta record of the nodes or of the relationships, which is as it was found;
--- or the meta record of the groups where their file is full, and had room for fewer than this.
-abbrev pub IsChainDamage : State → State → ℕ → (Damage → Type 0) → Damage → Type 0
-IsChainDamage s t needed these damage = IsFileDamage s damage
-    ⊎ (((IsOfMarks damage ⊎ these damage) × IsAsFound s t damage)
-    ⊎ IsShortDamage s t needed damage)
+-- or one of these, or the meta record of the nodes or of the relationships, which is as it was
+-- found.
+abbrev pub IsChainDamage : State → State → (Damage → Type 0) → Damage → Type 0
+IsChainDamage s t these damage = IsFileDamage s damage
+    ⊎ ((IsOfMarks damage ⊎ these damage) × IsAsFound s t damage)
 
-abbrev pub BlamesChains : State → State → ℕ → ℕ → ℕ → ChangeFault → Type 0
-BlamesChains s t needed from to fault =
-    IfBlames (IsChainDamage s t needed (IsOfEnds from to)) fault
+abbrev pub BlamesChains : State → State → ℕ → ℕ → ChangeFault → Type 0
+BlamesChains s t from to fault = IfBlames (IsChainDamage s t (IsOfEnds from to)) fault
 
 -- so at one end
-abbrev pub BlamesEnd : State → State → ℕ → ℕ → ChangeFault → Type 0
-BlamesEnd s t needed node fault = IfBlames (IsChainDamage s t needed (IsOfEnd s node)) fault
+abbrev pub BlamesEnd : State → State → ℕ → ChangeFault → Type 0
+BlamesEnd s t node fault = IfBlames (IsChainDamage s t (IsOfEnd s node)) fault
 
 -- How many groups may be made where an edge comes into its chains: at each end one for each of the
 -- relationships of a node that becomes dense, and one for the edge.
 abbrev pub groups_needed : ℕ → ℕ
 groups_needed threshold = 2 * (threshold + 1)
-
--- What is called damaged where an edge is put: what was wrong with the files before; or one of the
--- nodes, a group, or the meta record of the nodes or of the relationships, which is as it was
--- found.
-abbrev pub IsPutDamage : State → State → ℕ → ℕ → Damage → Type 0
-IsPutDamage s t from to damage = IsFileDamage s damage
-    ⊎ ((IsOfMarks damage ⊎ IsOfEnds from to damage) × IsAsFound s t damage)
-
-abbrev pub BlamesPut : State → State → ℕ → ℕ → ChangeFault → Type 0
-BlamesPut s t from to fault = IfBlames (IsPutDamage s t from to) fault
 
 -- A record that is blamed where an edge is added breaks a rule in the space as it was. Or it does
 -- so in the space as it is left, and is as it was found.

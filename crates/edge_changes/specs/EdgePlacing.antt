@@ -1,23 +1,22 @@
 -- What a new edge writes.
-use Rattle.std.specs.Prelude.{◌≡◌, ◌≢◌, ◌⊎◌, ℕ, ◌+◌, ◌<◌, true, false, List, Some}
+use Rattle.std.specs.Prelude.{◌≡◌, ◌≢◌, ℕ, ◌+◌, ◌<◌, true, false, List, Some}
 use Rattle.plain_graph.specs.Graph.{edge_number, has_edge, has_node, with_row}
 use Rattle.plain_graph.specs.Properties.{no_properties}
 use Rattle.rec_bytes.specs.Format as format
 use Rattle.rec_bytes.specs.Record.{field}
 use Rattle.rec_bytes.specs.RecordFiles.{room_of}
 use Rattle.rec_bytes.specs.Space.{State, meta_in, meta_of}
-use Rattle.rec_bytes.specs.declared.damage.Damage.{Damage}
 use Rattle.id_freelist.specs.FreeLists.{IsFreeList}
 use Rattle.id_freelist.specs.Taking.{mark_after, rest_of}
 use Rattle.prop_store.specs.SetFault.{IsFullFile}
 use Rattle.store_rules.specs.Ends.{IsEndHead}
 use Rattle.store_rules.specs.Rules.{Head, first_of, next_free}
 use Rattle.store_rules.specs.Views.{Records, RelRow, high, kind_at, rec_at, rel_at}
-use Rattle.group_store.specs.Opening.{IsCountedHead, IsFullDamage}
+use Rattle.group_store.specs.Opening.{IsCountedHead}
 use Rattle.change_parts.specs.ChangeFault.{IsFailure}
 use Rattle.change_parts.specs.Store.{IsMidway, KeepsIndexes}
 use Rattle.change_parts.specs.declared.change_fault.ChangeFault.{ChangeFault}
-use Rattle.change_parts.specs.declared.change_fault.ChangeFault.TheVariants.{Full, Damaged}
+use Rattle.change_parts.specs.declared.change_fault.ChangeFault.TheVariants.{Full}
 use Rattle.store_rules.specs.Graph.{graph_in}
 
 -- Groups of nodes are other ones at most, which no graph shows.
@@ -92,17 +91,6 @@ TakesFirst old new file = (free : List ℕ) → IsFreeList old file free
     → IsFreeList new file (rest_of free) × (high new file ≡ mark_after free (high old file))
 
 -- ---- a full file of groups
-
--- the fault calls the meta record of the groups damaged, and their file is full
-abbrev pub IsFullFault : State → ChangeFault → Type 0
-IsFullFault t fault = (damage : Damage) × (fault ≡ Damaged damage) × IsFullDamage t damage
-
--- Such a fault is told as that of a full file, and each other one as it is.
-abbrev pub TellsFull : State → ChangeFault → ChangeFault → Type 0
-TellsFull t fault told =
-    (IsFullFault t fault
-    × (told ≡ Full format.groups_file (meta_of t format.groups_file).live))
-    ⊎ ((¬ IsFullFault t fault) × (told ≡ fault))
 
 -- A failure of the machine, or a damaged record. Or the file of groups is full, by the space as it
 -- is left.

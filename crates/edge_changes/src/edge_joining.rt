@@ -69,7 +69,7 @@ pub(crate) fn join_edge<S: Space>(
         → OnOk result (KeepsButChains (S.state space.old) (S.state space.new)
         (source_of ends).node (target_of ends).node) }
     ensures found { S.tells → AtEach (HasHead (S.state space.old).records) ends
-        → IfErr result (IfBlames (IsChainDamage (S.state space.old) (S.state space.new) 0
+        → IfErr result (IfBlames (IsChainDamage (S.state space.old) (S.state space.new)
         (IsOfLost (S.state space.old) ends))) }
     ensures stands { S.tells → IfOk result (λ id. IsEdgeBetween (S.state space.new).records id
         (source_of ends).node (target_of ends).node) }
@@ -104,7 +104,7 @@ fn place<S: Space>(space: &mut S, label: u32, from: u32, to: u32) -> Result<u32,
     ensures leaves { S.tells
         → OnOk result (KeepsButChains (S.state space.old) (S.state space.new) from to) }
     ensures found { S.tells
-        → IfErr result (IfBlames (IsChainDamage (S.state space.old) (S.state space.new) 0
+        → IfErr result (IfBlames (IsChainDamage (S.state space.old) (S.state space.new)
         (λ damage. ⊥))) }
     ensures others { S.tells → OnOk result ((key : Key)
         → key.file ≢ relationships_file → key.file ≢ meta_file

@@ -7,8 +7,8 @@ ghost use Rattle.group_store.specs.Leaving.{KeepsOtherHeads, LeavesBeside};
 ghost use Rattle.group_store.specs.Opening.{CanOpen, GrowsAtMost, HasGroupRoom, OpensChain};
 ghost use Rattle.group_store.specs.Opening.{WritesOpened};
 ghost use Rattle.group_store.specs.Opening.{moved_writes};
-ghost use Rattle.change_parts.specs.ChangeFault.{HasChangeCause, IsFailure, IsOutside};
-ghost use Rattle.change_parts.specs.Damage.{BlamesLinking};
+ghost use Rattle.change_parts.specs.ChangeFault.{HasChangeCause, IsOutside};
+ghost use Rattle.change_parts.specs.Damage.{BlamesBroken};
 ghost use Rattle.edge_changes.specs.EdgeAdding.{BlamesChains, BlamesEnd, HarmsNoFiles};
 ghost use Rattle.edge_changes.specs.EdgeAdding.{KeepsButChains, groups_needed};
 ghost use Rattle.edge_changes.specs.EdgeAdding.{IsNodeEnd, IsUsedEnd, IsUsedNode};
@@ -17,7 +17,7 @@ ghost use Rattle.edge_changes.specs.EdgeEnds.{source_of, target_of};
 ghost use Rattle.edge_changes.specs.EdgeOpening.{CanLink, IsJoint, KeepsHead, OpensEnds};
 ghost use Rattle.edge_changes.specs.EdgeOpening.{WritesEndsOpened};
 ghost use Rattle.edge_changes.specs.EdgeOpening.{ends_moved, from_of, to_of};
-ghost use Rattle.edge_changes.specs.EdgePlacing.{KeepsFreeEdges};
+ghost use Rattle.edge_changes.specs.EdgePlacing.{HadFewGroups, IsPutFault, KeepsFreeEdges};
 ghost use Rattle.change_parts.specs.Rooms.{HasRoom};
 ghost use Rattle.rec_bytes.specs.Format.{groups_file, nodes_file, relationships_file};
 ghost use Rattle.rec_bytes.specs.RecordFiles.{meta_key_of};
@@ -41,7 +41,7 @@ pub(crate) fn open_ends<S: Space>(space: &mut S, joint: Joint) -> Result<Ends<Ed
         → HasRoom (S.state space.old) relationships_file 1 → IfErr result IsOutside }
     ensures damaged { S.tells → AtEach (IsUsedEnd (S.state space.old)) joint.ends
         → joint.threshold ≡ (S.state space.old).shape.threshold
-        → IfErr result (BlamesLinking (S.state space.new)) }
+        → IfErr result (BlamesBroken (S.state space.new)) }
     // the meta record of the relationships stays
     ensures meta_record { S.tells
         → OnOk result ((S.state space.new).records (meta_key_of relationships_file)
@@ -53,8 +53,7 @@ pub(crate) fn open_ends<S: Space>(space: &mut S, joint: Joint) -> Result<Ends<Ed
     ensures leaves { S.tells → OnOk result
         (KeepsButChains (S.state space.old) (S.state space.new) (from_of joint) (to_of joint)) }
     ensures found { S.tells → IfErr result
-        (BlamesChains (S.state space.old) (S.state space.new) (groups_needed joint.threshold)
-        (from_of joint) (to_of joint)) }
+        (BlamesChains (S.state space.old) (S.state space.new) (from_of joint) (to_of joint)) }
     ensures room { S.tells → OnOk result (GrowsAtMost (S.state space.old) (S.state space.new)
         (groups_needed joint.threshold)) }
     ensures has { S.tells → AtEach (IsUsedEnd (S.state space.old)) joint.ends
@@ -69,7 +68,9 @@ pub(crate) fn open_ends<S: Space>(space: &mut S, joint: Joint) -> Result<Ends<Ed
         (2 + ends_moved joint.threshold joint.ends)) }
     ensures writes { WritesAtMost (6 + ends_moved joint.threshold joint.ends)
         (S.state space.old) (S.state space.new) }
-    ensures failure { IfErr result IsFailure }
+    ensures failure { S.tells → IfErr result (IsPutFault (S.state space.new)) }
+    ensures short { S.tells
+        → IfErr result (HadFewGroups (S.state space.old) (groups_needed joint.threshold)) }
     ensures onward { S.onward space.old space.new }
     ensures cause { HasChangeCause (S.faults space.old) (S.faults space.new) result }
 {
@@ -107,13 +108,13 @@ fn open_end<S: Space>(
         empty → HasGroupRoom (S.state space.old) empty → IfErr result IsOutside }
     ensures damaged { S.tells → IsUsedNode (S.state space.old) end.node
         → (S.state space.old).shape.threshold ≤ joint.threshold
-        → IfErr result (BlamesLinking (S.state space.new)) }
+        → IfErr result (BlamesBroken (S.state space.new)) }
     ensures leaves_others { S.tells → OnOk result (LeavesBeside (S.state space.old).records
         (S.state space.new).records end.node) }
     ensures leaves { S.tells → OnOk result
         (KeepsButChains (S.state space.old) (S.state space.new) end.node end.node) }
     ensures found { S.tells → IfErr result
-        (BlamesEnd (S.state space.old) (S.state space.new) (joint.threshold + 1) end.node) }
+        (BlamesEnd (S.state space.old) (S.state space.new) end.node) }
     ensures room { S.tells → OnOk result (GrowsAtMost (S.state space.old) (S.state space.new)
         (joint.threshold + 1)) }
     ensures has { S.tells → IsUsedNode (S.state space.old) end.node
@@ -132,7 +133,9 @@ fn open_end<S: Space>(
         (moved_writes joint.threshold end.degree + 1)) }
     ensures writes { WritesBeside (key_in nodes_file end.node)
         (moved_writes joint.threshold end.degree + 2) (S.state space.old) (S.state space.new) }
-    ensures failure { IfErr result IsFailure }
+    ensures failure { S.tells → IfErr result (IsPutFault (S.state space.new)) }
+    ensures short { S.tells
+        → IfErr result (HadFewGroups (S.state space.old) (joint.threshold + 1)) }
     ensures onward { S.onward space.old space.new }
     ensures cause { HasChangeCause (S.faults space.old) (S.faults space.new) result }
 {

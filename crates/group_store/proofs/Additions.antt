@@ -4,7 +4,6 @@ use Rattle.std.proofs.Common.{◌≡◌, ◌≢◌, ◌⊎◌, ℕ, ◌+◌, ◌
 use Rattle.std.proofs.Common.{sym, ap, ◌∙◌, subst, inl, inr, ⊎_elim, arith, refl}
 use Rattle.std.proofs.lemmas.Bool.{eqb-true, false≢true}
 use Rattle.id_freelist.specs.Taking.{CanTake, IsCounted, first_of, mark_after, rest_of, room}
-use Rattle.rec_bytes.specs.declared.fault.Fault.{Fault}
 use Rattle.rec_bytes.specs.declared.key.Key.{Key}
 use Rattle.rec_bytes.specs.declared.shape.Shape.{Shape}
 use Rattle.rec_bytes.specs.Format as format
@@ -24,6 +23,7 @@ use Rattle.store_rules.proofs.ViewLaws.{kind_high, kind_low}
 use Rattle.chain_edit.specs.Chains.{IsChainFrom, next_of, prev_of}
 use Rattle.group_store.specs.declared.group_row.GroupRow.{GroupRow}
 use Rattle.group_store.specs.declared.making.OwnGroup.{OwnGroup}
+use Rattle.group_store.specs.declared.open_fault.OpenFault.{OpenFault}
 use Rattle.group_store.specs.declared.side.Side.{Side}
 use Rattle.group_store.specs.declared.side.Side.TheVariants.{Out, In as Into, Loop}
 use Rattle.group_store.specs.Counting.{count_place}
@@ -63,7 +63,7 @@ rest_fits [] live mark most is le ne = ⊎_elim (λ (e : mark ≡ most). absurd 
 rest_fits (x ∷ later) live mark most is le ne = le
 
 -- a count of reads is none of it
-can_read : (s : State) (n : ℕ) (free : List ℕ) → CanTake s format.groups_file free → CanTake (record s { reads = n }) format.groups_file free
+pub can_read : (s : State) (n : ℕ) (free : List ℕ) → CanTake s format.groups_file free → CanTake (record s { reads = n }) format.groups_file free
 can_read s n free can = record { list = can.list; low = can.low; unused = can.unused; count = can.count; mark = can.mark }
 
 pub take_after : (s l : State) (free : List ℕ) → SameButReads s l → CanTakeEach s free → CanTakeEach l free
@@ -100,10 +100,10 @@ take_rest s t node label row groups free made shape left can =
 
 -- ---- what the call says
 
-no_error : {T : Type 0} (value : T) → IsErr {T = T} {E = Fault} (Ok value) → ⊥
+no_error : {T : Type 0} (value : T) → IsErr {T = T} {E = OpenFault} (Ok value) → ⊥
 no_error value e = false≢true e
 
-pub has_added : (r : Result OwnGroup Fault) (s l t : State) (node label : ℕ) → SameButReads s l
+pub has_added : (r : Result OwnGroup OpenFault) (s l t : State) (node label : ℕ) → SameButReads s l
     → (IsDense s.records node → (xs : List ℕ) → IsGroupChain s.records node xs → LacksGroup s.records node label)
     → IfOk r (λ own. (free xs : List ℕ) → CanMake l node label free xs → HasMade l.records t.records node label own.row free xs)
     → IfOk r (λ own. own.first ≡ first_link l.records node)

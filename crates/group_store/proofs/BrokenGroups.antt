@@ -39,13 +39,16 @@ use Rattle.group_store.specs.Links.{IsLinkDamage}
 use Rattle.group_store.specs.Links.IsLinkDamage.{LeadsNowhere, HighLink}
 use Rattle.group_store.specs.Loading.{group_mark, group_room, mark_damage}
 use Rattle.group_store.specs.Making.{IsMakeDamage, IsMakeFault, link_damage}
-use Rattle.group_store.specs.Making.IsMakeDamage.{BadFree, BadLink, BadNode as BadOwner, FullFile, NotDense}
+use Rattle.group_store.specs.Making.IsMakeDamage.{BadFree, BadLink, BadNode as BadOwner, NotDense}
+use Rattle.group_store.specs.OpenFault.{of_fault}
 use Rattle.group_store.specs.Opening.{IsHeadFault, IsOpenFault, IsSearchDamage, LacksGroupOn, end_damage}
 use Rattle.group_store.specs.Opening.IsSearchDamage.{BadGroups, BadNode, Uncounted}
 use Rattle.group_store.specs.Raising.{IsCountFault}
 use Rattle.group_store.specs.Walking.{IsMemberDamage, IsWalkDamage}
 use Rattle.group_store.specs.Walking.IsMemberDamage.{HighMember, NoMember, UnknownMember}
 use Rattle.group_store.specs.Walking.IsWalkDamage.{HighMark, NoList, UnknownGroup}
+use Rattle.group_store.specs.declared.open_fault.OpenFault.{OpenFault}
+use Rattle.group_store.specs.declared.open_fault.OpenFault.TheVariants as opens
 
 -- ---- the first rule
 
@@ -147,28 +150,29 @@ first_breaks s n dense damage (LeadsNowhere some above) =
     RecordRange format.nodes_file n refl lt (λ fits. not_low (group_mark s) (first_link s.records n) some above (dense_low (high s.records) r kind fits))
 first_breaks s n dense damage (HighLink above) = mark_breaks s above
 
-pub make_breaks : (s : State) (n : ℕ) → IsDense s.records n → (fault : Fault) → IsMakeFault s n fault → IsOpenFault s fault
-make_breaks s n dense Memory told = tt
-make_breaks s n dense Disk told = tt
-make_breaks s n dense (Damaged damage) told = by damage told
+pub make_breaks : (s : State) (n : ℕ) → IsDense s.records n → (fault : OpenFault) → IsMakeFault s n fault → IsOpenFault s fault
+make_breaks s n dense (opens.Full live) told = told
+make_breaks s n dense opens.Memory told = tt
+make_breaks s n dense opens.Disk told = tt
+make_breaks s n dense (opens.Damaged damage) told = by damage told
   where
-    by : (damage : Damage) → IsMakeDamage s n damage → IsOpenFault s (Damaged damage)
-    by damage (BadOwner d bad) = inl (node_breaks s n d bad)
+    by : (damage : Damage) → IsMakeDamage s n damage → Breaks s.records s.shape damage
+    by damage (BadOwner d bad) = node_breaks s n d bad
     by damage (NotDense thin) = absurd (thin dense)
-    by damage (BadLink d bad) = inl (first_breaks s n dense d bad)
-    by damage (FullFile full) = inr (refl, full)
-    by damage (BadFree d bad) = inl (breaks_of s format.groups_file refl d bad)
+    by damage (BadLink d bad) = first_breaks s n dense d bad
+    by damage (BadFree d bad) = breaks_of s format.groups_file refl d bad
 
-pub only_breaks : (s : State) (fault : Fault) → IsBreakFault s fault → IsOpenFault s fault
+pub only_breaks : (s : State) (fault : Fault) → IsBreakFault s fault → IsOpenFault s (of_fault fault)
 only_breaks s Memory told = tt
 only_breaks s Disk told = tt
-only_breaks s (Damaged damage) told = inl told
+only_breaks s (Damaged damage) told = told
 
 -- after reads
-pub open_read : (s z : State) → SameButReads s z → (fault : Fault) → IsOpenFault z fault → IsOpenFault s fault
-open_read s z same Memory told = tt
-open_read s z same Disk told = tt
-open_read s z same (Damaged damage) told = subst (λ (q : State). IsOpenFault q (Damaged damage)) same told
+pub open_read : (s z : State) → SameButReads s z → (fault : OpenFault) → IsOpenFault z fault → IsOpenFault s fault
+open_read s z same (opens.Full live) told = subst (λ (q : State). IsOpenFault q (opens.Full live)) same told
+open_read s z same opens.Memory told = tt
+open_read s z same opens.Disk told = tt
+open_read s z same (opens.Damaged damage) told = subst (λ (q : State). IsOpenFault q (opens.Damaged damage)) same told
 
 -- ---- a group that is dropped
 

@@ -3,14 +3,11 @@ use Rattle.std.specs.Prelude.{Result, Err}
 use Rattle.std.specs.Result.{IsErrAnd}
 use Rattle.std.proofs.Common.{◌≡◌, ◌≤◌, ℕ, sym, subst, refl, arith}
 use Rattle.std.proofs.lemmas.Result.{err_from_is_err_and}
-use Rattle.rec_bytes.specs.Fault.{HasFaultCause, of_row, of_space}
-use Rattle.rec_bytes.specs.RowFault.{HasRowCause}
+use Rattle.rec_bytes.specs.Fault.{HasFaultCause, of_space}
 use Rattle.rec_bytes.specs.Space.{HasCause}
 use Rattle.rec_bytes.specs.declared.damage.Damage.{Damage}
 use Rattle.rec_bytes.specs.declared.fault.Fault.{Fault}
 use Rattle.rec_bytes.specs.declared.fault.Fault.TheVariants as faults
-use Rattle.rec_bytes.specs.declared.row_fault.RowFault.{RowFault}
-use Rattle.rec_bytes.specs.declared.row_fault.RowFault.TheVariants as rows
 use Rattle.rec_bytes.specs.declared.space.SpaceFault.{SpaceFault}
 use Rattle.rec_bytes.specs.declared.space.SpaceFault.TheVariants as spaces
 use Rattle.rec_bytes.proofs.Causes.{passed}
@@ -30,14 +27,6 @@ blames_disk spaces.Disk e = refl
 pub space_cause_passed : {T U : Type 0} (before mid now : ℕ) (r : Result T Fault) (fault : SpaceFault) → before ≤ mid → HasCause {T = U} mid now (Err fault)
     → IsErrAnd r (λ f. f ≡ of_space fault) → HasFaultCause before now r
 space_cause_passed before mid now r fault early cause is = passed of_space spaces.Disk faults.Disk before mid now r fault (blames_disk fault) early cause is
-
-row_blames_disk : (fault : RowFault) → of_row fault ≡ faults.Disk → fault ≡ rows.Disk
-row_blames_disk rows.Disk e = refl
-row_blames_disk (rows.Damaged damage) e = absurd cc
-
-pub row_cause_passed : {T U : Type 0} (before mid now : ℕ) (r : Result T Fault) (fault : RowFault) → before ≤ mid → HasRowCause {T = U} mid now (Err fault)
-    → IsErrAnd r (λ f. f ≡ of_row fault) → HasFaultCause before now r
-row_cause_passed before mid now r fault early cause is = passed of_row rows.Disk faults.Disk before mid now r fault (row_blames_disk fault) early cause is
 
 -- want of memory blames no disk
 pub memory_cause : {T : Type 0} (before now : ℕ) (r : Result T Fault) → before ≤ now → IsErrAnd r (λ f. f ≡ faults.Memory) → HasFaultCause before now r

@@ -5,7 +5,7 @@ use Rattle.std.proofs.Common.{sym, ap, ◌∙◌, subst, inl, inr, ⊎_elim, ari
 use Rattle.id_freelist.specs.Taking.{IsTakeDamage, IsUndamaged, BadNext, InUse, Overcounted, Undercounted, Unlisted, Unranged, taken, taken_id}
 use Rattle.rec_bytes.specs.declared.damage.Damage.{Damage}
 use Rattle.rec_bytes.specs.declared.fault.Fault.{Fault}
-use Rattle.rec_bytes.specs.declared.fault.Fault.TheVariants.{Memory, Disk, Damaged}
+use Rattle.rec_bytes.specs.declared.fault.Fault.TheVariants as faults
 use Rattle.rec_bytes.specs.declared.key.Key.{Key}
 use Rattle.rec_bytes.specs.declared.record.Rec.{Rec}
 use Rattle.rec_bytes.specs.declared.row_fault.RowFault.{RowFault}
@@ -40,6 +40,8 @@ use Rattle.chain_edit.proofs.LinkLaws.{elsewhere-set_prev}
 use Rattle.group_store.specs.Counting.{one_more, tallied}
 use Rattle.group_store.specs.declared.group_row.GroupRow.{GroupRow}
 use Rattle.group_store.specs.declared.making.OwnGroup.{OwnGroup}
+use Rattle.group_store.specs.declared.open_fault.OpenFault.{OpenFault}
+use Rattle.group_store.specs.declared.open_fault.OpenFault.TheVariants.{Full, Memory, Disk, Damaged}
 use Rattle.group_store.specs.Finding.{IsFindFault, IsReached}
 use Rattle.group_store.specs.GroupChain.{IsDense, next_group}
 use Rattle.group_store.specs.GroupRecord.{group_key}
@@ -47,8 +49,9 @@ use Rattle.group_store.specs.Links.{IsLinkDamage}
 use Rattle.group_store.specs.Links.IsLinkDamage.{LeadsNowhere, HighLink}
 use Rattle.group_store.specs.Loading.{group_mark}
 use Rattle.group_store.specs.Making.{IsMakeDamage, IsMakeFault, empty_fields, empty_group, led, link_damage}
-use Rattle.group_store.specs.Making.IsMakeDamage.{BadFree, BadLink, BadNode, FullFile, NotDense}
+use Rattle.group_store.specs.Making.IsMakeDamage.{BadFree, BadLink, BadNode, NotDense}
 use Rattle.group_store.specs.Naming.{NamesNoNode}
+use Rattle.group_store.specs.OpenFault.{of_fault}
 use Rattle.group_store.specs.Spreading.{HasCountedList, cleared}
 use Rattle.group_store.specs.Walking.{IsWalkDamage, group_row_at}
 use Rattle.group_store.specs.Walking.IsWalkDamage.{HighMark, NoList, UnknownGroup}
@@ -233,10 +236,11 @@ walk_listed s n h damage (NoList none) e = none h.members
 walk_listed s n h damage (UnknownGroup g none low unknown) e = let z : format.groups_file ≡ format.nodes_file = e in omega arith
 walk_listed s n h damage (HighMark above) e = let z : format.meta_file ≡ format.nodes_file = e in omega arith
 
-pub find_listed : (s : State) (n : ℕ) → IsDense s.records n → HasCountedList s.records n → (fault : Fault) → IsFindFault s n fault → NamesNoNode fault
-find_listed s n dense h Memory told = tt
-find_listed s n dense h Disk told = tt
-find_listed s n dense h (Damaged damage) told = ⊎_elim (λ k. no_node s n dense damage k) (λ k. walk_listed s n h damage k) told
+pub find_listed : (s : State) (n : ℕ) → IsDense s.records n → HasCountedList s.records n → (fault : Fault) → IsFindFault s n fault
+    → NamesNoNode (of_fault fault)
+find_listed s n dense h faults.Memory told = tt
+find_listed s n dense h faults.Disk told = tt
+find_listed s n dense h (faults.Damaged damage) told = ⊎_elim (λ k. no_node s n dense damage k) (λ k. walk_listed s n h damage k) told
 
 link_listed : (s : State) (n : ℕ) → HasCountedList s.records n → (damage : Damage) → IsLinkDamage s (first_link s.records n) (link_damage n) damage
     → damage.file ≢ format.nodes_file
@@ -256,10 +260,10 @@ make_damage_listed : (s : State) (n : ℕ) → IsDense s.records n → HasCounte
 make_damage_listed s n dense h damage (BadNode _ bad) = no_node s n dense damage bad
 make_damage_listed s n dense h damage (NotDense thin) = absurd (thin dense)
 make_damage_listed s n dense h damage (BadLink _ bad) = link_listed s n h damage bad
-make_damage_listed s n dense h damage (FullFile full) = λ (e : format.meta_file ≡ format.nodes_file). omega arith
 make_damage_listed s n dense h damage (BadFree _ bad) = take_listed s damage bad
 
-pub make_listed : (s : State) (n : ℕ) → IsDense s.records n → HasCountedList s.records n → (fault : Fault) → IsMakeFault s n fault → NamesNoNode fault
+pub make_listed : (s : State) (n : ℕ) → IsDense s.records n → HasCountedList s.records n → (fault : OpenFault) → IsMakeFault s n fault → NamesNoNode fault
+make_listed s n dense h (Full live) told = tt
 make_listed s n dense h Memory told = tt
 make_listed s n dense h Disk told = tt
 make_listed s n dense h (Damaged damage) told = make_damage_listed s n dense h damage told
@@ -289,7 +293,7 @@ found_counted s node row h reached small is =
     ∙ eq_true (field 1 r format.kind) format.counted (sym (kind_low (high s.records format.groups_file) r row.id lt) ∙ counted)
 
 -- of a list that was made
-pub list_own : (r : Result OwnGroup Fault) (s now end : State) (node : ℕ) → SameButReads s now
+pub list_own : (r : Result OwnGroup OpenFault) (s now end : State) (node : ℕ) → SameButReads s now
     → OnOk r (HasCountedList now.records node → HasCountedList end.records node) → IfOk r (λ own. own.row.counted ≡ true)
     → IfOk r (λ own. HasCountedList s.records node → HasCountedList end.records node × (own.row.counted ≡ true))
 list_own (Err fault) s now end node same list counted = tt
@@ -298,7 +302,7 @@ list_own (Ok own) s now end node same list counted = λ h. (list (list_read s no
 -- ---- other faults
 
 -- a relationship that can't be read, or can't be put at the head of a group, is no node
-pub rel_listed : (s : State) (x : ℕ) (fault : RowFault) → rels.IsRelFault s x fault → NamesNoNode (of_row fault)
+pub rel_listed : (s : State) (x : ℕ) (fault : RowFault) → rels.IsRelFault s x fault → NamesNoNode (of_fault (of_row fault))
 rel_listed s x row.Disk told = tt
 rel_listed s x (row.Damaged damage) told = by damage told
   where
@@ -306,10 +310,10 @@ rel_listed s x (row.Damaged damage) told = by damage told
     by d (HighRow above) e = let z : format.meta_file ≡ format.nodes_file = e in omega arith
     by d (UnknownKind low unknown) e = let z : format.relationships_file ≡ format.nodes_file = e in omega arith
 
-pub push_listed : (z : State) (head : Head) → head.key.file ≡ format.groups_file → (fault : Fault) → IsPushFault z head fault → NamesNoNode fault
-push_listed z head group Memory told = tt
-push_listed z head group Disk told = tt
-push_listed z head group (Damaged damage) told = by damage told
+pub push_listed : (z : State) (head : Head) → head.key.file ≡ format.groups_file → (fault : Fault) → IsPushFault z head fault → NamesNoNode (of_fault fault)
+push_listed z head group faults.Memory told = tt
+push_listed z head group faults.Disk told = tt
+push_listed z head group (faults.Damaged damage) told = by damage told
   where
     by : (d : Damage) → chains.IsLinkDamage z (first_of z.records head) (first_damage head.key) d → d.file ≢ format.nodes_file
     by d (NoRel some above) e = let z : head.key.file ≡ format.nodes_file = e in omega arith

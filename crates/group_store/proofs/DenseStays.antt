@@ -1,10 +1,7 @@
 -- A node that is dense, where its first link or the chains of its groups change.
-use Rattle.std.proofs.Common.{◌≡◌, ◌≢◌, ℕ, ◌<◌, Result, Ok, Err, sym, ap, ◌∙◌, subst, inl, arith}
+use Rattle.std.proofs.Common.{◌≡◌, ◌≢◌, ℕ, ◌<◌, sym, ap, ◌∙◌, subst, inl, arith}
 use Rattle.rec_bytes.specs.declared.key.Key.{Key}
 use Rattle.rec_bytes.specs.declared.record.Rec.{Rec}
-use Rattle.rec_bytes.specs.declared.fault.Fault.{Fault}
-use Rattle.rec_bytes.specs.declared.fault.Fault.TheVariants.{Memory, Disk, Damaged}
-use Rattle.rec_bytes.specs.Fault.{OnDamage}
 use Rattle.rec_bytes.specs.Format as format
 use Rattle.rec_bytes.specs.Meta as metas
 use Rattle.rec_bytes.specs.Record.{field, with_field}
@@ -116,11 +113,3 @@ dense_cleared s node used =
     let low = kind_below (high s.records format.nodes_file) old node used in
     kind_low (high s.records format.nodes_file) (rec_at (cleared s node).records format.nodes_file node) node low
     ∙ ap (λ r. field 1 r format.kind) (put_same s.records (node_key node) (clear_of old)) ∙ clear_kind old
-
--- ---- what holds where a record is said to be damaged
-
-pub if_damage : {T : Type 0} (r : Result T Fault) (P Q : Type 0) → (P → Q) → OnDamage r P → OnDamage r Q
-if_damage (Ok x) P Q f h = tt
-if_damage (Err Memory) P Q f h = tt
-if_damage (Err Disk) P Q f h = tt
-if_damage (Err (Damaged damage)) P Q f h = f h

@@ -9,13 +9,13 @@ use Rattle.id_freelist.proofs.ListSteps.{beside_harms_none, harms_none_then, put
 use Rattle.id_freelist.proofs.TakeBreaches.{list_damage}
 use Rattle.rec_bytes.specs.declared.damage.Damage.{Damage}
 use Rattle.rec_bytes.specs.declared.fault.Fault.{Fault}
-use Rattle.rec_bytes.specs.declared.fault.Fault.TheVariants.{Memory, Disk, Damaged}
+use Rattle.rec_bytes.specs.declared.fault.Fault.TheVariants as faults
 use Rattle.rec_bytes.specs.declared.key.Key.{Key}
 use Rattle.rec_bytes.specs.declared.record.Rec.{Rec}
 use Rattle.rec_bytes.specs.declared.row_fault.RowFault.{RowFault}
 use Rattle.rec_bytes.specs.declared.row_fault.RowFault.TheVariants as row
 use Rattle.rec_bytes.specs.declared.shape.Shape.{Shape}
-use Rattle.rec_bytes.specs.Fault.{OnDamage, of_row}
+use Rattle.rec_bytes.specs.Fault.{of_row}
 use Rattle.rec_bytes.specs.Format as format
 use Rattle.rec_bytes.specs.Meta as metas
 use Rattle.rec_bytes.specs.Record.{field, with_field}
@@ -47,12 +47,15 @@ use Rattle.group_store.specs.GroupRecord.{group_key}
 use Rattle.group_store.specs.Links.{IsLinkDamage, backed}
 use Rattle.group_store.specs.Links.IsLinkDamage.{LeadsNowhere, HighLink}
 use Rattle.group_store.specs.Making.{IsMakeDamage, IsMakeFault, empty_group, led, link_damage, made}
-use Rattle.group_store.specs.Making.IsMakeDamage.{BadFree, BadLink, BadNode, FullFile, NotDense}
+use Rattle.group_store.specs.Making.IsMakeDamage.{BadFree, BadLink, BadNode, NotDense}
 use Rattle.group_store.specs.Naming.{NamesMeta}
 use Rattle.group_store.specs.Leaving.{LeavesCounted}
-use Rattle.group_store.specs.Opening.{GrowsAtMost, IsFullDamage}
+use Rattle.group_store.specs.OpenFault.{IsFullOfGroups, OnRefusal, of_fault}
+use Rattle.group_store.specs.Opening.{GrowsAtMost}
 use Rattle.group_store.specs.Raising.{IsCountFault, IsGroupAt, raised, raised_state}
 use Rattle.group_store.specs.declared.group_row.GroupRow.{GroupRow}
+use Rattle.group_store.specs.declared.open_fault.OpenFault.{OpenFault}
+use Rattle.group_store.specs.declared.open_fault.OpenFault.TheVariants.{Full, Memory, Disk, Damaged}
 use Rattle.group_store.specs.SparseChain.{IsSparseDamage, IsSparseFault}
 use Rattle.group_store.specs.SparseChain.IsSparseDamage.{BadRelationship, MoreThanSaid, NoChain}
 use Rattle.group_store.specs.Spreading.{cleared}
@@ -250,10 +253,10 @@ node_metas : (k : ℕ) (s t z : State) (n : ℕ) (damage : Damage) → IsNodeDam
 node_metas k s t z n damage (HighRow above) of = absurd (let i : format.nodes_file ≡ format.groups_file = of.1 in omega arith)
 node_metas k s t z n damage (UnknownKind low unknown) of = absurd (let f : format.nodes_file ≡ format.meta_file = of.0 in omega arith)
 
-pub node_fault_metas : (k : ℕ) (s t z : State) (n : ℕ) (fault : Fault) → IsNodeFault z n fault → NamesMeta s t k fault
-node_fault_metas k s t z n Memory told = tt
-node_fault_metas k s t z n Disk told = tt
-node_fault_metas k s t z n (Damaged damage) told = node_metas k s t z n damage told
+pub node_fault_metas : (k : ℕ) (s t z : State) (n : ℕ) (fault : Fault) → IsNodeFault z n fault → NamesMeta s t k (of_fault fault)
+node_fault_metas k s t z n faults.Memory told = tt
+node_fault_metas k s t z n faults.Disk told = tt
+node_fault_metas k s t z n (faults.Damaged damage) told = node_metas k s t z n damage told
 
 -- the mark of the groups is above the room
 high_listed : (s : State) → room_of s.shape format.groups_file < high s.records format.groups_file
@@ -263,79 +266,82 @@ high_listed s above = OutOfRange (λ r. let low = r.mark in omega arith)
 walk_metas : (k : ℕ) (s t : State) (n first : ℕ) (damage : Damage) → IsWalkDamage s n first damage → NamesMeta s t k (Damaged damage)
 walk_metas k s t n first damage (NoList none) of = absurd (let f : format.nodes_file ≡ format.meta_file = of.0 in omega arith)
 walk_metas k s t n first damage (UnknownGroup g none low unknown) of = absurd (let f : format.groups_file ≡ format.meta_file = of.0 in omega arith)
-walk_metas k s t n first damage (HighMark above) of = inl (high_listed s above)
+walk_metas k s t n first damage (HighMark above) of = high_listed s above
 
-pub find_metas : (k : ℕ) (s t : State) (n : ℕ) (fault : Fault) → IsFindFault s n fault → NamesMeta s t k fault
-find_metas k s t n Memory told = tt
-find_metas k s t n Disk told = tt
-find_metas k s t n (Damaged damage) told = ⊎_elim (λ bad. node_metas k s t s n damage bad) (λ bad. walk_metas k s t n _ damage bad) told
+pub find_metas : (k : ℕ) (s t : State) (n : ℕ) (fault : Fault) → IsFindFault s n fault → NamesMeta s t k (of_fault fault)
+find_metas k s t n faults.Memory told = tt
+find_metas k s t n faults.Disk told = tt
+find_metas k s t n (faults.Damaged damage) told = ⊎_elim (λ bad. node_metas k s t s n damage bad) (λ bad. walk_metas k s t n _ damage bad) told
 
 link_metas : (k : ℕ) (s t : State) (n link : ℕ) (damage : Damage) → IsLinkDamage s link (link_damage n) damage → NamesMeta s t k (Damaged damage)
 link_metas k s t n link damage (LeadsNowhere some above) of = absurd (let f : format.nodes_file ≡ format.meta_file = of.0 in omega arith)
-link_metas k s t n link damage (HighLink above) of = inl (high_listed s above)
+link_metas k s t n link damage (HighLink above) of = high_listed s above
 
-make_damage_metas : (s t : State) (n : ℕ) → SameButReads s t → (damage : Damage) → IsMakeDamage s n damage → NamesMeta s t 1 (Damaged damage)
-make_damage_metas s t n same damage (BadNode _ bad) = node_metas 1 s t s n damage bad
-make_damage_metas s t n same damage (NotDense thin) = λ of. absurd (let f : format.nodes_file ≡ format.meta_file = of.0 in omega arith)
-make_damage_metas s t n same damage (BadLink _ bad) = link_metas 1 s t n _ damage bad
-make_damage_metas s t n same damage (FullFile full) =
-    λ of. inr (record { full = subst (λ (q : State). IsFullDamage q damage) (sym same) (refl, full); lacks = omega (arith, full) })
-make_damage_metas s t n same damage (BadFree _ bad) = λ of. inl (list_damage s format.groups_file damage bad)
+make_damage_metas : (s t : State) (n : ℕ) (damage : Damage) → IsMakeDamage s n damage → NamesMeta s t 1 (Damaged damage)
+make_damage_metas s t n damage (BadNode _ bad) = node_metas 1 s t s n damage bad
+make_damage_metas s t n damage (NotDense thin) = λ of. absurd (let f : format.nodes_file ≡ format.meta_file = of.0 in omega arith)
+make_damage_metas s t n damage (BadLink _ bad) = link_metas 1 s t n _ damage bad
+make_damage_metas s t n damage (BadFree _ bad) = λ of. list_damage s format.groups_file damage bad
 
-make_metas : {T : Type 0} (s t : State) (n : ℕ) (r : Result T Fault) → IfErr r (IsMakeFault s n) → OnDamage r (SameButReads s t) → IfErr r (NamesMeta s t 1)
+make_metas : {T : Type 0} (s t : State) (n : ℕ) (r : Result T OpenFault) → IfErr r (IsMakeFault s n) → OnRefusal r (SameButReads s t)
+    → IfErr r (NamesMeta s t 1)
 make_metas s t n (Ok x) told same = tt
+make_metas s t n (Err (Full live)) told same = record {
+  full = subst (λ (q : State). IsFullOfGroups q live) (sym same) told;
+  lacks = omega (arith, told);
+}
 make_metas s t n (Err Memory) told same = tt
 make_metas s t n (Err Disk) told same = tt
-make_metas s t n (Err (Damaged damage)) told same = make_damage_metas s t n same damage told
+make_metas s t n (Err (Damaged damage)) told same = make_damage_metas s t n damage told
 
 -- as it was wrong before
-pub metas_then : (j k : ℕ) (s z t : State) (fault : Fault) → z.shape ≡ s.shape → GrowsAtMost s z j → HarmsNoList s z format.groups_file
+pub metas_then : (j k : ℕ) (s z t : State) (fault : OpenFault) → z.shape ≡ s.shape → GrowsAtMost s z j → HarmsNoList s z format.groups_file
     → NamesMeta z t k fault → NamesMeta s t (j + k) fault
+metas_then j k s z t (Full live) shape grows harmless told = record {
+  full = told.full;
+  lacks = let lacks = told.lacks in let room = ap (λ (h : Shape). room_of h format.groups_file) shape in omega (arith, lacks, grows, room);
+}
 metas_then j k s z t Memory shape grows harmless told = tt
 metas_then j k s z t Disk shape grows harmless told = tt
-metas_then j k s z t (Damaged damage) shape grows harmless told = λ of. ⊎_elim (λ list. inl (harmless damage list)) (λ short. inr (record {
-  full = short.full;
-  lacks = let lacks = short.lacks in let room = ap (λ (h : Shape). room_of h format.groups_file) shape in omega (arith, lacks, grows, room);
-})) (told of)
+metas_then j k s z t (Damaged damage) shape grows harmless told = λ of. harmless damage (told of)
 
 -- there was room for fewer than more
-pub metas_more : (j k : ℕ) (s t : State) (fault : Fault) → j ≤ k → NamesMeta s t j fault → NamesMeta s t k fault
+pub metas_more : (j k : ℕ) (s t : State) (fault : OpenFault) → j ≤ k → NamesMeta s t j fault → NamesMeta s t k fault
+metas_more j k s t (Full live) le told = record { full = told.full; lacks = let lacks = told.lacks in omega (arith, lacks, le) }
 metas_more j k s t Memory le told = tt
 metas_more j k s t Disk le told = tt
-metas_more j k s t (Damaged damage) le told = λ of. ⊎_elim (λ list. inl list) (λ short. inr (record {
-  full = short.full;
-  lacks = let lacks = short.lacks in omega (arith, lacks, le);
-})) (told of)
+metas_more j k s t (Damaged damage) le told = told
 
-pub metas_read : (k : ℕ) (s z t : State) (fault : Fault) → SameButReads s z → NamesMeta z t k fault → NamesMeta s t k fault
+pub metas_read : (k : ℕ) (s z t : State) (fault : OpenFault) → SameButReads s z → NamesMeta z t k fault → NamesMeta s t k fault
 metas_read k s z t fault same told =
     metas_more (0 + k) k s t fault (omega arith)
     (metas_then 0 k s z t fault (ap (λ (q : State). q.shape) same) (grows_read s z same) (reads_harm_none s z format.groups_file same) told)
 
-pub own_metas : {T : Type 0} (s now t : State) (n : ℕ) (r : Result T Fault) → SameButReads s now → IfErr r (IsMakeFault now n)
-    → OnDamage r (SameButReads now t) → IfErr r (NamesMeta s t 1)
+pub own_metas : {T : Type 0} (s now t : State) (n : ℕ) (r : Result T OpenFault) → SameButReads s now → IfErr r (IsMakeFault now n)
+    → OnRefusal r (SameButReads now t) → IfErr r (NamesMeta s t 1)
 own_metas s now t n (Ok x) same told kept = tt
 own_metas s now t n (Err fault) same told kept = metas_read 1 s now t fault same (make_metas {T = Unit {0}} now t n (Err fault) told kept)
 
-pub count_metas : (k : ℕ) (s t : State) (n g : ℕ) (fault : Fault) → IsCountFault n g fault → NamesMeta s t k fault
-count_metas k s t n g Memory told = tt
-count_metas k s t n g Disk told = tt
-count_metas k s t n g (Damaged damage) (inl group) = metas_other k s t damage (λ e. let f = ap (λ (d : Damage). d.file) group in omega arith)
-count_metas k s t n g (Damaged damage) (inr (inl many)) = metas_node k s t damage n 7 many
-count_metas k s t n g (Damaged damage) (inr (inr mark)) = λ of. absurd (let i = ap (λ (d : Damage). d.id) mark in let j = of.1 in omega arith)
+pub count_metas : (k : ℕ) (s t : State) (n g : ℕ) (fault : Fault) → IsCountFault n g fault → NamesMeta s t k (of_fault fault)
+count_metas k s t n g faults.Memory told = tt
+count_metas k s t n g faults.Disk told = tt
+count_metas k s t n g (faults.Damaged damage) (inl group) = metas_other k s t damage (λ e. let f = ap (λ (d : Damage). d.file) group in omega arith)
+count_metas k s t n g (faults.Damaged damage) (inr (inl many)) = metas_node k s t damage n 7 many
+count_metas k s t n g (faults.Damaged damage) (inr (inr mark)) = λ of. absurd (let i = ap (λ (d : Damage). d.id) mark in let j = of.1 in omega arith)
 
 row_metas : (k : ℕ) (s t z : State) (x : ℕ) (damage : Damage) → IsRowDamage format.relationships_file z x damage → NamesMeta s t k (Damaged damage)
 row_metas k s t z x damage (HighRow above) of = absurd (let i : format.relationships_file ≡ format.groups_file = of.1 in omega arith)
 row_metas k s t z x damage (UnknownKind low unknown) of = absurd (let f : format.relationships_file ≡ format.meta_file = of.0 in omega arith)
 
-pub rel_metas : (k : ℕ) (s t z : State) (x : ℕ) (fault : RowFault) → rels.IsRelFault z x fault → NamesMeta s t k (of_row fault)
+pub rel_metas : (k : ℕ) (s t z : State) (x : ℕ) (fault : RowFault) → rels.IsRelFault z x fault → NamesMeta s t k (of_fault (of_row fault))
 rel_metas k s t z x row.Disk told = tt
 rel_metas k s t z x (row.Damaged damage) told = row_metas k s t z x damage told
 
-pub push_metas : (k : ℕ) (s t z : State) (head : Head) → head.key.file ≡ format.groups_file → (fault : Fault) → IsPushFault z head fault → NamesMeta s t k fault
-push_metas k s t z head group Memory told = tt
-push_metas k s t z head group Disk told = tt
-push_metas k s t z head group (Damaged damage) told = by damage told
+pub push_metas : (k : ℕ) (s t z : State) (head : Head) → head.key.file ≡ format.groups_file → (fault : Fault) → IsPushFault z head fault
+    → NamesMeta s t k (of_fault fault)
+push_metas k s t z head group faults.Memory told = tt
+push_metas k s t z head group faults.Disk told = tt
+push_metas k s t z head group (faults.Damaged damage) told = by damage told
   where
     by : (d : Damage) → chains.IsLinkDamage z (first_of z.records head) (first_damage head.key) d → NamesMeta s t k (Damaged d)
     by d (NoRel some above) of = absurd (let f : head.key.file ≡ format.meta_file = of.0 in omega arith)
@@ -346,7 +352,7 @@ sparse_damage_metas k s t z n count damage (NoChain none) = metas_node k s t dam
 sparse_damage_metas k s t z n count damage (MoreThanSaid more) = metas_node k s t damage n 7 refl
 sparse_damage_metas k s t z n count damage (BadRelationship x _ bad) = row_metas k s t z x damage bad
 
-pub sparse_metas : (k : ℕ) (s t z : State) (n count : ℕ) (fault : Fault) → IsSparseFault z n count fault → NamesMeta s t k fault
-sparse_metas k s t z n count Memory told = tt
-sparse_metas k s t z n count Disk told = tt
-sparse_metas k s t z n count (Damaged damage) told = sparse_damage_metas k s t z n count damage told
+pub sparse_metas : (k : ℕ) (s t z : State) (n count : ℕ) (fault : Fault) → IsSparseFault z n count fault → NamesMeta s t k (of_fault fault)
+sparse_metas k s t z n count faults.Memory told = tt
+sparse_metas k s t z n count faults.Disk told = tt
+sparse_metas k s t z n count (faults.Damaged damage) told = sparse_damage_metas k s t z n count damage told

@@ -5,7 +5,6 @@ use Rattle.std.proofs.Common.{refl}
 use Rattle.std.proofs.lemmas.Bool.{cases_lt}
 use Rattle.id_freelist.specs.Taking.{IsUndamaged, free_taken, mark_taken, meta_damage, taken, taken_id}
 use Rattle.id_freelist.specs.Taking.IsTakeDamage.{Unranged}
-use Rattle.rec_bytes.specs.declared.fault.Fault.{Fault}
 use Rattle.rec_bytes.specs.declared.key.Key.{Key}
 use Rattle.rec_bytes.specs.declared.meta.Meta.{Meta}
 use Rattle.rec_bytes.specs.declared.record.Rec.{Rec}
@@ -31,6 +30,7 @@ use Rattle.chain_edit.specs.Pushing.{pushed}
 use Rattle.chain_edit.proofs.Edits.{next_of-backed}
 use Rattle.chain_edit.proofs.LinkLaws.{elsewhere-set_prev, key_cases, next_of-set_next_other, next_of-set_prev}
 use Rattle.group_store.specs.declared.making.OwnGroup.{OwnGroup}
+use Rattle.group_store.specs.declared.open_fault.OpenFault.{OpenFault}
 use Rattle.group_store.specs.declared.side.Side.{Side}
 use Rattle.group_store.specs.declared.side.Side.TheVariants.{Out, In as Into, Loop}
 use Rattle.group_store.specs.Counting.{one_more, tallied}
@@ -237,7 +237,7 @@ leads_found s l node id same reached came groups h = (
     old : (g : ℕ) → In g (groups ++ id ∷ []) → In g groups
     old g i = ⊎_elim (λ j. j) (λ e. subst (λ z. In z groups) (sym e) (reached groups h.first h.next)) (in_push groups id g i)
 
-pub leads_own : (r : Result OwnGroup Fault) (s now end : State) (node : ℕ) → SameButReads s now
+pub leads_own : (r : Result OwnGroup OpenFault) (s now end : State) (node : ℕ) → SameButReads s now
     → IfOk r (λ own. (came groups : List ℕ) → LeadsAmong now.records node came groups → LeadsAmong end.records node came (groups ++ own.row.id ∷ []))
     → IfOk r (λ own. own.first ≡ first_link now.records node)
     → IfOk r (λ own. (came groups : List ℕ) → LeadsAmong s.records node came groups → LeadsAmong end.records node came (groups ++ own.row.id ∷ [])

@@ -3,11 +3,13 @@ use Rattle.std.specs.Prelude.{IfSome, OnOk, nat_eq, not}
 use Rattle.std.proofs.lemmas.Bool.{and_parts, eqb-true, false≢true}
 use Rattle.std.proofs.Common.{◌≡◌, ◌≢◌, ◌⊎◌, ℕ, ◌+◌, ◌<◌, ◌≤◌, ◌^◌, List, true, false, Result, Ok, Err, sym, ap, ◌∙◌, subst, inl, inr, ⊎_elim, arith, refl}
 use Rattle.rec_bytes.specs.declared.fault.Fault.{Fault}
-use Rattle.rec_bytes.specs.declared.fault.Fault.TheVariants.{Memory, Disk, Damaged}
 use Rattle.rec_bytes.specs.declared.key.Key.{Key}
 use Rattle.rec_bytes.specs.declared.meta.Meta.{Meta}
 use Rattle.rec_bytes.specs.declared.record.Rec.{Rec}
 use Rattle.rec_bytes.specs.Fault.{damage_of}
+use Rattle.group_store.specs.OpenFault.{IfRefuses, of_fault}
+use Rattle.group_store.specs.declared.open_fault.OpenFault.{OpenFault}
+use Rattle.group_store.proofs.OpenFaults.{if_refuses, refuses}
 use Rattle.rec_bytes.specs.Format as format
 use Rattle.rec_bytes.specs.Meta as metas
 use Rattle.rec_bytes.specs.Record.{field, with_field}
@@ -261,32 +263,28 @@ beside_kinds s t node beside x ne =
     (λ e. let f = ap (λ (k : Key). k.file) e in omega arith) in
     ap (λ m. kind_in m (rec_at t format.nodes_file x) x) (ap (λ r. (metas.meta_of r).high) meta) ∙ ap (λ r. kind_in (high s format.nodes_file) r x) same
 
--- ---- what holds where a call succeeds, or where a record is said to be damaged
+-- ---- what holds where a call succeeds, or where it is refused
 
 pub if_done : {T E : Type 0} (r : Result T E) (P Q : Type 0) → (P → Q) → OnOk r P → OnOk r Q
 if_done (Ok x) P Q f h = f h
 if_done (Err e) P Q f h = tt
 
--- a call that writes nothing where it tells a record, after reads
-pub unwritten_beside : (s l t : State) (node : ℕ) → SameButReads s l → (fault : Fault) → IfSome (damage_of fault) (λ _. SameButReads l t)
-    → IfSome (damage_of fault) (λ _. LeavesBeside s.records t.records node)
-unwritten_beside s l t node same Memory told = tt
-unwritten_beside s l t node same Disk told = tt
-unwritten_beside s l t node same (Damaged damage) told = beside_then s.records l.records t.records node (beside_read s l node same) (beside_read l t node told)
+-- a call that writes nothing where it is refused, after reads
+pub unwritten_beside : (s l t : State) (node : ℕ) → SameButReads s l → (fault : OpenFault) → IfRefuses (SameButReads l t) fault
+    → IfRefuses (LeavesBeside s.records t.records node) fault
+unwritten_beside s l t node same fault told = if_refuses fault _ _ (λ k. beside_then s.records l.records t.records node (beside_read s l node same)
+    (beside_read l t node k)) told
 
--- one that only reads there
+-- one that only reads where it tells a record
 pub unpushed_beside : (s : Records) (t end : State) (node : ℕ) → LeavesBeside s t.records node → (fault : Fault)
-    → IfSome (damage_of fault) (λ _. end ≡ after_get t) → IfSome (damage_of fault) (λ _. LeavesBeside s end.records node)
-unpushed_beside s t end node beside Memory told = tt
-unpushed_beside s t end node beside Disk told = tt
-unpushed_beside s t end node beside (Damaged damage) told = subst (λ (z : State). LeavesBeside s z.records node) (sym told) beside
+    → IfSome (damage_of fault) (λ _. end ≡ after_get t) → IfRefuses (LeavesBeside s end.records node) (of_fault fault)
+unpushed_beside s t end node beside fault told = if_refuses (of_fault fault) _ _ (λ is. subst (λ (z : State). LeavesBeside s z.records node) (sym is) beside)
+    (refuses fault _ told)
 
 -- one after another
-pub later_beside : (s t u : Records) (node : ℕ) → LeavesBeside s t node → (fault : Fault) → IfSome (damage_of fault) (λ _. LeavesBeside t u node)
-    → IfSome (damage_of fault) (λ _. LeavesBeside s u node)
-later_beside s t u node beside Memory told = tt
-later_beside s t u node beside Disk told = tt
-later_beside s t u node beside (Damaged damage) told = beside_then s t u node beside told
+pub later_beside : (s t u : Records) (node : ℕ) → LeavesBeside s t node → (fault : OpenFault) → IfRefuses (LeavesBeside t u node) fault
+    → IfRefuses (LeavesBeside s u node) fault
+later_beside s t u node beside fault told = if_refuses fault _ _ (λ k. beside_then s t u node beside k) told
 
 -- ---- numbers of a group
 

@@ -40,6 +40,7 @@ pub mod MakeSteps
 pub mod Makes
 pub mod Moves
 pub mod Named
+pub mod OpenFaults
 pub mod Openings
 pub mod Opens
 pub mod OtherChains

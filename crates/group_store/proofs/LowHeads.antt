@@ -2,7 +2,6 @@
 use Rattle.std.specs.Prelude.{IfOk, OnOk}
 use Rattle.std.proofs.Common.{◌≡◌, ◌≢◌, ◌⊎◌, ℕ, ◌<◌, ◌≤◌, Bool, true, List, [], ◌∷◌, ◌++◌, None, Some, Result, Ok, Err}
 use Rattle.std.proofs.Common.{sym, ap, ◌∙◌, subst, inl, inr, ⊎_elim, arith}
-use Rattle.rec_bytes.specs.declared.fault.Fault.{Fault}
 use Rattle.rec_bytes.specs.declared.key.Key.{Key}
 use Rattle.rec_bytes.specs.Format as format
 use Rattle.rec_bytes.specs.RecordFiles.{meta_key_of}
@@ -19,6 +18,7 @@ use Rattle.chain_edit.specs.Links as links
 use Rattle.chain_edit.proofs.LinkLaws.{elsewhere-set_prev}
 use Rattle.group_store.specs.declared.group_row.GroupRow.{GroupRow}
 use Rattle.group_store.specs.declared.making.OwnGroup.{OwnGroup}
+use Rattle.group_store.specs.declared.open_fault.OpenFault.{OpenFault}
 use Rattle.group_store.specs.declared.raising.Counts.{Counts}
 use Rattle.group_store.specs.declared.side.Side.{Side}
 use Rattle.group_store.specs.declared.side.Side.TheVariants.{Out, In as Into, Loop}
@@ -121,7 +121,7 @@ lengths_low s z t node row counts same is lengths raise side = by side
 
 -- ---- a group that is found or made
 
-pub own_made : (r : Result OwnGroup Fault) (s end : State) (node : ℕ) → IfOk r (λ own. IsEmptyOf end.records node own.row.id)
+pub own_made : (r : Result OwnGroup OpenFault) (s end : State) (node : ℕ) → IfOk r (λ own. IsEmptyOf end.records node own.row.id)
     → IfOk r (λ own. IsOwnGroup s.records end.records node own.row.id)
 own_made (Err fault) s end node empty = tt
 own_made (Ok own) s end node empty = record { group = empty.group; kept = inr empty.none }
@@ -140,12 +140,12 @@ own_head s m t node g side h head own (inl same) = subst (KeepsOrLeads s t) (sym
     (λ none. inr (inl (ap (λ r. field 4 r (place_of side)) same ∙ none side))) own.kept)
 
 -- the node is dense where a group was made
-pub dense_first : (r : Result OwnGroup Fault) (now : State) (node : ℕ) → IfOk r (λ own. IsFirst now.records node (Some own.first))
+pub dense_first : (r : Result OwnGroup OpenFault) (now : State) (node : ℕ) → IfOk r (λ own. IsFirst now.records node (Some own.first))
     → OnOk r (IsDense now.records node)
 dense_first (Err fault) now node first = tt
 dense_first (Ok own) now node first = first.0
 
-pub first_alone : (r : Result OwnGroup Fault) (now : State) (node : ℕ) → IfOk r (λ own. IsFirst now.records node (Some own.first))
+pub first_alone : (r : Result OwnGroup OpenFault) (now : State) (node : ℕ) → IfOk r (λ own. IsFirst now.records node (Some own.first))
     → IfOk r (λ own. own.first ≡ first_link now.records node)
 first_alone (Err fault) now node first = tt
 first_alone (Ok own) now node first = first.1

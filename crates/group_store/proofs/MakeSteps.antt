@@ -1,9 +1,11 @@
 -- The steps in which a group is made, told by the space as it was.
-use Rattle.std.proofs.Common.{◌≡◌, ◌⊎◌, ⊎_elim, inl, inr, ℕ, zero, suc, ◌<◌, ◌^◌, Bool, true, List, [], ◌∷◌, Result, Ok, Err, refl, sym, ap, ◌∙◌, subst, arith}
+use Rattle.std.proofs.Common.{◌≡◌, ◌≢◌, ◌⊎◌, ⊎_elim, inl, inr, ℕ, zero, suc, ◌<◌, ◌^◌, Bool, true, List, [], ◌∷◌}
+use Rattle.std.proofs.Common.{Result, Ok, Err, refl, sym, ap, ◌∙◌, subst, arith}
 use Rattle.id_freelist.specs.declared.take_fault.TakeFault.{TakeFault}
 use Rattle.id_freelist.specs.declared.take_fault.TakeFault.TheVariants as take
 use Rattle.id_freelist.specs.FreeLists.{IsFreeList}
-use Rattle.id_freelist.specs.Taking.{HasTaken, IsTakeDamage, IsTakeFault, taken, taken_id}
+use Rattle.id_freelist.specs.TakeFault.{NotDamaged}
+use Rattle.id_freelist.specs.Taking.{CanTake, HasTaken, IsTakeDamage, IsTakeFault, room, taken, taken_id}
 use Rattle.id_freelist.specs.Taking.IsTakeDamage.{Unranged, Unlisted, Undercounted, Overcounted, InUse, BadNext}
 use Rattle.rec_bytes.specs.declared.damage.Damage.{Damage}
 use Rattle.rec_bytes.specs.declared.key.Key.{Key}
@@ -21,11 +23,12 @@ use Rattle.group_store.specs.declared.group_row.GroupRow.{GroupRow}
 use Rattle.group_store.specs.FirstGroup.{IsNodeFault}
 use Rattle.group_store.specs.GroupChain.{next_group}
 use Rattle.rec_bytes.specs.Fault.{OnDamage}
-use Rattle.group_store.specs.Faults.{of_take}
+use Rattle.group_store.specs.OpenFault.{IfRefuses, of_fault, of_take}
 use Rattle.group_store.specs.Links.{IsLinkDamage, IsRightLink}
 use Rattle.group_store.specs.Links.IsLinkDamage.{LeadsNowhere, HighLink}
 use Rattle.group_store.specs.Making.{CanMake, HasMade, IsMakeFault, empty_group, empty_row, led, made}
-use Rattle.group_store.specs.Making.IsMakeDamage.{BadNode, FullFile, BadFree}
+use Rattle.group_store.specs.Making.IsMakeDamage.{BadNode, BadFree}
+use Rattle.group_store.proofs.Additions.{can_read}
 use Rattle.group_store.proofs.GroupRecords.{group_below}
 use Rattle.group_store.proofs.GroupWalks.{mark_then, room_then}
 use Rattle.group_store.proofs.Makes.{has_made}
@@ -72,7 +75,7 @@ all_writes s now u end a b c m same one three = record { each = λ q w. late q (
 
 -- ---- damage
 
-pub node_told : (s : State) (node : ℕ) (fault : Fault) → IsNodeFault s node fault → IsMakeFault s node fault
+pub node_told : (s : State) (node : ℕ) (fault : Fault) → IsNodeFault s node fault → IsMakeFault s node (of_fault fault)
 node_told s node Memory told = tt
 node_told s node Disk told = tt
 node_told s node (Damaged damage) told = BadNode damage told
@@ -114,10 +117,23 @@ pub take_told : (s now : State) (node : ℕ) (fault : TakeFault) → now ≡ aft
 take_told s now node fault read told = by fault (subst (λ (t : State). IsTakeFault t format.groups_file fault) read told)
   where
     by : (fault : TakeFault) → IsTakeFault (after_get s) format.groups_file fault → IsMakeFault s node (of_take fault)
-    by (take.Full file live) told = FullFile (sym told.1 ∙ told.2)
+    by (take.Full file live) told = (told.1, told.2)
     by take.Memory told = tt
     by take.Disk told = tt
     by (take.Damaged damage) told = BadFree damage (take_read s damage told)
+
+-- a list that can give an identifier gives one where there is room
+pub take_right : (s now : State) (free : List ℕ) (fault : TakeFault) → now ≡ after_get s → CanTake s format.groups_file free
+    → (meta_of s format.groups_file).live ≢ room s format.groups_file → IsTakeFault now format.groups_file fault
+    → (CanTake now format.groups_file free → NotDamaged {T = ℕ} (Err fault)) → IfRefuses ⊥ (of_take fault)
+take_right s now free fault read can some told sound = by fault (subst (λ (q : State). IsTakeFault q format.groups_file fault) read told)
+    (sound (subst (λ (q : State). CanTake q format.groups_file free) (sym read) (can_read s (after_get s).reads free can)))
+  where
+    by : (fault : TakeFault) → IsTakeFault (after_get s) format.groups_file fault → NotDamaged {T = ℕ} (Err fault) → IfRefuses ⊥ (of_take fault)
+    by (take.Full file live) told right = some (sym told.1 ∙ told.2)
+    by take.Memory told right = tt
+    by take.Disk told right = tt
+    by (take.Damaged damage) told right = right
 
 -- ---- the end
 

@@ -2,7 +2,7 @@
 use Rattle.std.proofs.Common.{◌≡◌, ℕ, sym, ap, ◌∙◌, subst, inl, inr, ⊎_elim, arith, refl}
 use Rattle.rec_bytes.specs.declared.damage.Damage.{Damage}
 use Rattle.rec_bytes.specs.declared.fault.Fault.{Fault}
-use Rattle.rec_bytes.specs.declared.fault.Fault.TheVariants.{Memory, Disk, Damaged}
+use Rattle.rec_bytes.specs.declared.fault.Fault.TheVariants as faults
 use Rattle.rec_bytes.specs.declared.key.Key.{Key}
 use Rattle.rec_bytes.specs.declared.record.Rec.{Rec}
 use Rattle.rec_bytes.specs.declared.row_fault.RowFault.{RowFault}
@@ -31,13 +31,16 @@ use Rattle.group_store.specs.Leaving.{LeavesBeside}
 use Rattle.group_store.specs.Links.{IsLinkDamage}
 use Rattle.group_store.specs.Links.IsLinkDamage.{LeadsNowhere, HighLink}
 use Rattle.group_store.specs.Making.{IsMakeDamage, IsMakeFault, link_damage}
-use Rattle.group_store.specs.Making.IsMakeDamage.{BadFree, BadLink, BadNode, FullFile, NotDense}
+use Rattle.group_store.specs.Making.IsMakeDamage.{BadFree, BadLink, BadNode, NotDense}
 use Rattle.group_store.specs.Naming.{IsNamedAt, IsUnread, NamesAt}
+use Rattle.group_store.specs.OpenFault.{of_fault}
 use Rattle.group_store.specs.Raising.{IsCountFault}
 use Rattle.group_store.specs.SparseChain.{IsSparseDamage, IsSparseFault}
 use Rattle.group_store.specs.SparseChain.IsSparseDamage.{BadRelationship, MoreThanSaid, NoChain}
 use Rattle.group_store.specs.Walking.{IsWalkDamage}
 use Rattle.group_store.specs.Walking.IsWalkDamage.{HighMark, NoList, UnknownGroup}
+use Rattle.group_store.specs.declared.open_fault.OpenFault.{OpenFault}
+use Rattle.group_store.specs.declared.open_fault.OpenFault.TheVariants.{Full, Memory, Disk, Damaged}
 
 -- ---- a search
 
@@ -45,20 +48,20 @@ node_named : (s z : State) (n : ℕ) (damage : Damage) → IsNodeDamage z n dama
 node_named s z n damage (HighRow above) = inr (inl (refl, inl refl))
 node_named s z n damage (UnknownKind low unknown) = inl (inr (refl, refl))
 
-pub node_fault_named : (s z : State) (n : ℕ) (fault : Fault) → IsNodeFault z n fault → NamesAt s n fault
-node_fault_named s z n Memory told = tt
-node_fault_named s z n Disk told = tt
-node_fault_named s z n (Damaged damage) told = node_named s z n damage told
+pub node_fault_named : (s z : State) (n : ℕ) (fault : Fault) → IsNodeFault z n fault → NamesAt s n (of_fault fault)
+node_fault_named s z n faults.Memory told = tt
+node_fault_named s z n faults.Disk told = tt
+node_fault_named s z n (faults.Damaged damage) told = node_named s z n damage told
 
 walk_named : (s z : State) (n first : ℕ) (damage : Damage) → IsWalkDamage z n first damage → IsNamedAt s n damage
 walk_named s z n first damage (NoList none) = inl (inr (refl, refl))
 walk_named s z n first damage (UnknownGroup g none low unknown) = inl (inl (inl refl))
 walk_named s z n first damage (HighMark above) = inl (inl (inr (refl, refl)))
 
-pub find_named : (s z : State) (n : ℕ) (fault : Fault) → IsFindFault z n fault → NamesAt s n fault
-find_named s z n Memory told = tt
-find_named s z n Disk told = tt
-find_named s z n (Damaged damage) told = ⊎_elim (λ k. node_named s z n damage k) (λ k. walk_named s z n _ damage k) told
+pub find_named : (s z : State) (n : ℕ) (fault : Fault) → IsFindFault z n fault → NamesAt s n (of_fault fault)
+find_named s z n faults.Memory told = tt
+find_named s z n faults.Disk told = tt
+find_named s z n (faults.Damaged damage) told = ⊎_elim (λ k. node_named s z n damage k) (λ k. walk_named s z n _ damage k) told
 
 -- ---- a group that is made
 
@@ -78,10 +81,10 @@ make_damage_named : (s z : State) (n : ℕ) (damage : Damage) → IsMakeDamage z
 make_damage_named s z n damage (BadNode _ bad) = node_named s z n damage bad
 make_damage_named s z n damage (NotDense thin) = inl (inr (refl, refl))
 make_damage_named s z n damage (BadLink _ bad) = link_named s z n _ damage bad
-make_damage_named s z n damage (FullFile full) = inl (inl (inr (refl, refl)))
 make_damage_named s z n damage (BadFree _ bad) = take_named s z n damage bad
 
-pub make_named : (s z : State) (n : ℕ) (fault : Fault) → IsMakeFault z n fault → NamesAt s n fault
+pub make_named : (s z : State) (n : ℕ) (fault : OpenFault) → IsMakeFault z n fault → NamesAt s n fault
+make_named s z n (Full live) told = tt
 make_named s z n Memory told = tt
 make_named s z n Disk told = tt
 make_named s z n (Damaged damage) told = make_damage_named s z n damage told
@@ -91,23 +94,24 @@ make_named s z n (Damaged damage) told = make_damage_named s z n damage told
 pub at_node : (s : State) (n : ℕ) (damage : Damage) (rule : ℕ) → damage ≡ record { file = format.nodes_file; id = n; rule = rule } → IsNamedAt s n damage
 at_node s n damage rule is = inl (inr (ap (λ (d : Damage). d.file) is, ap (λ (d : Damage). d.id) is))
 
-pub count_named : (s : State) (n g : ℕ) (fault : Fault) → IsCountFault n g fault → NamesAt s n fault
-count_named s n g Memory told = tt
-count_named s n g Disk told = tt
-count_named s n g (Damaged damage) (inl group) = inl (inl (inl (ap (λ (d : Damage). d.file) group)))
-count_named s n g (Damaged damage) (inr (inl many)) = at_node s n damage 7 many
-count_named s n g (Damaged damage) (inr (inr mark)) = inr (inl (ap (λ (d : Damage). d.file) mark, inr (ap (λ (d : Damage). d.id) mark)))
+pub count_named : (s : State) (n g : ℕ) (fault : Fault) → IsCountFault n g fault → NamesAt s n (of_fault fault)
+count_named s n g faults.Memory told = tt
+count_named s n g faults.Disk told = tt
+count_named s n g (faults.Damaged damage) (inl group) = inl (inl (inl (ap (λ (d : Damage). d.file) group)))
+count_named s n g (faults.Damaged damage) (inr (inl many)) = at_node s n damage 7 many
+count_named s n g (faults.Damaged damage) (inr (inr mark)) = inr (inl (ap (λ (d : Damage). d.file) mark, inr (ap (λ (d : Damage). d.id) mark)))
 
 -- ---- a relationship that comes into its group
 
-pub rel_named : (s : State) (n x : ℕ) (fault : RowFault) → rels.IsRelFault s x fault → NamesAt s n (of_row fault)
+pub rel_named : (s : State) (n x : ℕ) (fault : RowFault) → rels.IsRelFault s x fault → NamesAt s n (of_fault (of_row fault))
 rel_named s n x row.Disk told = tt
 rel_named s n x (row.Damaged damage) told = inr (inr (x, told))
 
-pub push_named : (s z : State) (n : ℕ) (head : Head) → head.key.file ≡ format.groups_file → (fault : Fault) → IsPushFault z head fault → NamesAt s n fault
-push_named s z n head group Memory told = tt
-push_named s z n head group Disk told = tt
-push_named s z n head group (Damaged damage) told = by damage told
+pub push_named : (s z : State) (n : ℕ) (head : Head) → head.key.file ≡ format.groups_file → (fault : Fault) → IsPushFault z head fault
+    → NamesAt s n (of_fault fault)
+push_named s z n head group faults.Memory told = tt
+push_named s z n head group faults.Disk told = tt
+push_named s z n head group (faults.Damaged damage) told = by damage told
   where
     by : (d : Damage) → chains.IsLinkDamage z (first_of z.records head) (first_damage head.key) d → IsNamedAt s n d
     by d (NoRel some above) = inl (inl (inl group))
@@ -120,21 +124,22 @@ sparse_damage_named s n count damage (NoChain none) = inl (inr (refl, refl))
 sparse_damage_named s n count damage (MoreThanSaid more) = inl (inr (refl, refl))
 sparse_damage_named s n count damage (BadRelationship x _ bad) = inr (inr (x, bad))
 
-pub sparse_named : (s : State) (n count : ℕ) (fault : Fault) → IsSparseFault s n count fault → NamesAt s n fault
-sparse_named s n count Memory told = tt
-sparse_named s n count Disk told = tt
-sparse_named s n count (Damaged damage) told = sparse_damage_named s n count damage told
+pub sparse_named : (s : State) (n count : ℕ) (fault : Fault) → IsSparseFault s n count fault → NamesAt s n (of_fault fault)
+sparse_named s n count faults.Memory told = tt
+sparse_named s n count faults.Disk told = tt
+sparse_named s n count (faults.Damaged damage) told = sparse_damage_named s n count damage told
 
 -- ---- as it was told of the space before
 
-pub named_read : (s z : State) (n : ℕ) (fault : Fault) → SameButReads s z → NamesAt z n fault → NamesAt s n fault
+pub named_read : (s z : State) (n : ℕ) (fault : OpenFault) → SameButReads s z → NamesAt z n fault → NamesAt s n fault
 named_read s z n fault same told = by fault (subst (λ (q : State). NamesAt q n fault) same told)
   where
     rel : (x : ℕ) (d : Damage) → IsRowDamage format.relationships_file (record s { reads = z.reads }) x d → IsRowDamage format.relationships_file s x d
     rel x d (HighRow above) = HighRow above
     rel x d (UnknownKind low unknown) = UnknownKind low unknown
 
-    by : (f : Fault) → NamesAt (record s { reads = z.reads }) n f → NamesAt s n f
+    by : (f : OpenFault) → NamesAt (record s { reads = z.reads }) n f → NamesAt s n f
+    by (Full live) k = tt
     by Memory k = tt
     by Disk k = tt
     by (Damaged d) (inl own) = inl own
@@ -166,8 +171,9 @@ unread_beside s t node shape beside = unread_before s t shape
     (λ e. let f = ap (λ (k : Key). k.file) e in omega arith))
     (λ x. beside.rels x 1 format.kind (omega arith) (inl (omega arith)))
 
-pub named_beside : (s t : State) (node : ℕ) → t.shape ≡ s.shape → LeavesBeside s.records t.records node → (fault : Fault) → NamesAt t node fault
+pub named_beside : (s t : State) (node : ℕ) → t.shape ≡ s.shape → LeavesBeside s.records t.records node → (fault : OpenFault) → NamesAt t node fault
     → NamesAt s node fault
+named_beside s t node shape beside (Full live) told = tt
 named_beside s t node shape beside Memory told = tt
 named_beside s t node shape beside Disk told = tt
 named_beside s t node shape beside (Damaged damage) (inl own) = inl own

@@ -5,10 +5,10 @@ use Rattle.id_freelist.proofs.ListSteps.{reads_harm_none}
 use Rattle.id_freelist.proofs.TakeBreaches.{list_damage}
 use Rattle.rec_bytes.specs.declared.damage.Damage.{Damage}
 use Rattle.rec_bytes.specs.declared.fault.Fault.{Fault}
-use Rattle.rec_bytes.specs.declared.fault.Fault.TheVariants.{Memory, Disk, Damaged}
+use Rattle.rec_bytes.specs.declared.fault.Fault.TheVariants as faults
 use Rattle.rec_bytes.specs.declared.row_fault.RowFault.{RowFault}
 use Rattle.rec_bytes.specs.declared.row_fault.RowFault.TheVariants as row
-use Rattle.rec_bytes.specs.Fault.{OnDamage, of_row}
+use Rattle.rec_bytes.specs.Fault.{of_row}
 use Rattle.rec_bytes.specs.Format as format
 use Rattle.rec_bytes.specs.Space.{SameButReads, State}
 use Rattle.store_rules.specs.Rules.{Head, first_of}
@@ -28,13 +28,16 @@ use Rattle.group_store.specs.Links.{IsLinkDamage}
 use Rattle.group_store.specs.Links.IsLinkDamage.{LeadsNowhere, HighLink}
 use Rattle.group_store.specs.Loading.{HasNoKind}
 use Rattle.group_store.specs.Making.{IsMakeDamage, IsMakeFault, link_damage}
-use Rattle.group_store.specs.Making.IsMakeDamage.{BadFree, BadLink, BadNode, FullFile, NotDense}
+use Rattle.group_store.specs.Making.IsMakeDamage.{BadFree, BadLink, BadNode, NotDense}
 use Rattle.group_store.specs.Naming.{IsAsBefore, IsNoOther, NamesFound, NamesNoGroup, NamesNoNode, NamesNoOther}
+use Rattle.group_store.specs.OpenFault.{OnRefusal, of_fault}
 use Rattle.group_store.specs.Raising.{IsCountFault}
 use Rattle.group_store.specs.SparseChain.{IsSparseDamage, IsSparseFault}
 use Rattle.group_store.specs.SparseChain.IsSparseDamage.{BadRelationship, MoreThanSaid, NoChain}
 use Rattle.group_store.specs.Walking.{IsWalkDamage}
 use Rattle.group_store.specs.Walking.IsWalkDamage.{HighMark, NoList, UnknownGroup}
+use Rattle.group_store.specs.declared.open_fault.OpenFault.{OpenFault}
+use Rattle.group_store.specs.declared.open_fault.OpenFault.TheVariants.{Full, Memory, Disk, Damaged}
 use Rattle.group_store.proofs.OwnRecords.{own_no_other, stray}
 
 as_read : (s t : State) (damage : Damage) → SameButReads s t → IsAsBefore s t damage
@@ -54,12 +57,12 @@ row_apart : (s t z : State) (file x : ℕ) (damage : Damage) → file ≢ format
 row_apart s t z file x damage other (HighRow above) e = absurd (let f : format.meta_file ≡ format.groups_file = e in omega arith)
 row_apart s t z file x damage other (UnknownKind low unknown) e = absurd (other e)
 
-pub node_fault_apart : (s t z : State) (n : ℕ) (fault : Fault) → IsNodeFault z n fault → NamesNoGroup s t fault
-node_fault_apart s t z n Memory told = tt
-node_fault_apart s t z n Disk told = tt
-node_fault_apart s t z n (Damaged damage) told = row_apart s t z format.nodes_file n damage (λ e. omega arith) told
+pub node_fault_apart : (s t z : State) (n : ℕ) (fault : Fault) → IsNodeFault z n fault → NamesNoGroup s t (of_fault fault)
+node_fault_apart s t z n faults.Memory told = tt
+node_fault_apart s t z n faults.Disk told = tt
+node_fault_apart s t z n (faults.Damaged damage) told = row_apart s t z format.nodes_file n damage (λ e. omega arith) told
 
-pub rel_apart : (s t z : State) (x : ℕ) (fault : RowFault) → rels.IsRelFault z x fault → NamesNoGroup s t (of_row fault)
+pub rel_apart : (s t z : State) (x : ℕ) (fault : RowFault) → rels.IsRelFault z x fault → NamesNoGroup s t (of_fault (of_row fault))
 rel_apart s t z x row.Disk told = tt
 rel_apart s t z x (row.Damaged damage) told = row_apart s t z format.relationships_file x damage (λ e. omega arith) told
 
@@ -68,10 +71,10 @@ sparse_damage_apart s t z n count damage (NoChain none) = node_apart s t damage 
 sparse_damage_apart s t z n count damage (MoreThanSaid more) = node_apart s t damage n 7 refl
 sparse_damage_apart s t z n count damage (BadRelationship x _ bad) = row_apart s t z format.relationships_file x damage (λ e. omega arith) bad
 
-pub sparse_apart : (s t z : State) (n count : ℕ) (fault : Fault) → IsSparseFault z n count fault → NamesNoGroup s t fault
-sparse_apart s t z n count Memory told = tt
-sparse_apart s t z n count Disk told = tt
-sparse_apart s t z n count (Damaged damage) told = sparse_damage_apart s t z n count damage told
+pub sparse_apart : (s t z : State) (n count : ℕ) (fault : Fault) → IsSparseFault z n count fault → NamesNoGroup s t (of_fault fault)
+sparse_apart s t z n count faults.Memory told = tt
+sparse_apart s t z n count faults.Disk told = tt
+sparse_apart s t z n count (faults.Damaged damage) told = sparse_damage_apart s t z n count damage told
 
 -- ---- a search
 
@@ -80,10 +83,10 @@ walk_apart s t n first damage same (NoList none) e = absurd (let f : format.node
 walk_apart s t n first damage same (UnknownGroup g none low unknown) e = inr (unknown, as_read s t damage same)
 walk_apart s t n first damage same (HighMark above) e = absurd (let f : format.meta_file ≡ format.groups_file = e in omega arith)
 
-pub find_apart : (s t : State) (n : ℕ) (fault : Fault) → SameButReads s t → IsFindFault s n fault → NamesNoGroup s t fault
-find_apart s t n Memory same told = tt
-find_apart s t n Disk same told = tt
-find_apart s t n (Damaged damage) same told =
+pub find_apart : (s t : State) (n : ℕ) (fault : Fault) → SameButReads s t → IsFindFault s n fault → NamesNoGroup s t (of_fault fault)
+find_apart s t n faults.Memory same told = tt
+find_apart s t n faults.Disk same told = tt
+find_apart s t n (faults.Damaged damage) same told =
     ⊎_elim (λ k. row_apart s t s format.nodes_file n damage (λ e. omega arith) k) (λ k. walk_apart s t n (first_link s.records n) damage same k) told
 
 -- ---- a group that is made
@@ -96,10 +99,10 @@ make_damage_apart : (s t : State) (n : ℕ) (damage : Damage) → IsMakeDamage s
 make_damage_apart s t n damage (BadNode _ bad) = row_apart s t s format.nodes_file n damage (λ e. omega arith) bad
 make_damage_apart s t n damage (NotDense thin) = λ e. absurd (let f : format.nodes_file ≡ format.groups_file = e in omega arith)
 make_damage_apart s t n damage (BadLink _ bad) = link_apart s t s n _ damage bad
-make_damage_apart s t n damage (FullFile full) = λ e. absurd (let f : format.meta_file ≡ format.groups_file = e in omega arith)
 make_damage_apart s t n damage (BadFree _ bad) = λ e. inl (list_damage s format.groups_file damage bad)
 
-pub make_apart : (s t : State) (n : ℕ) (fault : Fault) → IsMakeFault s n fault → NamesNoGroup s t fault
+pub make_apart : (s t : State) (n : ℕ) (fault : OpenFault) → IsMakeFault s n fault → NamesNoGroup s t fault
+make_apart s t n (Full live) told = tt
 make_apart s t n Memory told = tt
 make_apart s t n Disk told = tt
 make_apart s t n (Damaged damage) told = make_damage_apart s t n damage told
@@ -107,10 +110,10 @@ make_apart s t n (Damaged damage) told = make_damage_apart s t n damage told
 -- ---- a relationship that can't be put at the head of a group whose chain leads somewhere
 
 pub push_apart : (s t z : State) (head : Head) → IsLowLink z.records (first_of z.records head) → (fault : Fault) → IsPushFault z head fault
-    → NamesNoGroup s t fault
-push_apart s t z head low Memory told = tt
-push_apart s t z head low Disk told = tt
-push_apart s t z head low (Damaged damage) told = by damage told
+    → NamesNoGroup s t (of_fault fault)
+push_apart s t z head low faults.Memory told = tt
+push_apart s t z head low faults.Disk told = tt
+push_apart s t z head low (faults.Damaged damage) told = by damage told
   where
     by : (d : Damage) → chains.IsLinkDamage z (first_of z.records head) (first_damage head.key) d → NamesNoGroup s t (Damaged d)
     by d (NoRel some above) e = absurd (⊎_elim (λ none. some none) (λ lt. omega (arith, lt, above)) low)
@@ -118,7 +121,8 @@ push_apart s t z head low (Damaged damage) told = by damage told
 
 -- ---- the same, of spaces before
 
-pub apart_read : (s z t : State) (fault : Fault) → SameButReads s z → NamesNoGroup z t fault → NamesNoGroup s t fault
+pub apart_read : (s z t : State) (fault : OpenFault) → SameButReads s z → NamesNoGroup z t fault → NamesNoGroup s t fault
+apart_read s z t (Full live) same told = tt
 apart_read s z t Memory same told = tt
 apart_read s z t Disk same told = tt
 apart_read s z t (Damaged damage) same told = λ e. ⊎_elim (λ list. inl (reads_harm_none s z format.groups_file same damage list))
@@ -126,24 +130,26 @@ apart_read s z t (Damaged damage) same told = λ e. ⊎_elim (λ list. inl (read
 
 -- ---- it is no other node's
 
-pub apart_no_other : (s t : State) (node : ℕ) (fault : Fault) → NamesNoGroup s t fault → NamesNoOther s node fault
+pub apart_no_other : (s t : State) (node : ℕ) (fault : OpenFault) → NamesNoGroup s t fault → NamesNoOther s node fault
+apart_no_other s t node (Full live) told = tt
 apart_no_other s t node Memory told = tt
 apart_no_other s t node Disk told = tt
 apart_no_other s t node (Damaged damage) told = λ e. ⊎_elim (λ list. inl list) (λ k. inr (λ n ne. stray s.records damage.id n k.0)) (told e)
 
 pub count_no_other : (s : State) (node g : ℕ) → is_group_of (s.records (group_key g)) node ≡ true → (fault : Fault) → IsCountFault node g fault
-    → NamesNoOther s node fault
-count_no_other s node g own Memory told = tt
-count_no_other s node g own Disk told = tt
-count_no_other s node g own (Damaged damage) (inl group) = λ e. inr (subst (IsNoOther s.records node) (sym (ap (λ (d : Damage). d.id) group))
+    → NamesNoOther s node (of_fault fault)
+count_no_other s node g own faults.Memory told = tt
+count_no_other s node g own faults.Disk told = tt
+count_no_other s node g own (faults.Damaged damage) (inl group) = λ e. inr (subst (IsNoOther s.records node) (sym (ap (λ (d : Damage). d.id) group))
     (own_no_other s.records node g own))
-count_no_other s node g own (Damaged damage) (inr (inl many)) = λ e. absurd (let f = ap (λ (d : Damage). d.file) many in omega arith)
-count_no_other s node g own (Damaged damage) (inr (inr mark)) = λ e. absurd (let f = ap (λ (d : Damage). d.file) mark in omega arith)
+count_no_other s node g own (faults.Damaged damage) (inr (inl many)) = λ e. absurd (let f = ap (λ (d : Damage). d.file) many in omega arith)
+count_no_other s node g own (faults.Damaged damage) (inr (inr mark)) = λ e. absurd (let f = ap (λ (d : Damage). d.file) mark in omega arith)
 
 -- ---- what is named is as it was found
 
 -- nothing was written
-pub found_same : (s t : State) (node : ℕ) (fault : Fault) → SameButReads s t → NamesNoOther s node fault → NamesFound s t node fault
+pub found_same : (s t : State) (node : ℕ) (fault : OpenFault) → SameButReads s t → NamesNoOther s node fault → NamesFound s t node fault
+found_same s t node (Full live) same other = tt
 found_same s t node Memory same other = tt
 found_same s t node Disk same other = tt
 found_same s t node (Damaged damage) same other = record {
@@ -151,19 +157,21 @@ found_same s t node (Damaged damage) same other = record {
   groups = λ e. ⊎_elim (λ list. inl list) (λ k. inr (as_read s t damage same, k)) (other e);
 }
 
-pub found_apart : (s t : State) (node : ℕ) (fault : Fault) → SameButReads s t → NamesNoGroup s t fault → NamesFound s t node fault
+pub found_apart : (s t : State) (node : ℕ) (fault : OpenFault) → SameButReads s t → NamesNoGroup s t fault → NamesFound s t node fault
 found_apart s t node fault same told = found_same s t node fault same (apart_no_other s t node fault told)
 
-pub found_unwritten : {T : Type 0} (s t : State) (node : ℕ) (r : Result T Fault) → OnDamage r (SameButReads s t) → IfErr r (NamesNoOther s node)
+pub found_unwritten : {T : Type 0} (s t : State) (node : ℕ) (r : Result T OpenFault) → OnRefusal r (SameButReads s t) → IfErr r (NamesNoOther s node)
     → IfErr r (NamesFound s t node)
 found_unwritten s t node (Ok x) same other = tt
+found_unwritten s t node (Err (Full live)) same other = tt
 found_unwritten s t node (Err Memory) same other = tt
 found_unwritten s t node (Err Disk) same other = tt
 found_unwritten s t node (Err (Damaged damage)) same other = found_same s t node (Damaged damage) same other
 
 -- the node became dense before
-pub found_dense : (s m t : State) (node : ℕ) → LeavesBeside s.records m.records node → HarmsNoList s m format.groups_file → (fault : Fault)
+pub found_dense : (s m t : State) (node : ℕ) → LeavesBeside s.records m.records node → HarmsNoList s m format.groups_file → (fault : OpenFault)
     → NamesNoNode fault → NamesNoGroup m t fault → NamesFound s t node fault
+found_dense s m t node beside harmless (Full live) never told = tt
 found_dense s m t node beside harmless Memory never told = tt
 found_dense s m t node beside harmless Disk never told = tt
 found_dense s m t node beside harmless (Damaged damage) never told = record {
@@ -176,12 +184,13 @@ found_dense s m t node beside harmless (Damaged damage) never told = record {
       )) (told e);
 }
 
-pub found_spread : {T : Type 0} (s m t : State) (node : ℕ) (r : Result T Fault) → LeavesBeside s.records m.records node
+pub found_spread : {T : Type 0} (s m t : State) (node : ℕ) (r : Result T OpenFault) → LeavesBeside s.records m.records node
     → HarmsNoList s m format.groups_file → IfErr r NamesNoNode → IfErr r (NamesNoGroup m t) → IfErr r (NamesFound s t node)
 found_spread s m t node (Ok x) beside harmless never told = tt
 found_spread s m t node (Err fault) beside harmless never told = found_dense s m t node beside harmless fault never told
 
-pub found_read : (s z t : State) (node : ℕ) (fault : Fault) → SameButReads s z → NamesFound z t node fault → NamesFound s t node fault
+pub found_read : (s z t : State) (node : ℕ) (fault : OpenFault) → SameButReads s z → NamesFound z t node fault → NamesFound s t node fault
+found_read s z t node (Full live) same told = tt
 found_read s z t node Memory same told = tt
 found_read s z t node Disk same told = tt
 found_read s z t node (Damaged damage) same told = record {

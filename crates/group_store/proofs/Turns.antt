@@ -12,8 +12,8 @@ use Rattle.store_rules.proofs.ChainLaws.{walk_of_chain}
 use Rattle.chain_edit.specs.Links.{prev_set}
 use Rattle.chain_edit.specs.Pushing.{pushed}
 use Rattle.store_rules.proofs.ChainSteps.{first_in}
-use Rattle.rec_bytes.specs.declared.fault.Fault.{Fault}
 use Rattle.group_store.specs.declared.making.OwnGroup.{OwnGroup}
+use Rattle.group_store.specs.declared.open_fault.OpenFault.{OpenFault}
 use Rattle.group_store.specs.GroupChain.{IsDense, IsGroupOf, LacksGroup, next_group}
 use Rattle.group_store.specs.Making.{CanMake, HasMade}
 use Rattle.group_store.specs.Moving.{GrowsBy, HasCome, IsOwnTurn}
@@ -32,7 +32,7 @@ pub found_grows : (s t : State) (node g : ℕ) → SameButReads s t → GrowsBy 
 found_grows s t node g same = subst (λ (q : State). GrowsBy s q node g format.nil) (sym same) (record { groups = λ k is. inr is; first = inl refl })
 
 -- where none is found one was made
-pub made_grows : (r : Result OwnGroup Fault) (s l t : State) (node label : ℕ) → SameButReads s l
+pub made_grows : (r : Result OwnGroup OpenFault) (s l t : State) (node label : ℕ) → SameButReads s l
     → ((rest : List ℕ) (most : ℕ) (empty : List ℕ) → KeepsBut s.records s.shape node rest most empty → IsDense s.records node → LacksGroup s.records node label)
     → IfOk r (λ own. (free xs : List ℕ) → CanMake l node label free xs → HasMade l.records t.records node label own.row free xs)
     → IfOk r (λ own. own.first ≡ first_link l.records node)

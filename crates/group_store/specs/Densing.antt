@@ -1,21 +1,22 @@
 -- A sparse node that becomes dense: its relationships come into groups.
 use Rattle.std.specs.Prelude.{◌≡◌, ◌⊎◌, ℕ, ◌+◌, ◌*◌, ◌≤◌, None, List, length}
 use Rattle.rec_bytes.specs.declared.damage.Damage.{Damage}
-use Rattle.rec_bytes.specs.declared.fault.Fault.{Fault}
-use Rattle.rec_bytes.specs.declared.fault.Fault.TheVariants.{Memory, Disk, Damaged}
 use Rattle.rec_bytes.specs.Format as format
 use Rattle.rec_bytes.specs.RecordFiles.{room_of}
 use Rattle.rec_bytes.specs.Space.{State, meta_of}
 use Rattle.store_rules.specs.Ends.{Regroups}
-use Rattle.store_rules.specs.Breaking.{IsHeadChain}
+use Rattle.store_rules.specs.Breaking.{Breaks, IsHeadChain}
 use Rattle.store_rules.specs.Chains.{In}
 use Rattle.store_rules.specs.Rules.{KeepsRules, node_head}
 use Rattle.store_rules.specs.Views.{Records, degree, high, kind_at, rel_at}
 use Rattle.group_store.specs.GroupChain.{IsGroupOf}
 use Rattle.group_store.specs.Leaving.{LeavesApart, LeavesOthers}
-use Rattle.group_store.specs.Opening.{IsOpenDamage}
+use Rattle.group_store.specs.OpenFault.{IsFullOfGroups}
 use Rattle.group_store.specs.Spreading.{CanTakeEach, HasCountedGroups, HasSpread, rels_damage}
 use Rattle.group_store.specs.Walking.{chain_damage}
+use Rattle.group_store.specs.declared.open_fault.OpenFault.{OpenFault}
+use Rattle.group_store.specs.declared.open_fault.OpenFault.TheVariants.{Full, Memory, Disk}
+use Rattle.group_store.specs.declared.open_fault.OpenFault.TheVariants.{Damaged}
 
 -- The node is sparse, in a store that keeps the rules, but that these groups may be empty.
 pub record CanBecomeDense (s : State) (node most : ℕ) (empty : List ℕ) : Type 0 where
@@ -75,20 +76,23 @@ pub record SpreadsChain (s t : State) (node : ℕ) (members : List ℕ) : Type 0
 
 -- Why a relationship doesn't come into its group: what is told is so of the space as it is then, or
 -- the relationship isn't there.
-abbrev pub IsMoveFault : State → State → ℕ → ℕ → Fault → Type 0
+abbrev pub IsMoveFault : State → State → ℕ → ℕ → OpenFault → Type 0
+IsMoveFault s t node rel (Full live) = IsFullOfGroups t live
 IsMoveFault s t node rel Memory = Unit {0}
 IsMoveFault s t node rel Disk = Unit {0}
 IsMoveFault s t node rel (Damaged damage) =
-    IsOpenDamage t damage ⊎ ((damage ≡ rels_damage node) × (rel_at s.records rel ≡ None))
+    Breaks t.records t.shape damage ⊎ ((damage ≡ rels_damage node) × (rel_at s.records rel ≡ None))
 
--- What is told where no head is found or made for an end, by the space as it is then. It is so, or
--- the node isn't in use.
+-- Which record is said to be damaged where no head is found or made for an end: it breaks the rule
+-- in the space as it is then, or it is the node, which isn't in use.
 abbrev pub IsEndDamage : State → ℕ → Damage → Type 0
 IsEndDamage t node damage =
-    IsOpenDamage t damage ⊎ ((damage ≡ chain_damage node)
+    Breaks t.records t.shape damage ⊎ ((damage ≡ chain_damage node)
     × (kind_at t.records format.nodes_file node ≡ format.free_kind))
 
-abbrev pub IsEndFault : State → ℕ → Fault → Type 0
+-- why none is: this, or the file of groups is full then
+abbrev pub IsEndFault : State → ℕ → OpenFault → Type 0
+IsEndFault t node (Full live) = IsFullOfGroups t live
 IsEndFault t node Memory = Unit {0}
 IsEndFault t node Disk = Unit {0}
 IsEndFault t node (Damaged damage) = IsEndDamage t node damage

@@ -13,6 +13,7 @@ pub mod Loading
 pub mod Making
 pub mod Moving
 pub mod Naming
+pub mod OpenFault
 pub mod Opening
 pub mod Raising
 pub mod Sides

@@ -16,14 +16,15 @@ use Rattle.rec_bytes.specs.Space.{State, after_get, after_put, after_set, meta_i
 use Rattle.rec_bytes.specs.Tables.{Fields, with_fields}
 use Rattle.store_rules.specs.Rules as rules
 use Rattle.store_rules.specs.Views.{Records, first_link, high, rec_at}
-use Rattle.rec_bytes.specs.declared.fault.Fault.{Fault}
-use Rattle.rec_bytes.specs.declared.fault.Fault.TheVariants.{Memory, Disk, Damaged}
 use Rattle.group_store.specs.declared.group_row.GroupRow.{GroupRow}
 use Rattle.group_store.specs.GroupChain.{IsDense, IsGroupChain, IsGroupOf, LacksType}
-use Rattle.group_store.specs.Faults.{full_damage}
 use Rattle.group_store.specs.GroupRecord.{group_key}
 use Rattle.group_store.specs.Links.{IsLinkDamage, backed}
+use Rattle.group_store.specs.OpenFault.{IsFullOfGroups}
 use Rattle.group_store.specs.Sides.{group_head}
+use Rattle.group_store.specs.declared.open_fault.OpenFault.{OpenFault}
+use Rattle.group_store.specs.declared.open_fault.OpenFault.TheVariants.{Full, Memory, Disk}
+use Rattle.group_store.specs.declared.open_fault.OpenFault.TheVariants.{Damaged}
 use Rattle.group_store.specs.declared.side.Side.{Side}
 use Rattle.group_store.specs.Walking.{chain_damage, group_row_at}
 
@@ -112,18 +113,18 @@ abbrev pub link_damage : ℕ → Damage
 link_damage node = record { file = format.nodes_file; id = node; rule = 1 }
 
 -- The record that is said to be damaged breaks the rule: the node's can't be read, isn't dense or
--- leads nowhere, or the file of groups is full or can't give an identifier.
+-- leads nowhere, or the file of groups can't give an identifier.
 pub data IsMakeDamage (s : State) (node : ℕ) : Damage → Type 0 where
   BadNode : (damage : Damage) → IsNodeDamage s node damage → IsMakeDamage s node damage
   NotDense : ¬ IsDense s.records node → IsMakeDamage s node (chain_damage node)
   BadLink : (damage : Damage) → IsLinkDamage s (first_link s.records node) (link_damage node) damage
       → IsMakeDamage s node damage
-  FullFile : (meta_of s format.groups_file).live ≡ taking.room s format.groups_file
-      → IsMakeDamage s node full_damage
   BadFree : (damage : Damage) → IsTakeDamage s format.groups_file damage
       → IsMakeDamage s node damage
 
-abbrev pub IsMakeFault : State → ℕ → Fault → Type 0
+-- why a group isn't made: the file of groups is full, or a record is damaged
+abbrev pub IsMakeFault : State → ℕ → OpenFault → Type 0
+IsMakeFault s node (Full live) = IsFullOfGroups s live
 IsMakeFault s node Memory = Unit {0}
 IsMakeFault s node Disk = Unit {0}
 IsMakeFault s node (Damaged damage) = IsMakeDamage s node damage

@@ -5,24 +5,26 @@ use Rattle.node_store.specs.Loading.{IsNodeDamage}
 use Rattle.node_store.specs.NodeRecord.{node_key}
 use Rattle.rec_bytes.specs.declared.damage.Damage.{Damage}
 use Rattle.rec_bytes.specs.declared.fault.Fault.{Fault}
-use Rattle.rec_bytes.specs.declared.fault.Fault.TheVariants.{Memory, Disk, Damaged}
+use Rattle.rec_bytes.specs.declared.fault.Fault.TheVariants as faults
 use Rattle.rec_bytes.specs.declared.key.Key.{Key}
 use Rattle.rec_bytes.specs.Format as format
 use Rattle.rec_bytes.specs.RecordFiles.{room_of}
 use Rattle.rec_bytes.specs.Space.{State, WritesOnly, meta_of}
-use Rattle.id_freelist.specs.Taking as taking
 use Rattle.store_rules.specs.Breaking.{Breaks, IsChainHead}
 use Rattle.store_rules.specs.Ends.{IsEndHead, Regroups, group_of_head}
 use Rattle.store_rules.specs.Rules.{Head, IsEnd, IsOn, KeepsRules}
 use Rattle.store_rules.specs.Views.{GroupRow, Records, RelRow, degree, first_link, group_at}
 use Rattle.store_rules.specs.Views.{high, kind_at, rel_at}
 use Rattle.store_rules.specs.Writes.{AreOwn, meta_keys}
-use Rattle.group_store.specs.Faults.{full_damage}
 use Rattle.group_store.specs.GroupChain.{IsDense, IsGroupList, LacksType}
 use Rattle.group_store.specs.Leaving.{LeavesOthers}
+use Rattle.group_store.specs.OpenFault.{IsFullOfGroups}
 use Rattle.group_store.specs.Raising.{IsCountDamage}
 use Rattle.group_store.specs.Sides.{side_at}
 use Rattle.group_store.specs.Walking.{IsWalkDamage}
+use Rattle.group_store.specs.declared.open_fault.OpenFault.{OpenFault}
+use Rattle.group_store.specs.declared.open_fault.OpenFault.TheVariants.{Full, Memory, Disk}
+use Rattle.group_store.specs.declared.open_fault.OpenFault.TheVariants.{Damaged}
 use Rattle.group_store.specs.declared.side.Side.{Side}
 
 -- The relationship is at the node, has this type, and is on this side.
@@ -125,37 +127,24 @@ pub data IsSearchDamage (s : State) (node : ℕ) : Damage → Type 0 where
 -- What a search for a head is refused for. The record that is said to be damaged breaks the rule,
 -- or it is the relationship, and no group on the chain of the dense node has its type.
 abbrev pub IsHeadFault : State → ℕ → ℕ → ℕ → Fault → Type 0
-IsHeadFault s node rel label Memory = Unit {0}
-IsHeadFault s node rel label Disk = Unit {0}
-IsHeadFault s node rel label (Damaged damage) =
+IsHeadFault s node rel label faults.Memory = Unit {0}
+IsHeadFault s node rel label faults.Disk = Unit {0}
+IsHeadFault s node rel label (faults.Damaged damage) =
     (Breaks s.records s.shape damage × IsSearchDamage s node damage)
     ⊎ ((damage ≡ end_damage rel) × LacksGroupOn s.records node label)
-
--- the file of groups is full, by its meta record
-abbrev pub IsFullDamage : State → Damage → Type 0
-IsFullDamage s damage = (damage ≡ full_damage)
-    × ((meta_of s format.groups_file).live ≡ taking.room s format.groups_file)
-
--- So it is then, and there was room for fewer groups more than this before.
-pub record IsShortDamage (s t : State) (needed : ℕ) (damage : Damage) : Type 0 where
-  pub full : IsFullDamage t damage
-  pub lacks : room_of s.shape format.groups_file < (meta_of s format.groups_file).live + needed
 
 -- at most so many groups more are counted than before
 abbrev pub GrowsAtMost : State → State → ℕ → Type 0
 GrowsAtMost s t count =
     (meta_of t format.groups_file).live ≤ (meta_of s format.groups_file).live + count
 
--- What is told where no group is found or made: the record that is said to be damaged breaks the
--- rule, or the file of groups is full.
-abbrev pub IsOpenDamage : State → Damage → Type 0
-IsOpenDamage s damage = Breaks s.records s.shape damage ⊎ IsFullDamage s damage
-
--- what a group is refused for
-abbrev pub IsOpenFault : State → Fault → Type 0
+-- Why no group is found or made: the file of groups is full, or the record that is said to be
+-- damaged breaks the rule.
+abbrev pub IsOpenFault : State → OpenFault → Type 0
+IsOpenFault s (Full live) = IsFullOfGroups s live
 IsOpenFault s Memory = Unit {0}
 IsOpenFault s Disk = Unit {0}
-IsOpenFault s (Damaged damage) = IsOpenDamage s damage
+IsOpenFault s (Damaged damage) = Breaks s.records s.shape damage
 
 -- How many records of a node that becomes dense are written besides its own: its relationships' and
 -- a group's for each at most, and one of each more, for what may stand first.

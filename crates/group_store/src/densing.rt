@@ -21,7 +21,6 @@ ghost use Rattle.group_store.specs.Densing.{BecomesDense, CanBecomeDense, CanSpr
 ghost use Rattle.group_store.specs.Densing.{HasSpreadRoom, SpreadsChain};
 ghost use Rattle.group_store.specs.Densing.{IsEndFault, IsMoveFault, IsSparse};
 ghost use Rattle.group_store.specs.GroupChain.{IsDense, IsGroupChain};
-ghost use Rattle.rec_bytes.specs.Fault.{HasFaultCause, NotDamaged, OnDamage};
 ghost use Rattle.group_store.specs.GroupRecord.{group_key};
 ghost use Rattle.group_store.specs.Leaving.{KeepsHeads, KeepsOtherHeads, LeavesBeside};
 ghost use Rattle.group_store.specs.Leaving.{IsLowLink, LeavesOthers};
@@ -30,6 +29,7 @@ ghost use Rattle.group_store.specs.Moving.{ComesIn, GrowsBy, HasAdded, HasFound,
 ghost use Rattle.group_store.specs.Moving.{turn_keys};
 ghost use Rattle.group_store.specs.Naming.{NamesAt, NamesFound, NamesMeta, NamesNoGroup};
 ghost use Rattle.group_store.specs.Naming.{NamesNoNode};
+ghost use Rattle.group_store.specs.OpenFault.{HasOpenCause, NotRefused, OnRefusal};
 ghost use Rattle.group_store.specs.Opening.{GrowsAtMost, IsOpenFault};
 ghost use Rattle.group_store.specs.Raising.{IsGroupAt};
 ghost use Rattle.group_store.specs.Spreading.{CanTakeEach, HasCountedList, HasEndRoom};
@@ -43,33 +43,33 @@ use crate::finding::find_group;
 use crate::making::{OwnGroup, make_own};
 use crate::members::chain_damage;
 use crate::moved::{Moved, Turn};
+use crate::open_fault::OpenFault;
 use crate::raising::degree_damage;
 use crate::side::group_head;
 use crate::sparse_chain::{rels_damage, test_chain};
-use rec_bytes::{
-    DENSE, Fault, KIND, Key, NIL, NODE_FIRST_LINK, NODES, RELATIONSHIPS, Space, SpaceFault,
-};
+use rec_bytes::{DENSE, KIND, Key, NIL, NODE_FIRST_LINK, NODES, RELATIONSHIPS, Space, SpaceFault};
 use rel_store::{Linked, end_links, place_of};
 
 /// Makes a sparse node dense: each of its relationships comes into the group of its type, at the
 /// front of the chain of its direction. Its chain is read once before anything is written, and the
 /// node is damaged where it isn't sparse, where its degree says more than so many, or where its
 /// chain is broken or has more relationships than its degree says. What is damaged where it is read
-/// later breaks a rule then, and the node's relationships never do.
-pub fn make_dense<S: Space>(space: &mut S, node: u32, threshold: u32) -> Result<(), Fault>
+/// later breaks a rule then, and the node's relationships never do. The file of groups is full
+/// where one more is to be made than it has room for.
+pub fn make_dense<S: Space>(space: &mut S, node: u32, threshold: u32) -> Result<(), OpenFault>
     requires { threshold ≤ 200 }
     ensures made { S.tells → OnOk result ((most : ℕ) (empty : List ℕ)
         → CanBecomeDense (S.state space.old) node most empty
         → BecomesDense (S.state space.old) (S.state space.new) node most empty) }
     ensures not_damaged { S.tells → (most : ℕ) (empty : List ℕ)
         → CanBecomeDense (S.state space.old) node most empty
-        → HasDenseRoom (S.state space.old) node threshold empty → NotDamaged result }
+        → HasDenseRoom (S.state space.old) node threshold empty → NotRefused result }
     ensures spread { S.tells → OnOk result ((members free : List ℕ)
         → CanSpread (S.state space.old) node members free
         → SpreadsChain (S.state space.old) (S.state space.new) node members) }
     ensures never { S.tells → (members free : List ℕ)
         → CanSpread (S.state space.old) node members free
-        → HasSpreadRoom (S.state space.old) node threshold members → NotDamaged result }
+        → HasSpreadRoom (S.state space.old) node threshold members → NotRefused result }
     ensures damaged { S.tells → IsSparse (S.state space.old).records node
         → (S.state space.old).shape.threshold ≤ threshold
         → IfErr result (IsOpenFault (S.state space.new)) }
@@ -92,7 +92,7 @@ pub fn make_dense<S: Space>(space: &mut S, node: u32, threshold: u32) -> Result<
     ensures leaves_others { S.tells → OnOk result
         (LeavesBeside (S.state space.old).records
         (S.state space.new).records node) }
-    ensures stays { S.tells → OnDamage result
+    ensures stays { S.tells → OnRefusal result
         (LeavesBeside (S.state space.old).records
         (S.state space.new).records node) }
     ensures wrote { OnOk result (WritesBeside (node_key node) (2 * (threshold + 1))
@@ -105,16 +105,16 @@ pub fn make_dense<S: Space>(space: &mut S, node: u32, threshold: u32) -> Result<
         (degree (S.state space.old).records node + 2)
         (degree (S.state space.old).records node + 2) }
     ensures onward { S.onward space.old space.new }
-    ensures cause { HasFaultCause (S.faults space.old) (S.faults space.new) result }
+    ensures cause { HasOpenCause (S.faults space.old) (S.faults space.new) result }
 {
     let Some(row) = node_store::load(space, node)? else {
-        return Err(Fault::Damaged(chain_damage(node)));
+        return Err(OpenFault::Damaged(chain_damage(node)));
     };
     if row.dense {
-        return Err(Fault::Damaged(chain_damage(node)));
+        return Err(OpenFault::Damaged(chain_damage(node)));
     }
     if row.degree > threshold {
-        return Err(Fault::Damaged(degree_damage(node)));
+        return Err(OpenFault::Damaged(degree_damage(node)));
     }
     test_chain(space, node, row.first, row.degree)?;
     clear(space, node)?;
@@ -127,12 +127,12 @@ pub fn make_dense<S: Space>(space: &mut S, node: u32, threshold: u32) -> Result<
         let turn = move_one(space, node, at)?;
         // What stood first was written too, and the bound counts only what came there.
         if !moved.note(at, &turn) {
-            return Err(Fault::Damaged(rels_damage(node)));
+            return Err(OpenFault::Damaged(rels_damage(node)));
         }
         at = turn.next;
     }
     if at != NIL {
-        return Err(Fault::Damaged(rels_damage(node)));
+        return Err(OpenFault::Damaged(rels_damage(node)));
     }
     Ok(())
 }
@@ -155,7 +155,7 @@ fn clear<S: Space>(space: &mut S, node: u32) -> Result<(), SpaceFault>
 }
 
 /// Moves a relationship of a dense node into the group of its type.
-fn move_one<S: Space>(space: &mut S, node: u32, rel: u32) -> Result<Turn, Fault>
+fn move_one<S: Space>(space: &mut S, node: u32, rel: u32) -> Result<Turn, OpenFault>
     ensures moved { S.tells → IfOk result (λ turn. (rest : List ℕ) (most : ℕ) (empty : List ℕ)
         → IsSpread (S.state space.old) node rel (rel ∷ rest) most empty
         → IsSpread (S.state space.new) node turn.next rest most empty
@@ -163,7 +163,7 @@ fn move_one<S: Space>(space: &mut S, node: u32, rel: u32) -> Result<Turn, Fault>
         × LeavesOthers (S.state space.old) (S.state space.new) node) }
     ensures not_damaged { S.tells → (rest : List ℕ) (most : ℕ) (empty : List ℕ)
         → IsSpread (S.state space.old) node rel (rel ∷ rest) most empty
-        → HasEndRoom (S.state space.old) empty → NotDamaged result }
+        → HasEndRoom (S.state space.old) empty → NotRefused result }
     ensures own { S.tells → IfOk result (λ turn. (rest : List ℕ) (most : ℕ) (empty : List ℕ)
         → IsSpread (S.state space.old) node rel (rel ∷ rest) most empty
         → IsOwnTurn (S.state space.old) (S.state space.new) node (rel ∷ rest) turn) }
@@ -182,7 +182,7 @@ fn move_one<S: Space>(space: &mut S, node: u32, rel: u32) -> Result<Turn, Fault>
         → IsSpreading (S.state space.old) node rel came (rel ∷ rest) groups free
         → nodes.IsReadable (S.state space.old) node → rels.IsReadable (S.state space.old) rel
         → (meta_of (S.state space.old) groups_file).live ≢ room (S.state space.old) groups_file
-        → NotDamaged result }
+        → NotRefused result }
     ensures damaged { S.tells → IsDense (S.state space.old).records node
         → IfErr result (IsMoveFault (S.state space.old) (S.state space.new) node rel) }
     ensures names { S.tells → IfErr result (NamesAt (S.state space.old) node) }
@@ -209,17 +209,17 @@ fn move_one<S: Space>(space: &mut S, node: u32, rel: u32) -> Result<Turn, Fault>
     ensures leaves_others { S.tells → OnOk result
         (LeavesBeside (S.state space.old).records
         (S.state space.new).records node) }
-    ensures stays { S.tells → OnDamage result
+    ensures stays { S.tells → OnRefusal result
         (LeavesBeside (S.state space.old).records
         (S.state space.new).records node) }
     ensures wrote { IfOk result (λ turn.
         WritesOnly (S.state space.old) (S.state space.new) (turn_keys node rel turn)) }
     ensures touches { TouchesGroups (S.state space.old) (S.state space.new) node 2 2 }
     ensures onward { S.onward space.old space.new }
-    ensures cause { HasFaultCause (S.faults space.old) (S.faults space.new) result }
+    ensures cause { HasOpenCause (S.faults space.old) (S.faults space.new) result }
 {
     let Some(row) = rel_store::load(space, rel)? else {
-        return Err(Fault::Damaged(rels_damage(node)));
+        return Err(OpenFault::Damaged(rels_damage(node)));
     };
     let own = own_group(space, node, row.label)?;
     let head = group_head(own.row.id, Side::at(node, row.from, row.to));
@@ -235,7 +235,11 @@ fn move_one<S: Space>(space: &mut S, node: u32, rel: u32) -> Result<Turn, Fault>
 }
 
 /// The group of a type at a dense node, which is made where there is none.
-pub(crate) fn own_group<S: Space>(space: &mut S, node: u32, label: u32) -> Result<OwnGroup, Fault>
+pub(crate) fn own_group<S: Space>(
+    space: &mut S,
+    node: u32,
+    label: u32,
+) -> Result<OwnGroup, OpenFault>
     ensures opened { S.tells → IfOk result (λ own. (rest : List ℕ) (most : ℕ) (empty : List ℕ)
         → KeepsBut (S.state space.old).records (S.state space.old).shape node rest most empty
         → IsDense (S.state space.old).records node
@@ -246,7 +250,7 @@ pub(crate) fn own_group<S: Space>(space: &mut S, node: u32, label: u32) -> Resul
         → KeepsBut (S.state space.old).records (S.state space.old).shape node rest most empty
         → IsDense (S.state space.old).records node
         → (meta_of (S.state space.old) groups_file).live ≢ room (S.state space.old) groups_file
-        → NotDamaged result }
+        → NotRefused result }
     ensures local { S.tells → IfOk result (λ own. (groups free : List ℕ)
         → IsDense (S.state space.old).records node
         → IsGroupChain (S.state space.old).records node groups
@@ -264,7 +268,7 @@ pub(crate) fn own_group<S: Space>(space: &mut S, node: u32, label: u32) -> Resul
         → IsGroupChain (S.state space.old).records node groups
         → CanTakeEach (S.state space.old) free → nodes.IsReadable (S.state space.old) node
         → (meta_of (S.state space.old) groups_file).live ≢ room (S.state space.old) groups_file
-        → NotDamaged result }
+        → NotRefused result }
     ensures key { IfOk result (λ own. IsKey (group_key own.row.id)) }
     ensures row { S.tells → IfOk result (λ own. (rest : List ℕ) (most : ℕ) (empty : List ℕ)
         → KeepsBut (S.state space.old).records (S.state space.old).shape node rest most empty
@@ -294,7 +298,7 @@ pub(crate) fn own_group<S: Space>(space: &mut S, node: u32, label: u32) -> Resul
     ensures leaves_others { S.tells → OnOk result
         (LeavesBeside (S.state space.old).records
         (S.state space.new).records node) }
-    ensures unwritten { OnDamage result (SameButReads (S.state space.old) (S.state space.new)) }
+    ensures unwritten { OnRefusal result (SameButReads (S.state space.old) (S.state space.new)) }
     ensures group { S.tells → IfOk result (λ own. IsDense (S.state space.old).records node
         → (own.row.counted ≡ true) ⊎ (IsGroupAt (S.state space.new) node own.row
         × SameButReads (S.state space.old) (S.state space.new))) }
@@ -308,7 +312,7 @@ pub(crate) fn own_group<S: Space>(space: &mut S, node: u32, label: u32) -> Resul
     ensures writes { (first id : ℕ) × WritesOnly (S.state space.old) (S.state space.new)
         (group_key id ∷ group_key first ∷ node_key node ∷ meta_key_of groups_file ∷ []) }
     ensures onward { S.onward space.old space.new }
-    ensures cause { HasFaultCause (S.faults space.old) (S.faults space.new) result }
+    ensures cause { HasOpenCause (S.faults space.old) (S.faults space.new) result }
 {
     match find_group(space, node, label)? {
         Some(row) => Ok(OwnGroup { row, first: NIL }),

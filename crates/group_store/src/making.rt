@@ -9,31 +9,30 @@ ghost use Rattle.rec_bytes.specs.Key.{IsKey};
 ghost use Rattle.rec_bytes.specs.RecordFiles.{meta_key_of};
 ghost use Rattle.rec_bytes.specs.Space.{HasCause, SameButReads, WritesOnly, meta_of};
 ghost use Rattle.group_store.specs.GroupChain.{IsDense, LacksGroup};
-ghost use Rattle.rec_bytes.specs.Fault.{HasFaultCause, NotDamaged, OnDamage};
-ghost use Rattle.group_store.specs.Faults.{of_take};
 ghost use Rattle.group_store.specs.FirstGroup.{IsFirst};
 ghost use Rattle.group_store.specs.GroupRecord.{group_key};
 ghost use Rattle.group_store.specs.Leaving.{KeepsHeads};
 ghost use Rattle.group_store.specs.Making.{CanMake, HasMade, IsEmptyOf, IsMakeFault, empty_group};
 ghost use Rattle.group_store.specs.Making.{empty_row, led, made};
+ghost use Rattle.group_store.specs.OpenFault.{HasOpenCause, NotRefused, OnRefusal};
 ghost use Rattle.group_store.specs.Opening.{IsOpenFault};
 ghost use Rattle.group_store.specs.Spreading.{HasCountedList, HasOpened, KeepsBut, LeadsAmong};
 
 use crate::GroupRow;
 use crate::links::{back, test_link};
 use crate::members::{chain_damage, first_group};
-use id_freelist::{TakeFault, take};
+use crate::open_fault::OpenFault;
+use id_freelist::take;
 use rec_bytes::{
-    COUNTED, Damage, Fault, GROUP_FIRST_IN, GROUP_FIRST_LOOP, GROUP_FIRST_OUT, GROUP_IN_COUNT,
-    GROUP_LOOP_COUNT, GROUP_NEXT, GROUP_OUT_COUNT, GROUP_OWNER, GROUP_PREVIOUS, GROUP_RULE,
-    GROUP_TYPE, GROUPS, KIND, Key, META, NIL, NODE_FIRST_LINK, NODES, RANGE_RULE, Rec, Space,
-    SpaceFault, set_number,
+    COUNTED, Damage, GROUP_FIRST_IN, GROUP_FIRST_LOOP, GROUP_FIRST_OUT, GROUP_IN_COUNT,
+    GROUP_LOOP_COUNT, GROUP_NEXT, GROUP_OUT_COUNT, GROUP_OWNER, GROUP_PREVIOUS, GROUP_TYPE, GROUPS,
+    KIND, Key, NIL, NODE_FIRST_LINK, NODES, RANGE_RULE, Rec, Space, SpaceFault, set_number,
 };
 
 /// Makes an empty group of a type at a dense node, first on its chain. The node is damaged where it
-/// isn't dense or its first link leads nowhere, and the meta record of the groups where it counts
-/// as many as there is room for. Then nothing is written.
-pub fn make_group<S: Space>(space: &mut S, node: u32, label: u32) -> Result<GroupRow, Fault>
+/// isn't dense or its first link leads nowhere, and the file of groups is full where as many are
+/// live as there is room for. Then nothing is written.
+pub fn make_group<S: Space>(space: &mut S, node: u32, label: u32) -> Result<GroupRow, OpenFault>
     ensures made { S.tells → IfOk result (λ row. (free xs : List ℕ)
         → CanMake (S.state space.old) node label free xs
         → HasMade (S.state space.old).records (S.state space.new).records node label row free xs) }
@@ -44,11 +43,11 @@ pub fn make_group<S: Space>(space: &mut S, node: u32, label: u32) -> Result<Grou
     ensures not_damaged { S.tells → IsReadable (S.state space.old) node → (free xs : List ℕ)
         → CanMake (S.state space.old) node label free xs → IsDense (S.state space.old).records node
         → (meta_of (S.state space.old) groups_file).live ≢ room (S.state space.old) groups_file
-        → NotDamaged result }
+        → NotRefused result }
     ensures full { S.tells
         → (meta_of (S.state space.old) groups_file).live ≡ room (S.state space.old) groups_file
         → IsErr result }
-    ensures unwritten { OnDamage result (SameButReads (S.state space.old) (S.state space.new)) }
+    ensures unwritten { OnRefusal result (SameButReads (S.state space.old) (S.state space.new)) }
     ensures key { IfOk result (λ row. IsKey (group_key row.id)) }
     ensures rules { S.tells → IfOk result (λ row. (rest : List ℕ) (most : ℕ) (empty : List ℕ)
         → KeepsBut (S.state space.old).records (S.state space.old).shape node rest most empty
@@ -64,7 +63,7 @@ pub fn make_group<S: Space>(space: &mut S, node: u32, label: u32) -> Result<Grou
     ensures writes { (first id : ℕ) × WritesOnly (S.state space.old) (S.state space.new)
         (group_key first ∷ group_key id ∷ node_key node ∷ meta_key_of groups_file ∷ []) }
     ensures onward { S.onward space.old space.new }
-    ensures cause { HasFaultCause (S.faults space.old) (S.faults space.new) result }
+    ensures cause { HasOpenCause (S.faults space.old) (S.faults space.new) result }
 {
     let own = make_own(space, node, label)?;
     Ok(own.row)
@@ -79,7 +78,11 @@ pub(crate) struct OwnGroup {
 }
 
 /// Makes a group as `make_group` does, and answers which one stood first.
-pub(crate) fn make_own<S: Space>(space: &mut S, node: u32, label: u32) -> Result<OwnGroup, Fault>
+pub(crate) fn make_own<S: Space>(
+    space: &mut S,
+    node: u32,
+    label: u32,
+) -> Result<OwnGroup, OpenFault>
     ensures made { S.tells → IfOk result (λ own. (free xs : List ℕ)
         → CanMake (S.state space.old) node label free xs
         → HasMade (S.state space.old).records (S.state space.new).records node label own.row free
@@ -89,11 +92,11 @@ pub(crate) fn make_own<S: Space>(space: &mut S, node: u32, label: u32) -> Result
     ensures not_damaged { S.tells → IsReadable (S.state space.old) node → (free xs : List ℕ)
         → CanMake (S.state space.old) node label free xs → IsDense (S.state space.old).records node
         → (meta_of (S.state space.old) groups_file).live ≢ room (S.state space.old) groups_file
-        → NotDamaged result }
+        → NotRefused result }
     ensures full { S.tells
         → (meta_of (S.state space.old) groups_file).live ≡ room (S.state space.old) groups_file
         → IsErr result }
-    ensures unwritten { OnDamage result (SameButReads (S.state space.old) (S.state space.new)) }
+    ensures unwritten { OnRefusal result (SameButReads (S.state space.old) (S.state space.new)) }
     ensures key { IfOk result (λ own. IsKey (group_key own.row.id)) }
     ensures counted { IfOk result (λ own. own.row.counted ≡ true) }
     ensures rules { S.tells → IfOk result (λ own. (rest : List ℕ) (most : ℕ) (empty : List ℕ)
@@ -123,10 +126,10 @@ pub(crate) fn make_own<S: Space>(space: &mut S, node: u32, label: u32) -> Result
     ensures writes { (first id : ℕ) × WritesOnly (S.state space.old) (S.state space.new)
         (group_key first ∷ group_key id ∷ node_key node ∷ meta_key_of groups_file ∷ []) }
     ensures onward { S.onward space.old space.new }
-    ensures cause { HasFaultCause (S.faults space.old) (S.faults space.new) result }
+    ensures cause { HasOpenCause (S.faults space.old) (S.faults space.new) result }
 {
     let Some(first) = first_group(space, node)? else {
-        return Err(Fault::Damaged(chain_damage(node)));
+        return Err(OpenFault::Damaged(chain_damage(node)));
     };
     let leads_nowhere = Damage {
         file: NODES,
@@ -134,31 +137,12 @@ pub(crate) fn make_own<S: Space>(space: &mut S, node: u32, label: u32) -> Result
         rule: RANGE_RULE,
     };
     test_link(space, first, leads_nowhere)?;
-    let id = match take(space, GROUPS) {
-        Ok(id) => id,
-        Err(fault) => return Err(fault_of(fault)),
-    };
+    let id = take(space, GROUPS)?;
     lead(space, node, first, id, empty_group(node, label, first))?;
     Ok(OwnGroup {
         row: empty_row(id, label),
         first,
     })
-}
-
-/// A well-formed store has room for a group of each type at each end of a relationship.
-fn fault_of(fault: TakeFault) -> Fault
-    ensures { result ≡ of_take fault }
-{
-    match fault {
-        TakeFault::Full { .. } => Fault::Damaged(Damage {
-            file: META,
-            id: GROUPS as u32,
-            rule: GROUP_RULE,
-        }),
-        TakeFault::Memory => Fault::Memory,
-        TakeFault::Disk => Fault::Disk,
-        TakeFault::Damaged(damage) => Fault::Damaged(damage),
-    }
 }
 
 /// Writes the record of a group, and puts it before the first one of the node.

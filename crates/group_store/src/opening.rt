@@ -25,6 +25,7 @@ ghost use Rattle.group_store.specs.Naming.{NamesAt, NamesFound, NamesMeta, Names
 ghost use Rattle.group_store.specs.Naming.{NamesNoNode, NamesNoOther};
 ghost use Rattle.group_store.specs.Spreading.{HasCountedList, HasSpreadList, OpensHead};
 ghost use Rattle.rec_bytes.specs.Fault.{HasFaultCause, NotDamaged, OnDamage};
+ghost use Rattle.group_store.specs.OpenFault.{HasOpenCause, NotRefused, OnRefusal};
 ghost use Rattle.group_store.specs.Opening.{
   CanOpen,
   CanOpenGroup,
@@ -46,6 +47,7 @@ use crate::Side;
 use crate::densing::{make_dense, own_group};
 use crate::finding::find_group;
 use crate::members::first_group;
+use crate::open_fault::OpenFault;
 use crate::raising::count_group;
 use crate::side::{group_head, node_head};
 use chain_edit::Head;
@@ -129,14 +131,14 @@ fn end_damage(rel: u32) -> Damage
 
 /// The head of a chain of a dense node's group of a type, which is made where there is none, and
 /// gets counts where it has none.
-fn open_group<S: Space>(space: &mut S, node: u32, label: u32, side: Side) -> Result<Head, Fault>
+fn open_group<S: Space>(space: &mut S, node: u32, label: u32, side: Side) -> Result<Head, OpenFault>
     requires { IsKey (node_key node) }
     ensures opened { S.tells → IfOk result (λ head. (row : RelRow) (empty : List ℕ)
         → CanOpenGroup (S.state space.old) node label side row empty
         → OpensChain (S.state space.old) (S.state space.new) (head_of head) node row empty) }
     ensures not_damaged { S.tells → (row : RelRow) (empty : List ℕ)
         → CanOpenGroup (S.state space.old) node label side row empty
-        → HasGroupRoom (S.state space.old) empty → NotDamaged result }
+        → HasGroupRoom (S.state space.old) empty → NotRefused result }
     ensures damaged { S.tells → IsDense (S.state space.old).records node
         → IfErr result (IsOpenFault (S.state space.old)) }
     ensures names { S.tells → IfErr result (NamesAt (S.state space.old) node) }
@@ -155,7 +157,7 @@ fn open_group<S: Space>(space: &mut S, node: u32, label: u32, side: Side) -> Res
     ensures reaches { S.tells → IfOk result (λ head.
         OpensHead (S.state space.old).records (S.state space.new).records node (head_of head)) }
     ensures unwritten { S.tells → IsDense (S.state space.old).records node
-        → OnDamage result (SameButReads (S.state space.old) (S.state space.new)) }
+        → OnRefusal result (SameButReads (S.state space.old) (S.state space.new)) }
     ensures owns { S.tells → IsDense (S.state space.old).records node
         → IfOk result (λ head. IsHeadOf (S.state space.new).records (head_of head) node) }
     ensures heads { S.tells
@@ -170,7 +172,7 @@ fn open_group<S: Space>(space: &mut S, node: u32, label: u32, side: Side) -> Res
         WritesOpened (S.state space.old) (S.state space.new) node head.key 1) }
     ensures writes { WritesBeside (node_key node) 2 (S.state space.old) (S.state space.new) }
     ensures onward { S.onward space.old space.new }
-    ensures cause { HasFaultCause (S.faults space.old) (S.faults space.new) result }
+    ensures cause { HasOpenCause (S.faults space.old) (S.faults space.new) result }
 {
     let own = own_group(space, node, label)?;
     count_group(space, node, &own.row)?;
@@ -180,7 +182,8 @@ fn open_group<S: Space>(space: &mut S, node: u32, label: u32, side: Side) -> Res
 /// The head of the chain at a node that a new relationship of a type and on a side comes into. The
 /// node, which has this degree, becomes dense where it has as many relationships as a sparse one
 /// may have, and a dense one gets a group of the type where it has none. A group that is found gets
-/// counts where it has none. The number of relationships that a sparse node may have, the threshold
+/// counts where it has none. The file of groups is full where one more is to be made than it has
+/// room for. The number of relationships that a sparse node may have, the threshold
 /// of the store's shape, is what the caller weighed with.
 pub fn open_chain<S: Space>(
     space: &mut S,
@@ -189,7 +192,7 @@ pub fn open_chain<S: Space>(
     threshold: u32,
     label: u32,
     side: Side,
-) -> Result<Head, Fault>
+) -> Result<Head, OpenFault>
     requires node { IsKey (node_key node) }
     requires threshold { threshold ≤ 200 }
     ensures opened { S.tells → IfOk result (λ head. (row : RelRow) (empty : List ℕ)
@@ -197,11 +200,11 @@ pub fn open_chain<S: Space>(
         → OpensChain (S.state space.old) (S.state space.new) (head_of head) node row empty) }
     ensures not_damaged { S.tells → (row : RelRow) (empty : List ℕ)
         → CanOpen (S.state space.old) node degree threshold label side row empty
-        → HasGroupRoom (S.state space.old) empty → NotDamaged result }
+        → HasGroupRoom (S.state space.old) empty → NotRefused result }
     ensures damaged { S.tells → IsDense (S.state space.old).records node ⊎ (degree ≢ threshold)
         → IfErr result (IsOpenFault (S.state space.old)) }
     ensures unwritten { S.tells → IsDense (S.state space.old).records node ⊎ (degree ≢ threshold)
-        → OnDamage result (SameButReads (S.state space.old) (S.state space.new)) }
+        → OnRefusal result (SameButReads (S.state space.old) (S.state space.new)) }
     ensures blames { S.tells → IsDense (S.state space.old).records node
         ⊎ IsSparse (S.state space.old).records node
         → (S.state space.old).shape.threshold ≤ threshold
@@ -230,7 +233,7 @@ pub fn open_chain<S: Space>(
     ensures leaves_others { S.tells → OnOk result
         (LeavesBeside (S.state space.old).records
         (S.state space.new).records node) }
-    ensures stays { S.tells → OnDamage result
+    ensures stays { S.tells → OnRefusal result
         (LeavesBeside (S.state space.old).records
         (S.state space.new).records node) }
     ensures at { IfOk result
@@ -242,7 +245,7 @@ pub fn open_chain<S: Space>(
     ensures writes { WritesBeside (node_key node) (moved_writes threshold degree + 2)
         (S.state space.old) (S.state space.new) }
     ensures onward { S.onward space.old space.new }
-    ensures cause { HasFaultCause (S.faults space.old) (S.faults space.new) result }
+    ensures cause { HasOpenCause (S.faults space.old) (S.faults space.new) result }
 {
     if is_dense(space, node)? {
         return open_group(space, node, label, side);

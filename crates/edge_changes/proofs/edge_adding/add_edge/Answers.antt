@@ -16,7 +16,7 @@ use Rattle.change_parts.specs.Assigning.{CanPut, HasPropertyRoom, IsPutCause, Pu
 use Rattle.change_parts.specs.Change.{IsCounted, IsRefusal, MakesChange}
 use Rattle.change_parts.specs.ChangeFault.{IsOutside, LeavesSpace}
 use Rattle.change_parts.specs.Damage.{BlamesBroken, KeepsButNames}
-use Rattle.edge_changes.specs.EdgeAdding.{BlamesAdded, BlamesPut, HasEndDegree, IsFullOfEdges, IsUsedEnd, KeepsButChains, degrees_weight, groups_needed}
+use Rattle.edge_changes.specs.EdgeAdding.{BlamesAdded, BlamesChains, HasEndDegree, IsFullOfEdges, IsUsedEnd, KeepsButChains, degrees_weight, groups_needed}
 use Rattle.edge_changes.specs.EdgeEnds.{AtEach, source_of, target_of}
 use Rattle.edge_changes.specs.EdgePlacing.{HadFewGroups, IsEdgeBetween, PutsEdge}
 use Rattle.change_parts.specs.Degrees.{HasDegree}
@@ -181,7 +181,7 @@ returns-in_err-id-clause-leaves g c tells =
     let s = g.S.Reads.state c.args.space.now in
     let v = g.S.Reads.state c.put_edge.new.space in
     fault_exit (λ f. f) (LeavesSpace s v) c.in_err-id.field-0.0 c.from_residual-in_err-id.result c.from_residual-in_err-id.ensures.1
-    (late_leaves s v c.in_err-id.field-0.0 (put_late v c.in_err-id.field-0.0 c.in_err-id.ensures.failure))
+    (late_leaves s v c.in_err-id.field-0.0 (put_late v c.in_err-id.field-0.0 (c.in_err-id.ensures.failure tells)))
 
 pub returns-in_err-id-clause-refused_writes : goal.returns-in_err-id-clause-refused_writes
 returns-in_err-id-clause-refused_writes g c =
@@ -451,7 +451,7 @@ returns-in_err-id-clause-caused g c tells =
     let now = c.prepare.new.names.names in
     let command = commands.Edge c.args.from c.args.label.now c.args.to c.args.pairs.now in
     fault_exit (λ f. f) (IsCaused command s t names now) c.in_err-id.field-0.0 c.from_residual-in_err-id.result c.from_residual-in_err-id.ensures.1
-    (edge_caused s t names now c.args.from c.args.label.now c.args.to c.args.pairs.now c.in_err-id.field-0.0 c.in_err-id.ensures.failure)
+    (edge_caused s t names now c.args.from c.args.label.now c.args.to c.args.pairs.now c.in_err-id.field-0.0 (c.in_err-id.ensures.failure tells))
 
 pub returns-in_err-put_properties-clause-caused : goal.returns-in_err-put_properties-clause-caused
 returns-in_err-put_properties-clause-caused g c tells =
@@ -567,7 +567,7 @@ returns-in_err-id-clause-damaged g c tells =
     let u = g.S.Reads.state c.prepare.new.space in
     let v = g.S.Reads.state c.put_edge.new.space in
     let fault = c.in_err-id.field-0.0 in
-    let found = at_nodes (λ from to. BlamesPut u v from to fault) c.in_ok-ends.ends c.args.from c.args.to c.in_ok-ends.ensures.ends
+    let found = at_nodes (λ from to. BlamesChains u v from to fault) c.in_ok-ends.ends c.args.from c.args.to c.in_ok-ends.ensures.ends
     (c.in_err-id.ensures.found tells (used_then g at.In_ok-prepared tells)) in
     let named = g.met.S.Reads.onward_shape _ _ c.prepare.ensures.onward ∙ ap (λ (z : State). z.shape) c.end_degrees.ensures.state in
     fault_exit (λ f. f) (BlamesAdded s v) fault c.from_residual-in_err-id.result c.from_residual-in_err-id.ensures.1
@@ -643,7 +643,7 @@ returns-in_err-id-clause-caused_after g c tells =
     let fault = c.in_err-id.field-0.0 in
     fault_exit (λ f. f) (IsCausedAfter command t names now) fault c.from_residual-in_err-id.result c.from_residual-in_err-id.ensures.1
     (record {
-      caused = edge_caused t t names now c.args.from c.args.label.now c.args.to c.args.pairs.now fault c.in_err-id.ensures.failure;
+      caused = edge_caused t t names now c.args.from c.args.label.now c.args.to c.args.pairs.now fault (c.in_err-id.ensures.failure tells);
       damaged = put_blamed g (goal.at.returns-in_err-id-clause-caused_after g c).In_err-id tells;
     })
 
@@ -857,7 +857,7 @@ returns-in_err-id-clause-short g c tells =
     let named = g.met.S.Reads.onward_shape _ _ c.prepare.ensures.onward ∙ ap (λ (z : State). z.shape) c.end_degrees.ensures.state in
     fault_exit (λ f. f) (HadFewGroups s most) fault c.from_residual-in_err-id.result c.from_residual-in_err-id.ensures.1
     (few_named s most fault u (groups_needed c.shape-threshold.result.threshold) limit refl named (names_then g at.In_ok-prepared tells)
-    (c.in_err-id.ensures.short tells (used_then g at.In_ok-prepared tells)))
+    (c.in_err-id.ensures.short tells))
 
 pub returns-in_err-put_properties-clause-short : goal.returns-in_err-put_properties-clause-short
 returns-in_err-put_properties-clause-short g c tells =

@@ -1,4 +1,4 @@
-use Rattle.std.proofs.Common.{ℕ, ◌∙◌, subst, arith, rules}
+use Rattle.std.proofs.Common.{ℕ, ◌∙◌, subst, rules}
 use Rattle.change_parts.specs.ChangeFault.{IsOutside}
 use Rattle.edge_changes.specs.EdgeEnds.{HasHead}
 use Rattle.edge_changes.specs.EdgeJoining.{HasPlaced, IsJoinDamage, IsOfLost, WritesJoined}
@@ -127,9 +127,9 @@ returns-in_err-id-clause-found g c tells heads =
     let s = g.S.Reads.state c.args.space.now in
     let t = g.S.Reads.state c.place.new.space in
     let fault = c.in_err-id.field-0.0 in
-    fault_exit (λ f. f) (IfBlames (IsChainDamage s t 0 (IsOfLost s c.args.ends))) fault c.from_residual.result c.from_residual.ensures.1
-    (blames_more (IsChainDamage s t 0 (λ _. ⊥)) (IsChainDamage s t 0 (IsOfLost s c.args.ends))
-    (chain_more 0 0 s t (λ _. ⊥) (IsOfLost s c.args.ends) (omega arith) (λ damage none. absurd none)) fault (c.in_err-id.ensures.found tells))
+    fault_exit (λ f. f) (IfBlames (IsChainDamage s t (IsOfLost s c.args.ends))) fault c.from_residual.result c.from_residual.ensures.1
+    (blames_more (IsChainDamage s t (λ _. ⊥)) (IsChainDamage s t (IsOfLost s c.args.ends))
+    (chain_more s t (λ _. ⊥) (IsOfLost s c.args.ends) (λ damage none. absurd none)) fault (c.in_err-id.ensures.found tells))
 
 pub returns-in_err-join_ends-clause-found : goal.returns-in_err-join_ends-clause-found
 returns-in_err-join_ends-clause-found g c tells heads =
@@ -139,9 +139,9 @@ returns-in_err-join_ends-clause-found g c tells heads =
     let ends = c.args.ends in
     let has = at_more (HasHead s.records) (HasHead t.records) ends (λ end. c.in_ok-id.ensures.heads tells (head_of end.head) end.node) heads in
     let fault = c.in_err-join_ends.field-0.0 in
-    fault_exit (λ f. f) (IfBlames (IsChainDamage s u 0 (IsOfLost s ends))) fault c.from_residual-in_err-join_ends.result
+    fault_exit (λ f. f) (IfBlames (IsChainDamage s u (IsOfLost s ends))) fault c.from_residual-in_err-join_ends.result
     c.from_residual-in_err-join_ends.ensures.1
-    (blames_more (IsJoinDamage t u ends) (IsChainDamage s u 0 (IsOfLost s ends))
+    (blames_more (IsJoinDamage t u ends) (IsChainDamage s u (IsOfLost s ends))
     (placed_then s t u ends (c.in_ok-id.ensures.lists tells) (c.in_ok-id.ensures.others tells) (c.in_ok-id.ensures.grown tells) heads) fault
     (c.in_err-join_ends.ensures.found tells has c.requires.apart))
 

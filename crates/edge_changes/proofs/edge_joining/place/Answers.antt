@@ -158,15 +158,15 @@ returns-in_err-id-clause-found g c tells =
     let s = g.S.Reads.state c.args.space.now in
     let t = g.S.Reads.state c.take_id.new.space in
     let fault = c.in_err-id.field-0.0 in
-    fault_exit (λ f. f) (IfBlames (IsChainDamage s t 0 (λ _. ⊥))) fault c.from_residual.result c.from_residual.ensures.1
-    (blames_more (λ damage. IsOfMarks damage ⊎ IsListDamage s.records s.shape format.relationships_file damage) (IsChainDamage s t 0 (λ _. ⊥))
+    fault_exit (λ f. f) (IfBlames (IsChainDamage s t (λ _. ⊥))) fault c.from_residual.result c.from_residual.ensures.1
+    (blames_more (λ damage. IsOfMarks damage ⊎ IsListDamage s.records s.shape format.relationships_file damage) (IsChainDamage s t (λ _. ⊥))
     (taken_found s t c.in_err-id.ensures.err) fault (c.in_err-id.ensures.found tells))
 
 pub returns-in_err-save-clause-found : goal.returns-in_err-save-clause-found
 returns-in_err-save-clause-found g c tells =
     let s = g.S.Reads.state c.args.space.now in
     let t = g.S.Reads.state c.save.new.space in
-    fault_exit of_space (IfBlames (IsChainDamage s t 0 (λ _. ⊥))) c.in_err-save.field-0.0 c.from_residual-in_err-save.result
+    fault_exit of_space (IfBlames (IsChainDamage s t (λ _. ⊥))) c.in_err-save.field-0.0 c.from_residual-in_err-save.result
     c.from_residual-in_err-save.ensures.1 (space_blamed _ c.in_err-save.field-0.0)
 
 -- ---- no record of another file is written

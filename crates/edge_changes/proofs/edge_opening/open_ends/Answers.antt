@@ -4,7 +4,7 @@ use Rattle.chain_edit.specs.Heads.{head_of}
 use Rattle.group_store.specs.Opening.{OpensChain, moved_writes}
 use Rattle.group_store.specs.declared.side.Side.TheVariants as sides
 use Rattle.change_parts.specs.ChangeFault.{IsOutside}
-use Rattle.change_parts.specs.Damage.{BlamesLinking}
+use Rattle.change_parts.specs.Damage.{BlamesBroken}
 use Rattle.edge_changes.specs.EdgeAdding.{IsUsedEnd}
 use Rattle.edge_changes.specs.EdgeEnds.{AreApart, AtEach}
 use Rattle.edge_changes.specs.EdgeJoining.{edge_row}
@@ -23,6 +23,8 @@ use Rattle.std.proofs.Common.{inl, inr}
 use Rattle.edge_changes.specs.declared.edge_end.Ends.{Ends}
 use Rattle.edge_changes.specs.EdgeEnds.{source_of, target_of}
 use Rattle.edge_changes.specs.EdgeAdding.{BlamesChains, IsOfEnd, groups_needed}
+use Rattle.edge_changes.specs.EdgePlacing.{HadFewGroups, IsPutFault}
+use Rattle.edge_changes.proofs.FullGroups.{few_more, few_then}
 use Rattle.edge_changes.specs.EdgeOpening.{from_of, to_of}
 use Rattle.edge_changes.proofs.EdgeFound.{end_blames, ends_found, found_then, other_beside, these_same}
 use Rattle.edge_changes.proofs.HeadsFound.{kept_after, kept_before}
@@ -68,7 +70,7 @@ returns-in_ok-only-in-Loop-clause-writes g c =
 
 pub returns-in_err-only-in-Loop-clause-damaged : goal.returns-in_err-only-in-Loop-clause-damaged
 returns-in_err-only-in-Loop-clause-damaged g c tells used limit =
-    fault_exit (λ f. f) (BlamesLinking (g.S.Reads.state c.open_end.new.space)) c.in_err-only-in-Loop.field-0.0 c.from_residual.result c.from_residual.ensures.1
+    fault_exit (λ f. f) (BlamesBroken (g.S.Reads.state c.open_end.new.space)) c.in_err-only-in-Loop.field-0.0 c.from_residual.result c.from_residual.ensures.1
     (c.in_err-only-in-Loop.ensures.damaged tells (subst (AtEach (IsUsedEnd (g.S.Reads.state c.args.space.now))) c.in-Loop.is used) (omega (arith, limit)))
 
 pub returns-in_ok-only-in-Loop-clause-meta_record : goal.returns-in_ok-only-in-Loop-clause-meta_record
@@ -194,7 +196,7 @@ returns-in_err-last-in-Two-clause-cause g c =
 pub returns-in_err-first-in-Two-clause-damaged : goal.returns-in_err-first-in-Two-clause-damaged
 returns-in_err-first-in-Two-clause-damaged g c tells used limit =
     let are = subst (AtEach (IsUsedEnd (g.S.Reads.state c.args.space.now))) c.in-Two.is used in
-    fault_exit (λ f. f) (BlamesLinking (g.S.Reads.state c.open_end-in-Two.new.space)) c.in_err-first-in-Two.field-0.0 c.from_residual-in_err-first-in-Two.result
+    fault_exit (λ f. f) (BlamesBroken (g.S.Reads.state c.open_end-in-Two.new.space)) c.in_err-first-in-Two.field-0.0 c.from_residual-in_err-first-in-Two.result
     c.from_residual-in_err-first-in-Two.ensures.1
     (c.in_err-first-in-Two.ensures.damaged tells are.0 (omega (arith, limit)))
 
@@ -210,7 +212,7 @@ returns-in_err-last-in-Two-clause-damaged g c tells used limit =
     (omega (arith, limit)) in
     let differ = differs g (goal.at.returns-in_err-last-in-Two-clause-damaged g c).In_ok-first-in-Two in
     let still = used_beside s m a.node b.node (c.in_ok-first-in-Two.ensures.leaves_others tells) (λ (e : b.node ≡ a.node). differ (sym e)) are.1 in
-    fault_exit (λ f. f) (BlamesLinking t) c.in_err-last-in-Two.field-0.0 c.from_residual-in_err-last-in-Two.result c.from_residual-in_err-last-in-Two.ensures.1
+    fault_exit (λ f. f) (BlamesBroken t) c.in_err-last-in-Two.field-0.0 c.from_residual-in_err-last-in-Two.result c.from_residual-in_err-last-in-Two.ensures.1
     (c.in_err-last-in-Two.ensures.damaged tells still now)
 
 -- ---- heads
@@ -299,12 +301,10 @@ returns-in_err-only-in-Loop-clause-found g c tells =
     let from = from_of c.args.joint in
     let to = to_of c.args.joint in
     let own = sym (ap (λ (e : Ends EndDegree). (source_of e).node) c.in-Loop.is) in
-    fault_exit (λ f. f) (BlamesChains s t (groups_needed c.args.joint.threshold) from to) c.in_err-only-in-Loop.field-0.0
+    fault_exit (λ f. f) (BlamesChains s t from to) c.in_err-only-in-Loop.field-0.0
     c.from_residual.result c.from_residual.ensures.1
-    (end_blames 0 (c.args.joint.threshold + 1) (groups_needed c.args.joint.threshold) s s t from to c.in-Loop.end.node
-    (inl own) (omega arith) refl (omega arith)
-    (λ d told. told) (these_same s (IsOfEnd s c.in-Loop.end.node)) c.in_err-only-in-Loop.field-0.0
-    (c.in_err-only-in-Loop.ensures.found tells))
+    (end_blames s s t from to c.in-Loop.end.node (inl own) (λ d told. told) (these_same s (IsOfEnd s c.in-Loop.end.node))
+    c.in_err-only-in-Loop.field-0.0 (c.in_err-only-in-Loop.ensures.found tells))
 
 pub returns-in_err-first-in-Two-clause-found : goal.returns-in_err-first-in-Two-clause-found
 returns-in_err-first-in-Two-clause-found g c tells =
@@ -313,12 +313,11 @@ returns-in_err-first-in-Two-clause-found g c tells =
     let from = from_of c.args.joint in
     let to = to_of c.args.joint in
     let leaves = sym (ap (λ (e : Ends EndDegree). (source_of e).node) c.in-Two.is) in
-    fault_exit (λ f. f) (BlamesChains s t (groups_needed c.args.joint.threshold) from to)
+    fault_exit (λ f. f) (BlamesChains s t from to)
     c.in_err-first-in-Two.field-0.0 c.from_residual-in_err-first-in-Two.result
     c.from_residual-in_err-first-in-Two.ensures.1
-    (end_blames 0 (c.args.joint.threshold + 1) (groups_needed c.args.joint.threshold) s s t from to c.in-Two.source.node (inl leaves) (omega arith) refl
-    (omega arith) (λ d told. told) (these_same s (IsOfEnd s c.in-Two.source.node)) c.in_err-first-in-Two.field-0.0
-    (c.in_err-first-in-Two.ensures.found tells))
+    (end_blames s s t from to c.in-Two.source.node (inl leaves) (λ d told. told) (these_same s (IsOfEnd s c.in-Two.source.node))
+    c.in_err-first-in-Two.field-0.0 (c.in_err-first-in-Two.ensures.found tells))
 
 pub returns-in_err-last-in-Two-clause-found : goal.returns-in_err-last-in-Two-clause-found
 returns-in_err-last-in-Two-clause-found g c tells =
@@ -333,10 +332,9 @@ returns-in_err-last-in-Two-clause-found g c tells =
     let b = c.in-Two.target.node in
     let differ : a ≢ b = subst (AreApart (λ (end : EndDegree). end.node)) c.in-Two.is c.requires.apart in
     let beside = c.in_ok-first-in-Two.ensures.leaves_others tells in
-    fault_exit (λ f. f) (BlamesChains s t (groups_needed c.args.joint.threshold) from to) fault
+    fault_exit (λ f. f) (BlamesChains s t from to) fault
     c.from_residual-in_err-last-in-Two.result c.from_residual-in_err-last-in-Two.ensures.1
-    (end_blames (c.args.joint.threshold + 1) (c.args.joint.threshold + 1) (groups_needed c.args.joint.threshold) s m t from to b (inr enters) (omega arith)
-    (g.met.S.Reads.onward_shape _ _ c.in_ok-first-in-Two.ensures.onward) (c.in_ok-first-in-Two.ensures.room tells)
+    (end_blames s m t from to b (inr enters)
     (files_beside s m a (g.met.S.Reads.onward_shape _ _ c.in_ok-first-in-Two.ensures.onward) beside (c.in_ok-first-in-Two.ensures.lists tells))
     (other_beside s m a b (λ (e : b ≡ a). differ (sym e)) beside) fault (c.in_err-last-in-Two.ensures.found tells))
 
@@ -416,3 +414,50 @@ returns-in_err-first-in-Two-clause-free g c _ = never_ok c.from_residual-in_err-
 
 pub returns-in_err-last-in-Two-clause-free : goal.returns-in_err-last-in-Two-clause-free
 returns-in_err-last-in-Two-clause-free g c _ = never_ok c.from_residual-in_err-last-in-Two.result _ _ c.from_residual-in_err-last-in-Two.ensures.1
+
+-- ---- a full file of groups
+
+pub returns-in_err-only-in-Loop-clause-failure : goal.returns-in_err-only-in-Loop-clause-failure
+returns-in_err-only-in-Loop-clause-failure g c tells =
+    fault_exit (λ f. f) (IsPutFault (g.S.Reads.state c.open_end.new.space)) c.in_err-only-in-Loop.field-0.0 c.from_residual.result
+    c.from_residual.ensures.1 (c.in_err-only-in-Loop.ensures.failure tells)
+
+pub returns-in_err-first-in-Two-clause-failure : goal.returns-in_err-first-in-Two-clause-failure
+returns-in_err-first-in-Two-clause-failure g c tells =
+    fault_exit (λ f. f) (IsPutFault (g.S.Reads.state c.open_end-in-Two.new.space)) c.in_err-first-in-Two.field-0.0
+    c.from_residual-in_err-first-in-Two.result c.from_residual-in_err-first-in-Two.ensures.1 (c.in_err-first-in-Two.ensures.failure tells)
+
+pub returns-in_err-last-in-Two-clause-failure : goal.returns-in_err-last-in-Two-clause-failure
+returns-in_err-last-in-Two-clause-failure g c tells =
+    fault_exit (λ f. f) (IsPutFault (g.S.Reads.state c.open_end-in-Two-2.new.space)) c.in_err-last-in-Two.field-0.0
+    c.from_residual-in_err-last-in-Two.result c.from_residual-in_err-last-in-Two.ensures.1 (c.in_err-last-in-Two.ensures.failure tells)
+
+pub returns-in_err-only-in-Loop-clause-short : goal.returns-in_err-only-in-Loop-clause-short
+returns-in_err-only-in-Loop-clause-short g c tells =
+    let s = g.S.Reads.state c.args.space.now in
+    let one = c.args.joint.threshold + 1 in
+    let most = groups_needed c.args.joint.threshold in
+    let fault = c.in_err-only-in-Loop.field-0.0 in
+    fault_exit (λ f. f) (HadFewGroups s most) fault c.from_residual.result c.from_residual.ensures.1
+    (few_more one most s fault (omega arith) (c.in_err-only-in-Loop.ensures.short tells))
+
+pub returns-in_err-first-in-Two-clause-short : goal.returns-in_err-first-in-Two-clause-short
+returns-in_err-first-in-Two-clause-short g c tells =
+    let s = g.S.Reads.state c.args.space.now in
+    let one = c.args.joint.threshold + 1 in
+    let most = groups_needed c.args.joint.threshold in
+    let fault = c.in_err-first-in-Two.field-0.0 in
+    fault_exit (λ f. f) (HadFewGroups s most) fault c.from_residual-in_err-first-in-Two.result c.from_residual-in_err-first-in-Two.ensures.1
+    (few_more one most s fault (omega arith) (c.in_err-first-in-Two.ensures.short tells))
+
+-- the source's groups were made before
+pub returns-in_err-last-in-Two-clause-short : goal.returns-in_err-last-in-Two-clause-short
+returns-in_err-last-in-Two-clause-short g c tells =
+    let s = g.S.Reads.state c.args.space.now in
+    let m = g.S.Reads.state c.open_end-in-Two.new.space in
+    let one = c.args.joint.threshold + 1 in
+    let most = groups_needed c.args.joint.threshold in
+    let fault = c.in_err-last-in-Two.field-0.0 in
+    fault_exit (λ f. f) (HadFewGroups s most) fault c.from_residual-in_err-last-in-Two.result c.from_residual-in_err-last-in-Two.ensures.1
+    (few_more (one + one) most s fault (omega arith) (few_then one one s m fault (g.met.S.Reads.onward_shape _ _ c.in_ok-first-in-Two.ensures.onward)
+    (c.in_ok-first-in-Two.ensures.room tells) (c.in_err-last-in-Two.ensures.short tells)))

@@ -14,14 +14,13 @@ use Rattle.group_store.proofs.BrokenGroups.{node_fault_breaks}
 use Rattle.group_store.proofs.ChainHeads.{same_twice}
 use Rattle.group_store.proofs.DenseFaults.{broken_then, can_of, end_broken, end_late, none_unused, sparse_known, sparse_undamaged, unmoved}
 use Rattle.group_store.proofs.DenseStays.{dense_cleared}
-use Rattle.group_store.proofs.GroupWalks.{not_damaged, not_damaged_at}
+use Rattle.group_store.proofs.GroupWalks.{not_damaged}
 use Rattle.group_store.proofs.Raises.{breaks_read}
 use Rattle.group_store.proofs.Seeks.{dense_is, first_is}
 use Rattle.group_store.proofs.SparseChains.{many_break, sparse_breaks}
 use Rattle.std.proofs.lemmas.Bool.{false≢true}
 use Rattle.store_rules.specs.Views.{degree, first_link, kind_at}
 use Rattle.std.proofs.lemmas.Result.{err_from_is_err_and}
-use Rattle.group_store.specs.declared.moved.Turn.{Turn}
 use Rattle.group_store.proofs.FirstGroups.{node_fault, only_loads_node}
 use Rattle.group_store.specs.Spreading.{LeadsAmong, cleared}
 use Rattle.group_store.proofs.Gathers.{beside_rels}
@@ -29,16 +28,15 @@ use Rattle.group_store.proofs.Leadings.{leads_cleared, rest_all, rest_live, rest
 use Rattle.group_store.proofs.Comings.{come_beside, come_next, come_none, come_touches, one_longer}
 use Rattle.group_store.proofs.Touches.{node_touched, touches_beside, touches_more, touches_none, touches_then}
 use Rattle.group_store.proofs.Named.{at_node, named_beside, named_read, node_fault_named, sparse_named}
-use Rattle.group_store.proofs.Openings.{handed}
 use Rattle.group_store.proofs.Spreads.{left_all, left_first, left_next, left_none, none_over, not_dense_row, row_degree, row_sound, turn_known}
-use Rattle.group_store.proofs.Causes.{cause_passed, later_on, row_cause_passed, space_cause_passed}
+use Rattle.group_store.proofs.Causes.{later_on}
 use Rattle.group_store.proofs.LeftBeside.{beside_cleared, beside_read, beside_then, later_beside}
-use Rattle.group_store.proofs.MakeSteps.{on_damage}
+use Rattle.group_store.specs.OpenFault.{of_fault}
+use Rattle.group_store.proofs.OpenFaults.{fault_cause, on_refusal, open_cause, refuses, row_cause, space_cause, space_has}
 use Rattle.group_store.proofs.KeptHeads.{heads_same}
 use Rattle.group_store.proofs.MadeHeads.{heads_cleared, others_then}
 use Rattle.rec_bytes.proofs.Causes.{never_ok}
-use Rattle.chain_edit.proofs.Causes.{space_has}
-use Rattle.rec_bytes.specs.declared.fault.Fault.TheVariants.{Damaged}
+use Rattle.group_store.specs.declared.open_fault.OpenFault.TheVariants.{Damaged}
 use Rattle.group_store.proofs.CountedLists.{list_cleared}
 use Rattle.group_store.proofs.LowHeads.{low_next, low_none}
 use Rattle.group_store.proofs.Strangers.{found_apart, found_dense, node_apart, node_fault_apart, sparse_apart}
@@ -341,9 +339,9 @@ returns-in_err-turn-clause-not_damaged g c = λ tells most empty can room.
     let s = g.S.Reads.state c.args.space.now in
     let now = g.S.Reads.state c.loop.space in
     let p = err_from_is_err_and c.from_residual-in_err-turn.result c.from_residual-in_err-turn.ensures.1 in
-    rw (p.1, p.2) (handed Turn Unit c.in_err-turn.field-0.0 (left_first s now c.args.node c.loop.at c.loop.counter most c.args.threshold empty
+    rw (p.1, p.2) (left_first s now c.args.node c.loop.at c.loop.counter most c.args.threshold empty
     c.loop.moved.relationships.items c.loop.moved.groups.items c.if-at.false
-    (c.loop.invariant.left tells most empty can) room (c.in_err-turn.ensures.not_damaged tells)))
+    (c.loop.invariant.left tells most empty can) room (c.in_err-turn.ensures.not_damaged tells))
 
 pub returns-then-not-note-clause-not_damaged : goal.returns-then-not-note-clause-not_damaged
 returns-then-not-note-clause-not_damaged g c = λ tells most empty can room.
@@ -373,11 +371,12 @@ returns-in_err-test_chain-clause-not_damaged g c = λ tells most empty can room.
     let same = only_loads_node s l c.args.node c.load.ensures.state in
     let found = sym c.in-Some.is ∙ c.in_ok-row.ensures.found tells in
     let p = err_from_is_err_and c.from_residual-in_err-test_chain.result c.from_residual-in_err-test_chain.ensures.1 in
-    rw (p.1, p.2) (not_damaged Unit c.in_err-test_chain.field-0.0 (sparse_undamaged l c.args.node c.in-Some.row.degree most empty
+    rw (p.1, p.2) (refuses c.in_err-test_chain.field-0.0 ⊥ (not_damaged Unit c.in_err-test_chain.field-0.0
+    (sparse_undamaged l c.args.node c.in-Some.row.degree most empty
     (subst (λ (q : State). c.in-Some.row.degree ≡ degree q.records c.args.node) (sym same) (row_degree s c.args.node c.in-Some.row found))
     (subst (λ (q : State). CanBecomeDense q c.args.node most empty) (sym same) (can_of s l.reads c.args.node most empty can)) c.in_err-test_chain.field-0.0
     (c.in_err-test_chain.ensures.damaged tells (subst (λ (q : State). c.in-Some.row.first ≡ first_link q.records c.args.node) (sym same)
-    (first_is s.records c.args.node c.in-Some.row found)))))
+    (first_is s.records c.args.node c.in-Some.row found))))))
 
 -- ---- damage
 
@@ -405,9 +404,9 @@ returns-then-row-threshold-clause-damaged g c = λ tells sparse le.
     let s = g.S.Reads.state c.args.space.now in
     let same = only_loads_node s (g.S.Reads.state c.load.new.space) c.args.node c.load.ensures.state in
     let e = row_degree s c.args.node c.in-Some.row (sym c.in-Some.is ∙ c.in_ok-row.ensures.found tells) in
-    inl (subst (λ (q : State). Breaks q.records q.shape c.degree_damage.result) (sym same)
+    subst (λ (q : State). Breaks q.records q.shape c.degree_damage.result) (sym same)
     (subst (λ (d : Damage). Breaks s.records s.shape d) (sym c.degree_damage.ensures) (many_break s c.args.node sparse c.args.threshold le
-    (omega (arith, c.if-row-threshold.true, e)))))
+    (omega (arith, c.if-row-threshold.true, e))))
 
 pub returns-in_err-test_chain-clause-damaged : goal.returns-in_err-test_chain-clause-damaged
 returns-in_err-test_chain-clause-damaged g c = λ tells sparse le.
@@ -463,10 +462,9 @@ returns-clause-spread g c = λ tells members free can.
 pub returns-in_err-row-clause-never : goal.returns-in_err-row-clause-never
 returns-in_err-row-clause-never g c = λ tells members free can room.
     let p = err_from_is_err_and c.from_residual.result c.from_residual.ensures.1 in
-    not_damaged_at c.from_residual.result p.0 (of_row c.in_err-row.field-0.0) p.1 p.2
-    (row_sound c.in_err-row.field-0.0 (c.in_err-row.ensures.not_damaged tells (sparse_read
-    (g.S.Reads.state c.args.space.now) c.args.node c.args.threshold members
-    free can room)))
+    let fault = of_row c.in_err-row.field-0.0 in
+    rw (p.1, p.2) (refuses fault ⊥ (not_damaged Unit fault (row_sound c.in_err-row.field-0.0 (c.in_err-row.ensures.not_damaged tells
+    (sparse_read (g.S.Reads.state c.args.space.now) c.args.node c.args.threshold members free can room)))))
 
 pub returns-in_default-clause-never : goal.returns-in_default-clause-never
 returns-in_default-clause-never g c = λ tells members free can room.
@@ -491,7 +489,7 @@ returns-in_err-test_chain-clause-never g c = λ tells members free can room.
     let found = sym c.in-Some.is ∙ c.in_ok-row.ensures.found tells in
     let e = row_degree s c.args.node c.in-Some.row found in
     let p = err_from_is_err_and c.from_residual-in_err-test_chain.result c.from_residual-in_err-test_chain.ensures.1 in
-    rw (p.1, p.2) (handed Unit Unit c.in_err-test_chain.field-0.0 (c.in_err-test_chain.ensures.not_damaged tells
+    rw (p.1, p.2) (refuses c.in_err-test_chain.field-0.0 ⊥ (c.in_err-test_chain.ensures.not_damaged tells
     (subst (λ (q : State). c.in-Some.row.first ≡ first_link q.records c.args.node) (sym same) (first_is s.records c.args.node c.in-Some.row found))
     members (subst (λ (q : State). IsHeadChain q.records (node_head c.args.node) c.args.node members) (sym same) can.chain)
     (readable_after s l members same (members_read s c.args.node c.args.threshold members room)) (omega (arith, e, room.exact))))
@@ -500,9 +498,9 @@ pub returns-in_err-turn-clause-never : goal.returns-in_err-turn-clause-never
 returns-in_err-turn-clause-never g c = λ tells members free can room.
     let was = c.loop.invariant in
     let p = err_from_is_err_and c.from_residual-in_err-turn.result c.from_residual-in_err-turn.ensures.1 in
-    rw (p.1, p.2) (handed Turn Unit c.in_err-turn.field-0.0 (turn_sound (g.S.Reads.state c.args.space.now) (g.S.Reads.state c.loop.space) c.args.node c.loop.at
+    rw (p.1, p.2) (turn_sound (g.S.Reads.state c.args.space.now) (g.S.Reads.state c.loop.space) c.args.node c.loop.at
     c.loop.counter c.args.threshold members c.loop.moved.relationships.items c.loop.moved.groups.items
-    c.if-at.false (was.part tells members free can) room (was.beside tells) (c.in_err-turn.ensures.never tells)))
+    c.if-at.false (was.part tells members free can) room (was.beside tells) (c.in_err-turn.ensures.never tells))
 
 pub returns-then-not-note-clause-never : goal.returns-then-not-note-clause-never
 returns-then-not-note-clause-never g c = λ tells members free can room.
@@ -525,21 +523,21 @@ returns-clause-dense g c = λ tells. c.loop.invariant.dense tells
 
 pub returns-in_err-row-clause-cause : goal.returns-in_err-row-clause-cause
 returns-in_err-row-clause-cause g c =
-    row_cause_passed _ _ _ c.from_residual.result c.in_err-row.field-0.0 (omega arith) c.in_err-row.ensures.cause c.from_residual.ensures.1
+    row_cause _ _ _ c.from_residual.result c.in_err-row.field-0.0 (omega arith) c.in_err-row.ensures.cause c.from_residual.ensures.1
 
 pub returns-in_err-test_chain-clause-cause : goal.returns-in_err-test_chain-clause-cause
 returns-in_err-test_chain-clause-cause g c =
-    cause_passed _ _ _ c.from_residual-in_err-test_chain.result c.in_err-test_chain.field-0.0 c.in_ok-row.ensures.cause.later c.in_err-test_chain.ensures.cause
+    fault_cause _ _ _ c.from_residual-in_err-test_chain.result c.in_err-test_chain.field-0.0 c.in_ok-row.ensures.cause.later c.in_err-test_chain.ensures.cause
     c.from_residual-in_err-test_chain.ensures.1
 
 pub returns-in_err-clear-clause-cause : goal.returns-in_err-clear-clause-cause
 returns-in_err-clear-clause-cause g c =
-    space_cause_passed _ _ _ c.from_residual-in_err-clear.result c.in_err-clear.field-0.0
+    space_cause _ _ _ c.from_residual-in_err-clear.result c.in_err-clear.field-0.0
     (later_on c.in_ok-row.ensures.cause.later c.in_ok-test_chain.ensures.cause.later) c.in_err-clear.ensures.cause c.from_residual-in_err-clear.ensures.1
 
 pub returns-in_err-turn-clause-cause : goal.returns-in_err-turn-clause-cause
 returns-in_err-turn-clause-cause g c =
-    cause_passed _ _ _ c.from_residual-in_err-turn.result c.in_err-turn.field-0.0 c.loop.invariant.later c.in_err-turn.ensures.cause
+    open_cause _ _ _ c.from_residual-in_err-turn.result c.in_err-turn.field-0.0 c.loop.invariant.later c.in_err-turn.ensures.cause
     c.from_residual-in_err-turn.ensures.1
 
 -- ---- what is told by the space as it is then
@@ -574,9 +572,9 @@ returns-then-row-threshold-clause-told g c = λ tells thin le.
     let e = row_degree s c.args.node c.in-Some.row (sym c.in-Some.is ∙ c.in_ok-row.ensures.found tells) in
     let sparse = sparse_known s c.args.node (c.in_ok-row.ensures.known tells)
     (node_row s.records c.args.node c.in-Some.row (sym (sym c.in-Some.is ∙ c.in_ok-row.ensures.found tells))).0 thin in
-    inl (inl (subst (λ (q : State). Breaks q.records q.shape c.degree_damage.result) (sym same)
+    inl (subst (λ (q : State). Breaks q.records q.shape c.degree_damage.result) (sym same)
     (subst (λ (d : Damage). Breaks s.records s.shape d) (sym c.degree_damage.ensures) (many_break s c.args.node sparse c.args.threshold le
-    (omega (arith, c.if-row-threshold.true, e))))))
+    (omega (arith, c.if-row-threshold.true, e)))))
 
 pub returns-in_err-test_chain-clause-told : goal.returns-in_err-test_chain-clause-told
 returns-in_err-test_chain-clause-told g c = λ tells thin le.
@@ -631,7 +629,7 @@ pub returns-in_err-row-clause-stays : goal.returns-in_err-row-clause-stays
 returns-in_err-row-clause-stays g c = λ tells.
     let s = g.S.Reads.state c.args.space.now in
     let l = g.S.Reads.state c.load.new.space in
-    on_damage c.from_residual.result _ (beside_read s l c.args.node (only_loads_node s l c.args.node c.load.ensures.state))
+    on_refusal c.from_residual.result _ (beside_read s l c.args.node (only_loads_node s l c.args.node c.load.ensures.state))
 
 pub returns-in_default-clause-stays : goal.returns-in_default-clause-stays
 returns-in_default-clause-stays g c = λ tells.
@@ -656,7 +654,7 @@ returns-in_err-test_chain-clause-stays g c = λ tells.
     let s = g.S.Reads.state c.args.space.now in
     let l = g.S.Reads.state c.load.new.space in
     let v = g.S.Reads.state c.test_chain.new.space in
-    on_damage c.from_residual-in_err-test_chain.result _ (beside_read s v c.args.node (same_twice s l v (only_loads_node s l c.args.node c.load.ensures.state)
+    on_refusal c.from_residual-in_err-test_chain.result _ (beside_read s v c.args.node (same_twice s l v (only_loads_node s l c.args.node c.load.ensures.state)
     c.test_chain.ensures.state))
 
 pub returns-in_err-turn-clause-stays : goal.returns-in_err-turn-clause-stays
@@ -818,7 +816,7 @@ returns-in_err-test_chain-clause-names g c = λ tells.
     let found = sym c.in-Some.is ∙ c.in_ok-row.ensures.found tells in
     let fault = c.in_err-test_chain.field-0.0 in
     let p = err_from_is_err_and c.from_residual-in_err-test_chain.result c.from_residual-in_err-test_chain.ensures.1 in
-    rw (p.1, p.2) (named_read s l c.args.node fault same (sparse_named l c.args.node c.in-Some.row.degree fault
+    rw (p.1, p.2) (named_read s l c.args.node (of_fault fault) same (sparse_named l c.args.node c.in-Some.row.degree fault
     (c.in_err-test_chain.ensures.damaged tells (subst (λ (q : State). c.in-Some.row.first ≡ first_link q.records c.args.node) (sym same)
     (first_is s.records c.args.node c.in-Some.row found)))))
 
@@ -848,7 +846,7 @@ returns-in_err-row-clause-named g c = λ tells.
     let s = g.S.Reads.state c.args.space.now in
     let l = g.S.Reads.state c.load.new.space in
     let p = err_from_is_err_and c.from_residual.result c.from_residual.ensures.1 in
-    rw (p.1, p.2) (found_apart s l c.args.node (of_row c.in_err-row.field-0.0) (only_loads_node s l c.args.node c.load.ensures.state)
+    rw (p.1, p.2) (found_apart s l c.args.node (of_fault (of_row c.in_err-row.field-0.0)) (only_loads_node s l c.args.node c.load.ensures.state)
     (node_fault_apart s l s c.args.node (of_row c.in_err-row.field-0.0) (node_fault s c.args.node c.in_err-row.field-0.0 (c.in_err-row.ensures.damaged tells))))
 
 pub returns-in_default-clause-named : goal.returns-in_default-clause-named
@@ -881,7 +879,7 @@ returns-in_err-test_chain-clause-named g c = λ tells.
     let found = sym c.in-Some.is ∙ c.in_ok-row.ensures.found tells in
     let fault = c.in_err-test_chain.field-0.0 in
     let p = err_from_is_err_and c.from_residual-in_err-test_chain.result c.from_residual-in_err-test_chain.ensures.1 in
-    rw (p.1, p.2) (found_apart s v c.args.node fault (same_twice s l v same c.test_chain.ensures.state)
+    rw (p.1, p.2) (found_apart s v c.args.node (of_fault fault) (same_twice s l v same c.test_chain.ensures.state)
     (sparse_apart s v l c.args.node c.in-Some.row.degree fault
     (c.in_err-test_chain.ensures.damaged tells (subst (λ (q : State). c.in-Some.row.first ≡ first_link q.records c.args.node) (sym same)
     (first_is s.records c.args.node c.in-Some.row found)))))

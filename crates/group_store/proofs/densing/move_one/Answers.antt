@@ -21,26 +21,23 @@ use Rattle.group_store.proofs.DenseFaults.{no_own, no_push, unread}
 use Rattle.group_store.proofs.DenseStays.{dense_moved}
 use Rattle.group_store.specs.GroupChain.{IsDense, IsGroupChain, is_group_of}
 use Rattle.rec_bytes.specs.Fault.{of_row}
-use Rattle.group_store.proofs.GroupWalks.{not_damaged_at}
+use Rattle.group_store.proofs.GroupWalks.{not_damaged}
 use Rattle.group_store.proofs.Leadings.{leads_turn, walk_turn}
 use Rattle.group_store.proofs.SparseChains.{links_are}
 use Rattle.group_store.proofs.Touches.{four_touched, made_touched, touches_more, touches_none}
-use Rattle.group_store.specs.declared.making.OwnGroup.{OwnGroup}
 use Rattle.group_store.specs.declared.moved.Turn.{Turn}
 use Rattle.group_store.proofs.Named.{at_node, named_read, push_named, rel_named}
-use Rattle.group_store.proofs.Openings.{handed}
+use Rattle.group_store.proofs.OpenFaults.{fault_cause, on_refusal, open_cause, refuses, row_cause, space_cause, space_has}
 use Rattle.group_store.proofs.OwnGroups.{keeps_then, writes_after}
 use Rattle.group_store.proofs.Spreads.{has_room, moved, only_loads, push_right, rel_there, row_sound, writes_freed, writes_pushed}
 use Rattle.group_store.proofs.Turns.{own_turn}
-use Rattle.group_store.proofs.Causes.{cause_passed, later_on, row_cause_passed, space_cause_passed}
-use Rattle.group_store.proofs.MakeSteps.{on_damage}
+use Rattle.group_store.proofs.Causes.{later_on}
 use Rattle.group_store.proofs.LeftBeside.{beside_freed, beside_moved, beside_read, beside_then, unpushed_beside, unwritten_beside}
 use Rattle.store_rules.specs.Breaking.{IsHeadOf}
 use Rattle.group_store.specs.declared.side.Side.TheVariants.{Out, In as Into, Loop}
 use Rattle.group_store.proofs.KeptHeads.{heads_same, heads_then}
 use Rattle.group_store.proofs.MadeHeads.{heads_freed, heads_pushed, owned_head}
 use Rattle.rec_bytes.proofs.Causes.{never_ok}
-use Rattle.chain_edit.proofs.Causes.{space_has}
 use Rattle.group_store.proofs.CountedLists.{list_moved, list_read, push_listed, rel_listed}
 use Rattle.group_store.proofs.Gathers.{place_range}
 use Rattle.group_store.proofs.GroupRules.{group_owned}
@@ -194,8 +191,8 @@ returns-clause-walk g c = λ tells.
 pub returns-in_err-row-clause-never : goal.returns-in_err-row-clause-never
 returns-in_err-row-clause-never g c = λ tells came rest groups free spreading node readable full.
     let p = err_from_is_err_and c.from_residual.result c.from_residual.ensures.1 in
-    not_damaged_at c.from_residual.result p.0 (of_row c.in_err-row.field-0.0) p.1 p.2
-    (row_sound c.in_err-row.field-0.0 (c.in_err-row.ensures.not_damaged tells readable))
+    let fault = of_row c.in_err-row.field-0.0 in
+    rw (p.1, p.2) (refuses fault ⊥ (not_damaged Turn fault (row_sound c.in_err-row.field-0.0 (c.in_err-row.ensures.not_damaged tells readable))))
 
 pub returns-in_default-clause-never : goal.returns-in_default-clause-never
 returns-in_default-clause-never g c = λ tells came rest groups free spreading node readable full.
@@ -208,11 +205,11 @@ returns-in_err-own-clause-never g c = λ tells came rest groups free spreading n
     let l = g.S.Reads.state c.load.new.space in
     let same = only_loads s l c.args.rel c.load.ensures.state in
     let p = err_from_is_err_and c.from_residual-in_err-own.result c.from_residual-in_err-own.ensures.1 in
-    rw (p.1, p.2) (handed OwnGroup Turn c.in_err-own.field-0.0 (c.in_err-own.ensures.never tells groups free
+    rw (p.1, p.2) (c.in_err-own.ensures.never tells groups free
     (subst (λ (q : State). IsDense q.records c.args.node) (sym same) spreading.spread.dense)
     (subst (λ (q : State). IsGroupChain q.records c.args.node groups) (sym same) spreading.spread.chain) (take_after s l free same spreading.take)
     (node_read s l c.args.node same node)
-    (subst (λ (q : State). (meta_of q groups_file).live ≢ room q groups_file) (sym same) full)))
+    (subst (λ (q : State). (meta_of q groups_file).live ≢ room q groups_file) (sym same) full))
 
 pub returns-in_err-first-clause-never : goal.returns-in_err-first-clause-never
 returns-in_err-first-clause-never g c = λ tells came rest groups free spreading node readable full.
@@ -221,7 +218,7 @@ returns-in_err-first-clause-never g c = λ tells came rest groups free spreading
     let t = g.S.Reads.state c.free_previous.new.space in
     let key = subst (λ (o : Option RelRow). IfSome o (λ _. IsKey (rel_key c.args.rel))) c.in-Some.is c.in_ok-row.ensures.key in
     let p = err_from_is_err_and c.from_residual-in_err-first.result c.from_residual-in_err-first.ensures.1 in
-    rw (p.1, p.2) (handed ℕ Turn c.in_err-first.field-0.0 (c.in_err-first.ensures.not_damaged tells
+    rw (p.1, p.2) (refuses c.in_err-first.field-0.0 ⊥ (c.in_err-first.ensures.not_damaged tells
     (push_finds s l (g.S.Reads.state c.own_group.new.space) c.args.node c.args.rel c.in-Some.row c.in_ok-own.own
     (only_loads s l c.args.rel c.load.ensures.state) (sym c.in-Some.is ∙ c.in_ok-row.ensures.found tells)
     (c.in_ok-own.ensures.local tells) (c.in_ok-own.ensures.dense tells) key.id came rest groups free spreading t (head_of c.group_head-head.result)
@@ -232,8 +229,9 @@ pub returns-in_err-row-clause-not_damaged : goal.returns-in_err-row-clause-not_d
 returns-in_err-row-clause-not_damaged g c = λ tells rest most empty spread room.
     let s = g.S.Reads.state c.args.space.now in
     let p = err_from_is_err_and c.from_residual.result c.from_residual.ensures.1 in
-    not_damaged_at c.from_residual.result p.0 (of_row c.in_err-row.field-0.0) p.1 p.2
-    (row_sound c.in_err-row.field-0.0 (c.in_err-row.ensures.not_damaged tells (IsReadable-AreInRange s c.args.rel spread.keeps.others.ranges)))
+    let fault = of_row c.in_err-row.field-0.0 in
+    rw (p.1, p.2) (refuses fault ⊥ (not_damaged Turn fault (row_sound c.in_err-row.field-0.0
+    (c.in_err-row.ensures.not_damaged tells (IsReadable-AreInRange s c.args.rel spread.keeps.others.ranges)))))
 
 pub returns-in_default-clause-not_damaged : goal.returns-in_default-clause-not_damaged
 returns-in_default-clause-not_damaged g c = λ tells rest most empty spread room.
@@ -245,10 +243,10 @@ returns-in_err-own-clause-not_damaged g c = λ tells rest most empty spread room
     let l = g.S.Reads.state c.load.new.space in
     let same = only_loads s l c.args.rel c.load.ensures.state in
     let p = err_from_is_err_and c.from_residual-in_err-own.result c.from_residual-in_err-own.ensures.1 in
-    rw (p.1, p.2) (handed OwnGroup Turn c.in_err-own.field-0.0
-    (c.in_err-own.ensures.not_damaged tells (c.args.rel ∷ rest) most empty (keeps_then s l c.args.node (c.args.rel ∷ rest) most empty same spread.keeps)
+    rw (p.1, p.2) (c.in_err-own.ensures.not_damaged tells (c.args.rel ∷ rest) most empty
+    (keeps_then s l c.args.node (c.args.rel ∷ rest) most empty same spread.keeps)
     (subst (λ (q : State). IsDense q.records c.args.node) (sym same) spread.dense)
-    (has_room s l c.args.node c.args.rel rest most empty same spread room)))
+    (has_room s l c.args.node c.args.rel rest most empty same spread room))
 
 pub returns-in_err-first-clause-not_damaged : goal.returns-in_err-first-clause-not_damaged
 returns-in_err-first-clause-not_damaged g c = λ tells rest most empty spread room.
@@ -256,7 +254,7 @@ returns-in_err-first-clause-not_damaged g c = λ tells rest most empty spread ro
     let l = g.S.Reads.state c.load.new.space in
     let t = g.S.Reads.state c.free_previous.new.space in
     let p = err_from_is_err_and c.from_residual-in_err-first.result c.from_residual-in_err-first.ensures.1 in
-    rw (p.1, p.2) (handed ℕ Turn c.in_err-first.field-0.0 (c.in_err-first.ensures.not_damaged tells
+    rw (p.1, p.2) (refuses c.in_err-first.field-0.0 ⊥ (c.in_err-first.ensures.not_damaged tells
     (push_right s l (g.S.Reads.state c.own_group.new.space) c.args.node c.args.rel c.in-Some.row c.in_ok-own.own.row.id
     (only_loads s l c.args.rel c.load.ensures.state) (sym c.in-Some.is ∙ c.in_ok-row.ensures.found tells)
     (c.in_ok-own.ensures.opened tells) rest most empty spread t (head_of c.group_head-head.result) (c.in_ok-free_previous.ensures.ok tells)
@@ -321,22 +319,22 @@ returns-clause-dense g c = λ tells dense.
 
 pub returns-in_err-row-clause-cause : goal.returns-in_err-row-clause-cause
 returns-in_err-row-clause-cause g c =
-    row_cause_passed _ _ _ c.from_residual.result c.in_err-row.field-0.0 (omega arith) c.in_err-row.ensures.cause c.from_residual.ensures.1
+    row_cause _ _ _ c.from_residual.result c.in_err-row.field-0.0 (omega arith) c.in_err-row.ensures.cause c.from_residual.ensures.1
 
 pub returns-in_err-own-clause-cause : goal.returns-in_err-own-clause-cause
 returns-in_err-own-clause-cause g c =
-    cause_passed _ _ _ c.from_residual-in_err-own.result c.in_err-own.field-0.0 c.in_ok-row.ensures.cause.later c.in_err-own.ensures.cause
+    open_cause _ _ _ c.from_residual-in_err-own.result c.in_err-own.field-0.0 c.in_ok-row.ensures.cause.later c.in_err-own.ensures.cause
     c.from_residual-in_err-own.ensures.1
 
 pub returns-in_err-free_previous-clause-cause : goal.returns-in_err-free_previous-clause-cause
 returns-in_err-free_previous-clause-cause g c =
-    space_cause_passed _ _ _ c.from_residual-in_err-free_previous.result c.in_err-free_previous.field-0.0
+    space_cause _ _ _ c.from_residual-in_err-free_previous.result c.in_err-free_previous.field-0.0
     (later_on c.in_ok-row.ensures.cause.later c.in_ok-own.ensures.cause.later) c.in_err-free_previous.ensures.cause
     c.from_residual-in_err-free_previous.ensures.1
 
 pub returns-in_err-first-clause-cause : goal.returns-in_err-first-clause-cause
 returns-in_err-first-clause-cause g c =
-    cause_passed _ _ _ c.from_residual-in_err-first.result c.in_err-first.field-0.0
+    fault_cause _ _ _ c.from_residual-in_err-first.result c.in_err-first.field-0.0
     (later_on (later_on c.in_ok-row.ensures.cause.later c.in_ok-own.ensures.cause.later) c.in_ok-free_previous.ensures.cause.later)
     c.in_err-first.ensures.cause c.from_residual-in_err-first.ensures.1
 
@@ -360,7 +358,7 @@ pub returns-in_err-row-clause-stays : goal.returns-in_err-row-clause-stays
 returns-in_err-row-clause-stays g c = λ tells.
     let s = g.S.Reads.state c.args.space.now in
     let l = g.S.Reads.state c.load.new.space in
-    on_damage c.from_residual.result _ (beside_read s l c.args.node (only_loads s l c.args.rel c.load.ensures.state))
+    on_refusal c.from_residual.result _ (beside_read s l c.args.node (only_loads s l c.args.rel c.load.ensures.state))
 
 pub returns-in_default-clause-stays : goal.returns-in_default-clause-stays
 returns-in_default-clause-stays g c = λ tells.

@@ -16,15 +16,14 @@ use Rattle.group_store.proofs.Additions.{can_walk as walkable, has_added, make_r
 use Rattle.group_store.proofs.BrokenGroups.{find_breaks, if_err, make_breaks, only_breaks, open_read}
 use Rattle.group_store.specs.Spreading.{HasOpened, KeepsBut}
 use Rattle.group_store.specs.Walking.{group_row_at}
-use Rattle.group_store.proofs.MakeSteps.{on_damage, same_read, same_then, same_writes}
-use Rattle.group_store.proofs.DenseStays.{dense_made, if_damage}
+use Rattle.group_store.proofs.MakeSteps.{same_read, same_then, same_writes}
+use Rattle.group_store.proofs.DenseStays.{dense_made}
+use Rattle.group_store.proofs.OpenFaults.{fault_cause, if_refusal, on_refusal, refuses}
 use Rattle.id_freelist.specs.Taking.{room}
 use Rattle.std.proofs.lemmas.Result.{err_from_is_err_and}
-use Rattle.group_store.proofs.Openings.{handed}
 use Rattle.group_store.proofs.OwnRoom.{can_make, can_walk, chain_ids, free_ids, node_known}
 use Rattle.group_store.proofs.OwnGroups.{if_ok, keeps_then, none_found, opened_found, opened_made, writes_after}
 use Rattle.group_store.proofs.Turns.{found_grows, made_grows}
-use Rattle.group_store.proofs.Causes.{cause_passed}
 use Rattle.group_store.proofs.Leadings.{leads_found, leads_own, rels_made}
 use Rattle.group_store.proofs.LeftBeside.{beside_made, beside_read, beside_then, if_done}
 use Rattle.group_store.proofs.LowHeads.{dense_first, done_both, first_alone, first_found, own_made}
@@ -122,7 +121,7 @@ pub returns-in_err-row-clause-not_damaged : goal.returns-in_err-row-clause-not_d
 returns-in_err-row-clause-not_damaged g c = λ tells rest most empty keeps dense room.
     let s = g.S.Reads.state c.args.space.now in
     let p = err_from_is_err_and c.from_residual.result c.from_residual.ensures.1 in
-    rw (p.1, p.2) (handed (Option GroupRow) OwnGroup c.in_err-row.field-0.0
+    rw (p.1, p.2) (refuses c.in_err-row.field-0.0 ⊥
     (c.in_err-row.ensures.not_damaged tells (node_known s c.args.node rest most empty keeps dense) (chain_ids s c.args.node rest most empty keeps dense)
     (can_walk s c.args.node rest most empty keeps dense)))
 
@@ -168,7 +167,7 @@ pub returns-in_err-row-clause-never : goal.returns-in_err-row-clause-never
 returns-in_err-row-clause-never g c = λ tells groups free dense chain can readable full.
     let s = g.S.Reads.state c.args.space.now in
     let p = err_from_is_err_and c.from_residual.result c.from_residual.ensures.1 in
-    rw (p.1, p.2) (handed (Option GroupRow) OwnGroup c.in_err-row.field-0.0 (c.in_err-row.ensures.not_damaged tells readable groups
+    rw (p.1, p.2) (refuses c.in_err-row.field-0.0 ⊥ (c.in_err-row.ensures.not_damaged tells readable groups
     (walkable s c.args.node groups free chain can)))
 
 pub returns-in-None-clause-never : goal.returns-in-None-clause-never
@@ -260,19 +259,19 @@ pub returns-in_err-row-clause-unwritten : goal.returns-in_err-row-clause-unwritt
 returns-in_err-row-clause-unwritten g c =
     let s = g.S.Reads.state c.args.space.now in
     let now = g.S.Reads.state c.find_group.new.space in
-    on_damage c.from_residual.result _ (same_read _ s now c.find_group.ensures.at_most)
+    on_refusal c.from_residual.result _ (same_read _ s now c.find_group.ensures.at_most)
 
 pub returns-in-None-clause-unwritten : goal.returns-in-None-clause-unwritten
 returns-in-None-clause-unwritten g c =
     let s = g.S.Reads.state c.args.space.now in
     let now = g.S.Reads.state c.find_group.new.space in
     let end = g.S.Reads.state c.make_own.new.space in
-    if_damage c.make_own.result (SameButReads now end) (SameButReads s end) (λ k. same_then s now end (same_read _ s now c.find_group.ensures.at_most) k)
+    if_refusal c.make_own.result (SameButReads now end) (SameButReads s end) (λ k. same_then s now end (same_read _ s now c.find_group.ensures.at_most) k)
     c.make_own.ensures.unwritten
 
 pub returns-in_err-row-clause-cause : goal.returns-in_err-row-clause-cause
 returns-in_err-row-clause-cause g c =
-    cause_passed _ _ _ c.from_residual.result c.in_err-row.field-0.0 (omega arith) c.in_err-row.ensures.cause c.from_residual.ensures.1
+    fault_cause _ _ _ c.from_residual.result c.in_err-row.field-0.0 (omega arith) c.in_err-row.ensures.cause c.from_residual.ensures.1
 
 -- ---- what is left of other records
 

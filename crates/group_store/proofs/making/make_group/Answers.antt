@@ -1,7 +1,7 @@
 use Rattle.std.proofs.Common.{arith}
 use Rattle.std.proofs.lemmas.Result.{err_from_is_err_and}
 use Rattle.group_store.proofs.BrokenGroups.{make_breaks}
-use Rattle.group_store.proofs.Causes.{cause_passed}
+use Rattle.group_store.proofs.OpenFaults.{open_cause}
 use Rattle.rec_bytes.proofs.Causes.{never_ok}
 use Rattle.chain_edit.proofs.Causes.{same_has}
 use Rattle.group_store.proofs.making.make_group.Goals as goal
@@ -13,7 +13,7 @@ returns-in_err-own-clause-breaks g c = λ tells dense.
 
 pub returns-in_err-own-clause-cause : goal.returns-in_err-own-clause-cause
 returns-in_err-own-clause-cause g c =
-    cause_passed _ _ _ c.from_residual.result c.in_err-own.field-0.0 (omega arith) c.in_err-own.ensures.cause c.from_residual.ensures.1
+    open_cause _ _ _ c.from_residual.result c.in_err-own.field-0.0 (omega arith) c.in_err-own.ensures.cause c.from_residual.ensures.1
 
 pub returns-in_err-own-clause-made : goal.returns-in_err-own-clause-made
 returns-in_err-own-clause-made g c _ = never_ok c.from_residual.result _ _ c.from_residual.ensures.1

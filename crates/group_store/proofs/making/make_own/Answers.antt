@@ -1,7 +1,6 @@
 use Rattle.std.proofs.Common.{◌≡◌, ap, sym, subst, arith, rules}
-use Rattle.std.specs.Prelude.{Err, IfSome, Option, ℕ, ◌∷◌, ◌++◌, []}
+use Rattle.std.specs.Prelude.{IfSome, Option, ℕ, ◌∷◌, ◌++◌, []}
 use Rattle.group_store.specs.declared.group_row.GroupRow.{GroupRow}
-use Rattle.group_store.specs.declared.making.OwnGroup.{OwnGroup}
 use Rattle.std.proofs.lemmas.Bool.{false≢true}
 use Rattle.std.proofs.lemmas.Result.{err_from_is_err_and}
 use Rattle.node_store.specs.NodeRecord.{node_key}
@@ -10,20 +9,19 @@ use Rattle.rec_bytes.specs.RecordFiles.{meta_key_of}
 use Rattle.store_rules.specs.Views.{first_link, rec_at}
 use Rattle.group_store.specs.FirstGroup.{IsFirst}
 use Rattle.group_store.specs.GroupRecord.{group_key}
-use Rattle.group_store.specs.Making.{IsEmptyOf, IsMakeDamage, IsMakeFault, link_damage}
+use Rattle.group_store.specs.Making.{IsEmptyOf, IsMakeDamage, link_damage}
 use Rattle.group_store.specs.Making.IsMakeDamage.{NotDense, BadLink}
 use Rattle.group_store.specs.Spreading.{LeadsAmong}
 use Rattle.group_store.proofs.Leadings.{leads_made}
 use Rattle.group_store.proofs.MadeHeads.{empty_made, heads_made}
 use Rattle.rec_bytes.proofs.Numbers.{field-lt}
-use Rattle.group_store.proofs.MakeSteps.{all_writes, link_told, made_has, made_is, node_told, on_damage, right_first}
-use Rattle.group_store.proofs.MakeSteps.{same_read, same_then, same_writes, take_told}
+use Rattle.group_store.proofs.MakeSteps.{all_writes, link_told, made_has, made_is, node_told, right_first}
+use Rattle.group_store.proofs.MakeSteps.{same_read, same_then, same_writes, take_right, take_told}
 use Rattle.group_store.proofs.MadeRules.{rules_made}
 use Rattle.id_freelist.specs.Taking.{room}
 use Rattle.rec_bytes.specs.Space.{State, WritesOnly, after_get, meta_of}
-use Rattle.group_store.proofs.Causes.{cause_passed, damage_cause}
+use Rattle.group_store.proofs.OpenFaults.{damage_cause, fault_cause, on_refusal, space_has, take_cause}
 use Rattle.rec_bytes.proofs.Causes.{never_ok}
-use Rattle.chain_edit.proofs.Causes.{space_has}
 use Rattle.group_store.proofs.CountedLists.{list_made}
 use Rattle.group_store.proofs.GroupMetas.{made_harms_none}
 use Rattle.group_store.proofs.making.make_own.Goals as goal
@@ -35,7 +33,8 @@ returns-in_err-first-clause-damaged g c = λ tells.
 
 pub returns-in_err-first-clause-unwritten : goal.returns-in_err-first-clause-unwritten
 returns-in_err-first-clause-unwritten g c =
-    on_damage c.from_residual.result _ (same_read 1 (g.S.Reads.state c.args.space.now) (g.S.Reads.state c.first_group.new.space) c.in_err-first.ensures.at_most)
+    on_refusal c.from_residual.result _ (same_read 1 (g.S.Reads.state c.args.space.now)
+    (g.S.Reads.state c.first_group.new.space) c.in_err-first.ensures.at_most)
 
 pub returns-in_err-first-clause-writes : goal.returns-in_err-first-clause-writes
 returns-in_err-first-clause-writes g c =
@@ -78,7 +77,7 @@ returns-in_err-test_link-clause-not_damaged g c = λ tells readable free xs can 
 
 pub returns-in_err-test_link-clause-unwritten : goal.returns-in_err-test_link-clause-unwritten
 returns-in_err-test_link-clause-unwritten g c =
-    on_damage c.from_residual-in_err-test_link.result _ (same_read 1 (g.S.Reads.state c.args.space.now) (g.S.Reads.state c.first_group.new.space)
+    on_refusal c.from_residual-in_err-test_link.result _ (same_read 1 (g.S.Reads.state c.args.space.now) (g.S.Reads.state c.first_group.new.space)
     c.in_ok-first.ensures.at_most)
 
 pub returns-in_err-test_link-clause-writes : goal.returns-in_err-test_link-clause-writes
@@ -86,50 +85,108 @@ returns-in_err-test_link-clause-writes g c =
     let s = g.S.Reads.state c.args.space.now in
     (0, 0, same_writes s (g.S.Reads.state c.first_group.new.space) _ (same_read 1 s (g.S.Reads.state c.first_group.new.space) c.in_ok-first.ensures.at_most))
 
-pub returns-in-Err-clause-damaged : goal.returns-in-Err-clause-damaged
-returns-in-Err-clause-damaged g c = λ tells.
+pub returns-in_err-id-clause-damaged : goal.returns-in_err-id-clause-damaged
+returns-in_err-id-clause-damaged g c = λ tells.
     let s = g.S.Reads.state c.args.space.now in
     let now = g.S.Reads.state c.first_group.new.space in
     let read : now ≡ after_get s = subst (λ (first : Option ℕ). IfSome first (λ _. now ≡ after_get s)) c.in-Some.is (c.in_ok-first.ensures.read tells) in
-    subst (IsMakeFault s c.args.node) (sym c.fault_of.ensures) (take_told s now c.args.node c.in-Err.fault read (c.in-Err.ensures.refused tells))
+    let p = err_from_is_err_and c.from_residual-in_err-id.result c.from_residual-in_err-id.ensures.1 in
+    rw (p.1, p.2) (take_told s now c.args.node c.in_err-id.field-0.0 read (c.in_err-id.ensures.refused tells))
 
-pub returns-in-Err-clause-unwritten : goal.returns-in-Err-clause-unwritten
-returns-in-Err-clause-unwritten g c =
+pub returns-in_err-id-clause-not_damaged : goal.returns-in_err-id-clause-not_damaged
+returns-in_err-id-clause-not_damaged g c = λ tells readable free xs can dense some.
     let s = g.S.Reads.state c.args.space.now in
     let now = g.S.Reads.state c.first_group.new.space in
-    on_damage {T = OwnGroup} (Err c.fault_of.result) _ (same_then s now (g.S.Reads.state c.take.new.space) (same_read 1 s now c.in_ok-first.ensures.at_most)
-    c.in-Err.ensures.err)
+    let read : now ≡ after_get s = subst (λ (first : Option ℕ). IfSome first (λ _. now ≡ after_get s)) c.in-Some.is (c.in_ok-first.ensures.read tells) in
+    let p = err_from_is_err_and c.from_residual-in_err-id.result c.from_residual-in_err-id.ensures.1 in
+    rw (p.1, p.2) (take_right s now free c.in_err-id.field-0.0 read can.take some (c.in_err-id.ensures.refused tells)
+    (c.in_err-id.ensures.not_damaged tells free))
 
-pub returns-in-Err-clause-writes : goal.returns-in-Err-clause-writes
-returns-in-Err-clause-writes g c =
+pub returns-in_err-id-clause-unwritten : goal.returns-in_err-id-clause-unwritten
+returns-in_err-id-clause-unwritten g c =
+    let s = g.S.Reads.state c.args.space.now in
+    let now = g.S.Reads.state c.first_group.new.space in
+    on_refusal c.from_residual-in_err-id.result _ (same_then s now (g.S.Reads.state c.take.new.space) (same_read 1 s now c.in_ok-first.ensures.at_most)
+    c.in_err-id.ensures.err)
+
+pub returns-in_err-id-clause-writes : goal.returns-in_err-id-clause-writes
+returns-in_err-id-clause-writes g c =
     let s = g.S.Reads.state c.args.space.now in
     let now = g.S.Reads.state c.first_group.new.space in (
       0,
       0,
       same_writes s (g.S.Reads.state c.take.new.space) _ (same_then s now (g.S.Reads.state c.take.new.space)
-          (same_read 1 s now c.in_ok-first.ensures.at_most) c.in-Err.ensures.err),
+          (same_read 1 s now c.in_ok-first.ensures.at_most) c.in_err-id.ensures.err),
     )
+
+pub returns-in_err-id-clause-cause : goal.returns-in_err-id-clause-cause
+returns-in_err-id-clause-cause g c =
+    take_cause _ _ _ c.from_residual-in_err-id.result c.in_err-id.field-0.0 c.in_ok-first.ensures.cause.later c.in_err-id.ensures.cause
+    c.from_residual-in_err-id.ensures.1
+
+pub returns-in_err-id-clause-onward : goal.returns-in_err-id-clause-onward
+returns-in_err-id-clause-onward g c = g.met.S.Reads.further_onward _ _ _ c.in_ok-first.ensures.onward c.in_err-id.ensures.onward
+
+pub returns-in_err-id-clause-shape : goal.returns-in_err-id-clause-shape
+returns-in_err-id-clause-shape g c _ =
+    g.met.S.Reads.onward_shape _ _ (g.met.S.Reads.further_onward _ _ _ c.in_ok-first.ensures.onward c.in_err-id.ensures.onward)
+
+pub returns-in_err-id-clause-made : goal.returns-in_err-id-clause-made
+returns-in_err-id-clause-made g c _ = never_ok c.from_residual-in_err-id.result _ _ c.from_residual-in_err-id.ensures.1
+
+pub returns-in_err-id-clause-ok : goal.returns-in_err-id-clause-ok
+returns-in_err-id-clause-ok g c _ = never_ok c.from_residual-in_err-id.result _ _ c.from_residual-in_err-id.ensures.1
+
+pub returns-in_err-id-clause-key : goal.returns-in_err-id-clause-key
+returns-in_err-id-clause-key g c = never_ok c.from_residual-in_err-id.result _ _ c.from_residual-in_err-id.ensures.1
+
+pub returns-in_err-id-clause-counted : goal.returns-in_err-id-clause-counted
+returns-in_err-id-clause-counted g c = never_ok c.from_residual-in_err-id.result _ _ c.from_residual-in_err-id.ensures.1
+
+pub returns-in_err-id-clause-rules : goal.returns-in_err-id-clause-rules
+returns-in_err-id-clause-rules g c _ = never_ok c.from_residual-in_err-id.result _ _ c.from_residual-in_err-id.ensures.1
+
+pub returns-in_err-id-clause-owns : goal.returns-in_err-id-clause-owns
+returns-in_err-id-clause-owns g c _ = never_ok c.from_residual-in_err-id.result _ _ c.from_residual-in_err-id.ensures.1
+
+pub returns-in_err-id-clause-heads : goal.returns-in_err-id-clause-heads
+returns-in_err-id-clause-heads g c _ = never_ok c.from_residual-in_err-id.result _ _ c.from_residual-in_err-id.ensures.1
+
+pub returns-in_err-id-clause-first : goal.returns-in_err-id-clause-first
+returns-in_err-id-clause-first g c _ = never_ok c.from_residual-in_err-id.result _ _ c.from_residual-in_err-id.ensures.1
+
+pub returns-in_err-id-clause-leads : goal.returns-in_err-id-clause-leads
+returns-in_err-id-clause-leads g c _ = never_ok c.from_residual-in_err-id.result _ _ c.from_residual-in_err-id.ensures.1
+
+pub returns-in_err-id-clause-list : goal.returns-in_err-id-clause-list
+returns-in_err-id-clause-list g c _ = never_ok c.from_residual-in_err-id.result _ _ c.from_residual-in_err-id.ensures.1
+
+pub returns-in_err-id-clause-lists : goal.returns-in_err-id-clause-lists
+returns-in_err-id-clause-lists g c _ = never_ok c.from_residual-in_err-id.result _ _ c.from_residual-in_err-id.ensures.1
+
+pub returns-in_err-id-clause-wrote : goal.returns-in_err-id-clause-wrote
+returns-in_err-id-clause-wrote g c = never_ok c.from_residual-in_err-id.result _ _ c.from_residual-in_err-id.ensures.1
 
 pub returns-in_err-lead-clause-writes : goal.returns-in_err-lead-clause-writes
 returns-in_err-lead-clause-writes g c =
     let s = g.S.Reads.state c.args.space.now in
     let now = g.S.Reads.state c.first_group.new.space in (
-      c.in-Ok.id,
+      c.in_ok-id.id,
       c.in-Some.first,
-      all_writes s now (g.S.Reads.state c.take.new.space) (g.S.Reads.state c.lead.new.space) (group_key c.in-Ok.id) (group_key c.in-Some.first)
+      all_writes s now (g.S.Reads.state c.take.new.space) (g.S.Reads.state c.lead.new.space) (group_key c.in_ok-id.id) (group_key c.in-Some.first)
           (node_key c.args.node) (meta_key_of groups_file)
-          (same_read 1 s now c.in_ok-first.ensures.at_most) c.in-Ok.ensures.writes c.in_err-lead.ensures.writes,
+          (same_read 1 s now c.in_ok-first.ensures.at_most) c.in_ok-id.ensures.writes c.in_err-lead.ensures.writes,
     )
 
 pub returns-clause-writes : goal.returns-clause-writes
 returns-clause-writes g c =
     let s = g.S.Reads.state c.args.space.now in
     let now = g.S.Reads.state c.first_group.new.space in (
-      c.in-Ok.id,
+      c.in_ok-id.id,
       c.in-Some.first,
-      all_writes s now (g.S.Reads.state c.take.new.space) (g.S.Reads.state c.lead.new.space) (group_key c.in-Ok.id) (group_key c.in-Some.first)
+      all_writes s now (g.S.Reads.state c.take.new.space) (g.S.Reads.state c.lead.new.space) (group_key c.in_ok-id.id) (group_key c.in-Some.first)
           (node_key c.args.node) (meta_key_of groups_file)
-          (same_read 1 s now c.in_ok-first.ensures.at_most) c.in-Ok.ensures.writes c.in_ok-lead.ensures.writes,
+          (same_read 1 s now c.in_ok-first.ensures.at_most) c.in_ok-id.ensures.writes c.in_ok-lead.ensures.writes,
     )
 
 pub returns-clause-ok : goal.returns-clause-ok
@@ -138,8 +195,9 @@ returns-clause-ok g c = λ tells.
     let now = g.S.Reads.state c.first_group.new.space in
     let read : now ≡ after_get s = subst (λ (first : Option ℕ). IfSome first (λ _. now ≡ after_get s)) c.in-Some.is (c.in_ok-first.ensures.read tells) in
     let first = subst (IsFirst s.records c.args.node) c.in-Some.is (c.in_ok-first.ensures.first tells) in
-    made_is s now (g.S.Reads.state c.take.new.space) (g.S.Reads.state c.lead.new.space) c.args.node c.args.label c.in-Some.first c.in-Ok.id c.empty_group.result
-    read (c.in-Ok.ensures.ok tells) first.1 c.in-Ok.ensures.is c.empty_group.ensures (c.in_ok-lead.ensures.ok tells)
+    made_is s now (g.S.Reads.state c.take.new.space) (g.S.Reads.state c.lead.new.space) c.args.node c.args.label
+    c.in-Some.first c.in_ok-id.id c.empty_group.result
+    read (c.in_ok-id.ensures.ok tells) first.1 c.in_ok-id.ensures.is c.empty_group.ensures (c.in_ok-lead.ensures.ok tells)
 
 pub returns-clause-made : goal.returns-clause-made
 returns-clause-made g c = λ tells free xs can.
@@ -147,10 +205,11 @@ returns-clause-made g c = λ tells free xs can.
     let now = g.S.Reads.state c.first_group.new.space in
     let read : now ≡ after_get s = subst (λ (first : Option ℕ). IfSome first (λ _. now ≡ after_get s)) c.in-Some.is (c.in_ok-first.ensures.read tells) in
     let first = subst (IsFirst s.records c.args.node) c.in-Some.is (c.in_ok-first.ensures.first tells) in
-    made_has s now (g.S.Reads.state c.take.new.space) (g.S.Reads.state c.lead.new.space) c.args.node c.args.label c.in-Some.first c.in-Ok.id
+    made_has s now (g.S.Reads.state c.take.new.space) (g.S.Reads.state c.lead.new.space) c.args.node c.args.label c.in-Some.first c.in_ok-id.id
     c.empty_group.result c.empty_row.result free xs
-    read (c.in-Ok.ensures.taken tells free) (c.in-Ok.ensures.fresh tells) first.1 c.empty_group.ensures (c.in_ok-lead.ensures.ok tells) c.empty_row.ensures
-    (omega (arith, c.in-Ok.ensures.key.id)) (omega (arith, c.ranges.node.fits)) (omega (arith, c.ranges.label.fits)) can
+    read (c.in_ok-id.ensures.taken tells free) (c.in_ok-id.ensures.fresh tells) first.1 c.empty_group.ensures
+    (c.in_ok-lead.ensures.ok tells) c.empty_row.ensures
+    (omega (arith, c.in_ok-id.ensures.key.id)) (omega (arith, c.ranges.node.fits)) (omega (arith, c.ranges.label.fits)) can
 
 pub returns-clause-leads : goal.returns-clause-leads
 returns-clause-leads g c = λ tells came groups leads.
@@ -159,23 +218,23 @@ returns-clause-leads g c = λ tells came groups leads.
     let end = g.S.Reads.state c.lead.new.space in
     let read : now ≡ after_get s = subst (λ (first : Option ℕ). IfSome first (λ _. now ≡ after_get s)) c.in-Some.is (c.in_ok-first.ensures.read tells) in
     let first = subst (IsFirst s.records c.args.node) c.in-Some.is (c.in_ok-first.ensures.first tells) in
-    let id : c.in-Ok.id ≡ c.empty_row.result.id = sym (ap (λ (r : GroupRow). r.id) c.empty_row.ensures) in
+    let id : c.in_ok-id.id ≡ c.empty_row.result.id = sym (ap (λ (r : GroupRow). r.id) c.empty_row.ensures) in
     subst (λ k. LeadsAmong end.records c.args.node came (groups ++ k ∷ [])) id
-    (leads_made s now (g.S.Reads.state c.take.new.space) end c.args.node c.args.label c.in-Some.first c.in-Ok.id c.empty_group.result
-    read (c.in-Ok.ensures.ok tells) c.in-Ok.ensures.is (c.in-Ok.ensures.undamaged tells) (c.in-Ok.ensures.fresh tells) first.1 c.empty_group.ensures
+    (leads_made s now (g.S.Reads.state c.take.new.space) end c.args.node c.args.label c.in-Some.first c.in_ok-id.id c.empty_group.result
+    read (c.in_ok-id.ensures.ok tells) c.in_ok-id.ensures.is (c.in_ok-id.ensures.undamaged tells) (c.in_ok-id.ensures.fresh tells) first.1 c.empty_group.ensures
     (c.in_ok-lead.ensures.ok tells)
-    (omega (arith, c.in-Ok.ensures.key.id)) (omega (arith, c.ranges.node.fits)) (omega (arith, c.ranges.label.fits)) came groups leads)
+    (omega (arith, c.in_ok-id.ensures.key.id)) (omega (arith, c.ranges.node.fits)) (omega (arith, c.ranges.label.fits)) came groups leads)
 
 pub returns-clause-wrote : goal.returns-clause-wrote
 returns-clause-wrote g c =
     let s = g.S.Reads.state c.args.space.now in
     let now = g.S.Reads.state c.first_group.new.space in
-    let id : c.in-Ok.id ≡ c.empty_row.result.id = sym (ap (λ (r : GroupRow). r.id) c.empty_row.ensures) in
+    let id : c.in_ok-id.id ≡ c.empty_row.result.id = sym (ap (λ (r : GroupRow). r.id) c.empty_row.ensures) in
     subst (λ k. WritesOnly s (g.S.Reads.state c.lead.new.space) (group_key k ∷ group_key c.in-Some.first ∷ node_key c.args.node ∷ meta_key_of groups_file ∷ []))
     id
-    (all_writes s now (g.S.Reads.state c.take.new.space) (g.S.Reads.state c.lead.new.space) (group_key c.in-Ok.id) (group_key c.in-Some.first)
+    (all_writes s now (g.S.Reads.state c.take.new.space) (g.S.Reads.state c.lead.new.space) (group_key c.in_ok-id.id) (group_key c.in-Some.first)
     (node_key c.args.node) (meta_key_of groups_file)
-    (same_read 1 s now c.in_ok-first.ensures.at_most) c.in-Ok.ensures.writes c.in_ok-lead.ensures.writes)
+    (same_read 1 s now c.in_ok-first.ensures.at_most) c.in_ok-id.ensures.writes c.in_ok-lead.ensures.writes)
 
 pub returns-clause-first : goal.returns-clause-first
 returns-clause-first g c = λ tells.
@@ -188,9 +247,10 @@ returns-clause-rules g c = λ tells rest most empty keeps dense lacks.
     let now = g.S.Reads.state c.first_group.new.space in
     let read : now ≡ after_get s = subst (λ (first : Option ℕ). IfSome first (λ _. now ≡ after_get s)) c.in-Some.is (c.in_ok-first.ensures.read tells) in
     let first = subst (IsFirst s.records c.args.node) c.in-Some.is (c.in_ok-first.ensures.first tells) in
-    rules_made s now (g.S.Reads.state c.take.new.space) (g.S.Reads.state c.lead.new.space) c.args.node c.args.label c.in-Some.first c.in-Ok.id
+    rules_made s now (g.S.Reads.state c.take.new.space) (g.S.Reads.state c.lead.new.space) c.args.node c.args.label c.in-Some.first c.in_ok-id.id
     c.empty_group.result c.empty_row.result
-    read (λ free. c.in-Ok.ensures.taken tells free) (c.in-Ok.ensures.fresh tells) c.in-Ok.ensures.small (c.in-Ok.ensures.ok tells) first.1 c.empty_group.ensures
+    read (λ free. c.in_ok-id.ensures.taken tells free) (c.in_ok-id.ensures.fresh tells) c.in_ok-id.ensures.small (c.in_ok-id.ensures.ok tells)
+    first.1 c.empty_group.ensures
     (c.in_ok-lead.ensures.ok tells) c.empty_row.ensures
     (omega (arith, c.ranges.node.fits)) (omega (arith, c.ranges.label.fits)) rest most empty keeps dense lacks
 
@@ -201,12 +261,12 @@ returns-clause-full g c = λ tells full.
     let s = g.S.Reads.state c.args.space.now in
     let now = g.S.Reads.state c.first_group.new.space in
     let read : now ≡ after_get s = subst (λ (first : Option ℕ). IfSome first (λ _. now ≡ after_get s)) c.in-Some.is (c.in_ok-first.ensures.read tells) in
-    let e = c.in-Ok.ensures.full (subst (λ (q : State). (meta_of q groups_file).live ≡ room q groups_file) (sym read) full) in
+    let e = c.in_ok-id.ensures.full (subst (λ (q : State). (meta_of q groups_file).live ≡ room q groups_file) (sym read) full) in
     absurd cc
 
 pub returns-in_err-first-clause-cause : goal.returns-in_err-first-clause-cause
 returns-in_err-first-clause-cause g c =
-    cause_passed _ _ _ c.from_residual.result c.in_err-first.field-0.0 (omega arith) c.in_err-first.ensures.cause c.from_residual.ensures.1
+    fault_cause _ _ _ c.from_residual.result c.in_err-first.field-0.0 (omega arith) c.in_err-first.ensures.cause c.from_residual.ensures.1
 
 pub returns-in_err-test_link-clause-cause : goal.returns-in_err-test_link-clause-cause
 returns-in_err-test_link-clause-cause g c =
@@ -221,12 +281,12 @@ returns-clause-owns g c = λ tells.
     let now = g.S.Reads.state c.first_group.new.space in
     let read : now ≡ after_get s = subst (λ (first : Option ℕ). IfSome first (λ _. now ≡ after_get s)) c.in-Some.is (c.in_ok-first.ensures.read tells) in
     let first = subst (IsFirst s.records c.args.node) c.in-Some.is (c.in_ok-first.ensures.first tells) in
-    let id : c.in-Ok.id ≡ c.empty_row.result.id = sym (ap (λ (r : GroupRow). r.id) c.empty_row.ensures) in
+    let id : c.in_ok-id.id ≡ c.empty_row.result.id = sym (ap (λ (r : GroupRow). r.id) c.empty_row.ensures) in
     let fits = field-lt 4 (rec_at s.records nodes_file c.args.node) node_first_link in
     subst (λ k. IsEmptyOf (g.S.Reads.state c.lead.new.space).records c.args.node k) id
-    (empty_made now (g.S.Reads.state c.take.new.space) c.args.node c.args.label c.in-Some.first c.in-Ok.id c.empty_group.result
-    (c.in-Ok.ensures.ok tells) c.in-Ok.ensures.is (c.in-Ok.ensures.undamaged tells) (c.in-Ok.ensures.fresh tells) c.empty_group.ensures
-    (omega (arith, c.in-Ok.ensures.key.id)) (omega (arith, c.ranges.node.fits)) (omega (arith, c.ranges.label.fits)) (omega (arith, first.1, fits)) s
+    (empty_made now (g.S.Reads.state c.take.new.space) c.args.node c.args.label c.in-Some.first c.in_ok-id.id c.empty_group.result
+    (c.in_ok-id.ensures.ok tells) c.in_ok-id.ensures.is (c.in_ok-id.ensures.undamaged tells) (c.in_ok-id.ensures.fresh tells) c.empty_group.ensures
+    (omega (arith, c.in_ok-id.ensures.key.id)) (omega (arith, c.ranges.node.fits)) (omega (arith, c.ranges.label.fits)) (omega (arith, first.1, fits)) s
     (g.S.Reads.state c.lead.new.space) read (c.in_ok-lead.ensures.ok tells))
 
 pub returns-clause-heads : goal.returns-clause-heads
@@ -236,9 +296,9 @@ returns-clause-heads g c = λ tells.
     let read : now ≡ after_get s = subst (λ (first : Option ℕ). IfSome first (λ _. now ≡ after_get s)) c.in-Some.is (c.in_ok-first.ensures.read tells) in
     let first = subst (IsFirst s.records c.args.node) c.in-Some.is (c.in_ok-first.ensures.first tells) in
     let fits = field-lt 4 (rec_at s.records nodes_file c.args.node) node_first_link in
-    heads_made now (g.S.Reads.state c.take.new.space) c.args.node c.args.label c.in-Some.first c.in-Ok.id c.empty_group.result
-    (c.in-Ok.ensures.ok tells) c.in-Ok.ensures.is (c.in-Ok.ensures.undamaged tells) (c.in-Ok.ensures.fresh tells) c.empty_group.ensures
-    (omega (arith, c.in-Ok.ensures.key.id)) (omega (arith, c.ranges.node.fits)) (omega (arith, c.ranges.label.fits)) (omega (arith, first.1, fits)) s
+    heads_made now (g.S.Reads.state c.take.new.space) c.args.node c.args.label c.in-Some.first c.in_ok-id.id c.empty_group.result
+    (c.in_ok-id.ensures.ok tells) c.in_ok-id.ensures.is (c.in_ok-id.ensures.undamaged tells) (c.in_ok-id.ensures.fresh tells) c.empty_group.ensures
+    (omega (arith, c.in_ok-id.ensures.key.id)) (omega (arith, c.ranges.node.fits)) (omega (arith, c.ranges.label.fits)) (omega (arith, first.1, fits)) s
     (g.S.Reads.state c.lead.new.space) read (c.in_ok-lead.ensures.ok tells)
 
 pub returns-in_err-first-clause-made : goal.returns-in_err-first-clause-made
@@ -355,11 +415,12 @@ returns-in_err-test_link-clause-onward g c = c.in_ok-first.ensures.onward
 
 pub returns-in_err-lead-clause-onward : goal.returns-in_err-lead-clause-onward
 returns-in_err-lead-clause-onward g c =
-    g.met.S.Reads.further_onward _ _ _ (g.met.S.Reads.further_onward _ _ _ c.in_ok-first.ensures.onward c.in-Ok.ensures.onward) c.in_err-lead.ensures.onward
+    g.met.S.Reads.further_onward _ _ _ (g.met.S.Reads.further_onward _ _ _ c.in_ok-first.ensures.onward c.in_ok-id.ensures.onward) c.in_err-lead.ensures.onward
 
 pub returns-in_err-lead-clause-shape : goal.returns-in_err-lead-clause-shape
 returns-in_err-lead-clause-shape g c _ =
-    g.met.S.Reads.onward_shape _ _ (g.met.S.Reads.further_onward _ _ _ (g.met.S.Reads.further_onward _ _ _ c.in_ok-first.ensures.onward c.in-Ok.ensures.onward)
+    g.met.S.Reads.onward_shape _ _ (g.met.S.Reads.further_onward _ _ _ (g.met.S.Reads.further_onward _ _ _
+    c.in_ok-first.ensures.onward c.in_ok-id.ensures.onward)
     c.in_err-lead.ensures.onward)
 
 -- ---- the groups of a node that became dense
@@ -371,10 +432,10 @@ returns-clause-list g c = λ tells h.
     let end = g.S.Reads.state c.lead.new.space in
     let read : now ≡ after_get s = subst (λ (first : Option ℕ). IfSome first (λ _. now ≡ after_get s)) c.in-Some.is (c.in_ok-first.ensures.read tells) in
     let first = subst (IsFirst s.records c.args.node) c.in-Some.is (c.in_ok-first.ensures.first tells) in
-    list_made s now (g.S.Reads.state c.take.new.space) end c.args.node c.args.label c.in-Some.first c.in-Ok.id c.empty_group.result
-    read (c.in-Ok.ensures.ok tells) c.in-Ok.ensures.is (c.in-Ok.ensures.undamaged tells) (c.in-Ok.ensures.fresh tells) first.1 c.empty_group.ensures
+    list_made s now (g.S.Reads.state c.take.new.space) end c.args.node c.args.label c.in-Some.first c.in_ok-id.id c.empty_group.result
+    read (c.in_ok-id.ensures.ok tells) c.in_ok-id.ensures.is (c.in_ok-id.ensures.undamaged tells) (c.in_ok-id.ensures.fresh tells) first.1 c.empty_group.ensures
     (c.in_ok-lead.ensures.ok tells)
-    (omega (arith, c.in-Ok.ensures.key.id)) (omega (arith, c.ranges.node.fits)) (omega (arith, c.ranges.label.fits)) h
+    (omega (arith, c.in_ok-id.ensures.key.id)) (omega (arith, c.ranges.node.fits)) (omega (arith, c.ranges.label.fits)) h
 
 pub returns-in_err-first-clause-list : goal.returns-in_err-first-clause-list
 returns-in_err-first-clause-list g c _ = never_ok c.from_residual.result _ _ c.from_residual.ensures.1
@@ -394,9 +455,10 @@ returns-clause-lists g c = λ tells.
     let end = g.S.Reads.state c.lead.new.space in
     let read : now ≡ after_get s = subst (λ (first : Option ℕ). IfSome first (λ _. now ≡ after_get s)) c.in-Some.is (c.in_ok-first.ensures.read tells) in
     let first = subst (IsFirst s.records c.args.node) c.in-Some.is (c.in_ok-first.ensures.first tells) in
-    made_harms_none s now (g.S.Reads.state c.take.new.space) end c.args.node c.args.label c.in-Some.first c.in-Ok.id c.empty_group.result
-    read (c.in-Ok.ensures.ok tells) c.in-Ok.ensures.is (c.in-Ok.ensures.undamaged tells) (c.in-Ok.ensures.fresh tells) c.in-Ok.ensures.key.id
-    c.in-Ok.ensures.small first.1 c.empty_group.ensures (c.in_ok-lead.ensures.ok tells) (omega (arith, c.ranges.node.fits)) (omega (arith, c.ranges.label.fits))
+    made_harms_none s now (g.S.Reads.state c.take.new.space) end c.args.node c.args.label c.in-Some.first c.in_ok-id.id c.empty_group.result
+    read (c.in_ok-id.ensures.ok tells) c.in_ok-id.ensures.is (c.in_ok-id.ensures.undamaged tells) (c.in_ok-id.ensures.fresh tells) c.in_ok-id.ensures.key.id
+    c.in_ok-id.ensures.small first.1 c.empty_group.ensures
+    (c.in_ok-lead.ensures.ok tells) (omega (arith, c.ranges.node.fits)) (omega (arith, c.ranges.label.fits))
 
 pub returns-in_err-first-clause-lists : goal.returns-in_err-first-clause-lists
 returns-in_err-first-clause-lists g c _ = never_ok c.from_residual.result _ _ c.from_residual.ensures.1

@@ -14,7 +14,6 @@ use Rattle.group_store.proofs.BrokenGroups.{if_err, node_fault_breaks, only_brea
 use Rattle.group_store.proofs.ChainHeads.{same_twice}
 use Rattle.group_store.specs.Naming.{NamesAt, NamesFound, NamesMeta}
 use Rattle.group_store.proofs.Named.{named_beside, named_read, node_fault_named}
-use Rattle.group_store.proofs.Openings.{handed}
 use Rattle.group_store.proofs.OwnGroups.{if_ok}
 use Rattle.group_store.proofs.GroupWrites.{opened_more, opened_none}
 use Rattle.group_store.proofs.Opens.{dense_beside, dense_can, dense_group_can, dense_group_room, dense_opened}
@@ -22,10 +21,9 @@ use Rattle.group_store.proofs.Opens.{dense_opens, dense_room, failed_beside, gro
 use Rattle.group_store.proofs.Opens.{room_same, then_opens}
 use Rattle.group_store.specs.Densing.{IsSparse}
 use Rattle.group_store.proofs.DenseFaults.{broken_then, end_broken, end_opened, not_opened}
-use Rattle.group_store.proofs.Causes.{cause_passed}
+use Rattle.group_store.specs.OpenFault.{of_fault}
+use Rattle.group_store.proofs.OpenFaults.{fault_cause, if_refusal, on_refusal, open_cause}
 use Rattle.group_store.proofs.LeftBeside.{beside_read, beside_then, if_done, later_beside}
-use Rattle.group_store.proofs.DenseStays.{if_damage}
-use Rattle.group_store.proofs.MakeSteps.{on_damage}
 use Rattle.group_store.specs.Leaving.{KeepsHeads, KeepsOrLeads, KeepsOtherHeads, LeavesBeside}
 use Rattle.store_rules.specs.Breaking.{IsHeadOf}
 use Rattle.group_store.proofs.KeptHeads.{heads_same, heads_then}
@@ -78,9 +76,9 @@ returns-in_err-make_dense-clause-not_damaged g c = λ tells row empty can room.
     let same = c.in_ok-is_dense.ensures.state in
     let thin : ¬ IsDense s.records c.args.node = λ d. false≢true (sym c.if-branch.false ∙ (c.in_ok-is_dense.ensures.is tells).1 d) in
     let p = err_from_is_err_and c.from_residual-in_err-make_dense.result c.from_residual-in_err-make_dense.ensures.1 in
-    rw (p.1, p.2) (handed Unit ChainHead c.in_err-make_dense.field-0.0 (c.in_err-make_dense.ensures.not_damaged tells s.shape.threshold empty
+    rw (p.1, p.2) (c.in_err-make_dense.ensures.not_damaged tells s.shape.threshold empty
     (dense_can s z same c.args.node c.args.degree c.args.threshold c.args.label c.args.side row empty can thin)
-    (dense_room s z same c.args.node c.args.degree c.args.threshold c.args.label c.args.side row empty can thin room)))
+    (dense_room s z same c.args.node c.args.degree c.args.threshold c.args.label c.args.side row empty can thin room))
 
 pub returns-in_err-make_dense-clause-writes : goal.returns-in_err-make_dense-clause-writes
 returns-in_err-make_dense-clause-writes g c =
@@ -180,7 +178,7 @@ returns-clause-damaged g c = λ tells way.
 
 -- nothing is written where the node doesn't become dense
 pub returns-in_err-is_dense-clause-unwritten : goal.returns-in_err-is_dense-clause-unwritten
-returns-in_err-is_dense-clause-unwritten g c = λ tells way. on_damage c.from_residual.result _ c.is_dense.ensures.state
+returns-in_err-is_dense-clause-unwritten g c = λ tells way. on_refusal c.from_residual.result _ c.is_dense.ensures.state
 
 pub returns-then-branch-clause-unwritten : goal.returns-then-branch-clause-unwritten
 returns-then-branch-clause-unwritten g c = λ tells way.
@@ -189,7 +187,7 @@ returns-then-branch-clause-unwritten g c = λ tells way.
     let t = g.S.Reads.state c.open_group.new.space in
     let dense = subst (λ (q : State). IsDense q.records c.args.node) (sym c.in_ok-is_dense.ensures.state)
     ((c.in_ok-is_dense.ensures.is tells).0 c.if-branch.true) in
-    if_damage c.open_group.result (SameButReads z t) (SameButReads s t) (λ k. same_twice s z t c.in_ok-is_dense.ensures.state k)
+    if_refusal c.open_group.result (SameButReads z t) (SameButReads s t) (λ k. same_twice s z t c.in_ok-is_dense.ensures.state k)
     (c.open_group.ensures.unwritten tells dense)
 
 pub returns-in_err-make_dense-clause-unwritten : goal.returns-in_err-make_dense-clause-unwritten
@@ -233,11 +231,11 @@ returns-clause-blames g c = λ tells way le.
 
 pub returns-in_err-is_dense-clause-cause : goal.returns-in_err-is_dense-clause-cause
 returns-in_err-is_dense-clause-cause g c =
-    cause_passed _ _ _ c.from_residual.result c.in_err-is_dense.field-0.0 (omega arith) c.in_err-is_dense.ensures.cause c.from_residual.ensures.1
+    fault_cause _ _ _ c.from_residual.result c.in_err-is_dense.field-0.0 (omega arith) c.in_err-is_dense.ensures.cause c.from_residual.ensures.1
 
 pub returns-in_err-make_dense-clause-cause : goal.returns-in_err-make_dense-clause-cause
 returns-in_err-make_dense-clause-cause g c =
-    cause_passed _ _ _ c.from_residual-in_err-make_dense.result c.in_err-make_dense.field-0.0 c.in_ok-is_dense.ensures.cause.later
+    open_cause _ _ _ c.from_residual-in_err-make_dense.result c.in_err-make_dense.field-0.0 c.in_ok-is_dense.ensures.cause.later
     c.in_err-make_dense.ensures.cause c.from_residual-in_err-make_dense.ensures.1
 
 -- ---- what is told by the space as it is then, and where the head is
@@ -286,7 +284,7 @@ returns-clause-at g c = if_ok c.open_group-2.result _ (λ (head : ChainHead). (h
 -- ---- what is left of other records
 
 pub returns-in_err-is_dense-clause-stays : goal.returns-in_err-is_dense-clause-stays
-returns-in_err-is_dense-clause-stays g c = λ tells. on_damage c.from_residual.result _
+returns-in_err-is_dense-clause-stays g c = λ tells. on_refusal c.from_residual.result _
     (beside_read (g.S.Reads.state c.args.space.now) (g.S.Reads.state c.is_dense.new.space) c.args.node c.is_dense.ensures.state)
 
 pub returns-then-branch-clause-leaves_others : goal.returns-then-branch-clause-leaves_others
@@ -305,7 +303,7 @@ returns-then-branch-clause-stays g c = λ tells.
     let t = g.S.Reads.state c.open_group.new.space in
     let dense = subst (λ (q : State). IsDense q.records c.args.node) (sym c.in_ok-is_dense.ensures.state)
     ((c.in_ok-is_dense.ensures.is tells).0 c.if-branch.true) in
-    if_damage c.open_group.result (SameButReads z t) (LeavesBeside s.records t.records c.args.node)
+    if_refusal c.open_group.result (SameButReads z t) (LeavesBeside s.records t.records c.args.node)
     (λ k. beside_then s.records z.records t.records c.args.node (beside_read s z c.args.node c.in_ok-is_dense.ensures.state) (beside_read z t c.args.node k))
     (c.open_group.ensures.unwritten tells dense)
 
@@ -341,7 +339,7 @@ returns-clause-stays g c = λ tells.
     let t = g.S.Reads.state c.open_group-2.new.space in
     let first = beside_then s.records z.records u.records c.args.node (beside_read s z c.args.node c.in_ok-is_dense.ensures.state)
     (c.in_ok-make_dense.ensures.leaves_others tells) in
-    if_damage c.open_group-2.result (SameButReads u t) (LeavesBeside s.records t.records c.args.node)
+    if_refusal c.open_group-2.result (SameButReads u t) (LeavesBeside s.records t.records c.args.node)
     (λ k. beside_then s.records u.records t.records c.args.node first (beside_read u t c.args.node k))
     (c.open_group-2.ensures.unwritten tells (c.in_ok-make_dense.ensures.dense tells))
 
@@ -482,7 +480,7 @@ returns-in_err-is_dense-clause-named g c = λ tells.
     let s = g.S.Reads.state c.args.space.now in
     let p = err_from_is_err_and c.from_residual.result c.from_residual.ensures.1 in
     let z = g.S.Reads.state c.is_dense.new.space in
-    rw (p.1, p.2) (found_apart s z c.args.node c.in_err-is_dense.field-0.0 c.is_dense.ensures.state
+    rw (p.1, p.2) (found_apart s z c.args.node (of_fault c.in_err-is_dense.field-0.0) c.is_dense.ensures.state
     (node_fault_apart s z s c.args.node c.in_err-is_dense.field-0.0 (c.in_err-is_dense.ensures.damaged tells)))
 
 pub returns-then-branch-clause-named : goal.returns-then-branch-clause-named

@@ -8,17 +8,14 @@ use Rattle.chain_edit.specs.Heads.{head_of}
 use Rattle.group_store.specs.GroupChain.{IsGroupOf}
 use Rattle.group_store.specs.Leaving.{IsLowLink}
 use Rattle.group_store.specs.Sides.{group_head}
-use Rattle.chain_edit.specs.declared.head.Head.{Head as ChainHead}
-use Rattle.group_store.specs.declared.making.OwnGroup.{OwnGroup}
 use Rattle.group_store.specs.Opening.{OpensChain, WritesOpened}
 use Rattle.group_store.proofs.GroupWrites.{found_writes, made_writes, opened_writes, raised_writes}
 use Rattle.group_store.proofs.Named.{count_named}
-use Rattle.group_store.proofs.Openings.{handed}
+use Rattle.group_store.proofs.OpenFaults.{fault_cause, open_cause, refuses}
 use Rattle.group_store.proofs.BrokenGroups.{only_breaks}
 use Rattle.group_store.proofs.Heads.{then_unwritten}
 use Rattle.group_store.proofs.Raises.{breaks_read}
 use Rattle.group_store.proofs.Opens.{all_but, can_raise, not_full, opens_group}
-use Rattle.group_store.proofs.Causes.{cause_passed}
 use Rattle.group_store.proofs.GroupRules.{group_owned}
 use Rattle.group_store.proofs.LeftBeside.{beside_then}
 use Rattle.group_store.proofs.LowHeads.{counted_or_low, low_beside, own_head, spread_first}
@@ -38,8 +35,8 @@ pub returns-in_err-own-clause-not_damaged : goal.returns-in_err-own-clause-not_d
 returns-in_err-own-clause-not_damaged g c = λ tells row empty can room.
     let s = g.S.Reads.state c.args.space.now in
     let p = err_from_is_err_and c.from_residual.result c.from_residual.ensures.1 in
-    rw (p.1, p.2) (handed OwnGroup ChainHead c.in_err-own.field-0.0 (c.in_err-own.ensures.not_damaged tells [] s.shape.threshold empty
-    (all_but s.records s.shape c.args.node s.shape.threshold empty can.keeps) can.dense (not_full s c.args.node s.shape.threshold empty can.keeps room)))
+    rw (p.1, p.2) (c.in_err-own.ensures.not_damaged tells [] s.shape.threshold empty
+    (all_but s.records s.shape c.args.node s.shape.threshold empty can.keeps) can.dense (not_full s c.args.node s.shape.threshold empty can.keeps room))
 
 pub returns-in_err-own-clause-writes : goal.returns-in_err-own-clause-writes
 returns-in_err-own-clause-writes g c =
@@ -54,7 +51,7 @@ returns-in_err-count_group-clause-not_damaged g c = λ tells row empty can room.
     let o = c.in_ok-own.ensures.opened tells [] s.shape.threshold empty keeps can.dense in
     let is = c.in_ok-own.ensures.row tells [] s.shape.threshold empty keeps can.dense in
     let p = err_from_is_err_and c.from_residual-in_err-count_group.result c.from_residual-in_err-count_group.ensures.1 in
-    rw (p.1, p.2) (handed Unit ChainHead c.in_err-count_group.field-0.0 (c.in_err-count_group.ensures.not_damaged tells s.shape.threshold
+    rw (p.1, p.2) (refuses c.in_err-count_group.field-0.0 ⊥ (c.in_err-count_group.ensures.not_damaged tells s.shape.threshold
     (c.in_ok-own.own.row.id ∷ empty)
     (can_raise s m c.args.node c.args.label c.in_ok-own.own.row c.args.side row empty can o.0 o.1 is)))
 
@@ -127,16 +124,16 @@ returns-in_err-count_group-clause-unwritten g c = λ tells dense.
     let fault = c.in_err-count_group.field-0.0 in
     let p = err_from_is_err_and c.from_residual-in_err-count_group.result c.from_residual-in_err-count_group.ensures.1 in
     rw (p.1, p.2) (⊎_elim (λ counted. absurd (false≢true (c.in_err-count_group.ensures.counted counted)))
-    (λ k. then_unwritten s m (g.S.Reads.state c.count_group.new.space) k.1 fault c.in_err-count_group.ensures.unwritten)
+    (λ k. refuses fault _ (then_unwritten s m (g.S.Reads.state c.count_group.new.space) k.1 fault c.in_err-count_group.ensures.unwritten))
     (c.in_ok-own.ensures.group tells dense))
 
 pub returns-in_err-own-clause-cause : goal.returns-in_err-own-clause-cause
 returns-in_err-own-clause-cause g c =
-    cause_passed _ _ _ c.from_residual.result c.in_err-own.field-0.0 (omega arith) c.in_err-own.ensures.cause c.from_residual.ensures.1
+    open_cause _ _ _ c.from_residual.result c.in_err-own.field-0.0 (omega arith) c.in_err-own.ensures.cause c.from_residual.ensures.1
 
 pub returns-in_err-count_group-clause-cause : goal.returns-in_err-count_group-clause-cause
 returns-in_err-count_group-clause-cause g c =
-    cause_passed _ _ _ c.from_residual-in_err-count_group.result c.in_err-count_group.field-0.0 c.in_ok-own.ensures.cause.later
+    fault_cause _ _ _ c.from_residual-in_err-count_group.result c.in_err-count_group.field-0.0 c.in_ok-own.ensures.cause.later
     c.in_err-count_group.ensures.cause c.from_residual-in_err-count_group.ensures.1
 
 pub returns-clause-at : goal.returns-clause-at
