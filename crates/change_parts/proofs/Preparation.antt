@@ -29,7 +29,7 @@ use Rattle.change_parts.specs.declared.change_fault.ChangeFault.TheVariants.{Too
 use Rattle.change_parts.specs.declared.change_fault.ChangeFault.TheVariants.{NamesFull, PropsFull, Memory, Disk, Damaged}
 use Rattle.change_parts.specs.declared.preparing.Prepared.{Prepared}
 use Rattle.change_parts.proofs.Assigned.{blocks-assigned, length-assigned}
-use Rattle.change_parts.proofs.LineNames.{first_lacks, uses_prefix}
+use Rattle.change_parts.proofs.LineNames.{first_lacks}
 use Rattle.change_parts.proofs.Reasons.{None, few_fit, line_free, many_refused, names_fit, names_refused, properties_refused, room_fits, strings_refused}
 use Rattle.store_rules.specs.Graph.{graph_in}
 
@@ -120,13 +120,12 @@ module _ (s : State) (a b : List (List ℕ)) (label : List ℕ) (pairs : List Pa
               (let le = k.0 in omega arith) (let lt = k.1.lacks in omega arith),
         )) why
 
-    pub prepared_is : (prepared : Prepared) → prepared.assigned.items ≡ xs → slice_get b prepared.label ≡ Some label
+    pub prepared_is : (prepared : Prepared) → prepared.assigned.items ≡ xs → slice_get c prepared.label ≡ Some label
         → HasPropertyRoom u (length xs) (assigned_blocks pairs xs)
         → prepared.weight ≡ length xs + assigned_blocks pairs xs + (length c - length a) → IsPrepared s u c label pairs prepared
     prepared_is prepared same at room weighs = record {
       kept = kept;
-      label_is = let more = uses_prefix b (keys_in pairs) c later in ap (λ n. slice_get n prepared.label) more.1
-          ∙ slice_get-more b more.0 prepared.label label at;
+      label_is = at;
       assigned = subst (AreAssigned c pairs) (sym same) are;
       room = subst (λ l. HasPropertyRoom u (length l) (assigned_blocks pairs l)) (sym same) room;
       uses = line_uses c later;

@@ -1,7 +1,7 @@
 //! What a new element needs before its record is written.
 
 ghost use Rattle.std.specs.Prelude.{◌≡◌, ◌+◌, ◌-◌, ◌<◌, ◌≤◌, ◌++◌, ◌∷◌, ℕ, List, IfErr, IfOk};
-ghost use Rattle.std.specs.Prelude.{IsErr, OnOk, length};
+ghost use Rattle.std.specs.Prelude.{IsErr, OnOk, Some, length, slice_get};
 ghost use Rattle.plain_graph.specs.Changes.{properties_weight};
 ghost use Rattle.plain_graph.specs.Forms.{ArePairs};
 ghost use Rattle.plain_graph.specs.Graph.{UsesNames};
@@ -52,6 +52,8 @@ pub fn prepare<S: Space>(
         IsMidway (S.state space.old) names.old.names
         → IsPrepared (S.state space.old) (S.state space.new) names.new.names
         label.now pairs.now prepared) }
+    ensures label { IfOk result (λ prepared.
+        slice_get names.new.names prepared.label ≡ Some label.now) }
     ensures refused { S.tells → IsMidway (S.state space.old) names.old.names → IfErr result
         (IsRefusedBy line_reasons (S.state space.old).shape.limit (graph_in (S.state space.old))
         (commands.Node label.now pairs.now)) }

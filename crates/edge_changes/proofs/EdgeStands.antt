@@ -1,5 +1,6 @@
 -- A new edge that stands in the records, whatever they are.
-use Rattle.std.proofs.Common.{◌≡◌, ◌≢◌, ◌∙◌, ℕ, ◌+◌, ◌≤◌, nat_lt, cond, sym, ap, subst, inl, arith, refl}
+use Rattle.std.specs.Prelude.{slice_get}
+use Rattle.std.proofs.Common.{◌≡◌, ◌≢◌, ◌∙◌, ℕ, ◌+◌, ◌≤◌, nat_lt, cond, List, Some, sym, ap, subst, inl, arith, refl}
 use Rattle.plain_graph.specs.declared.command.Target.TheVariants as targets
 use Rattle.rec_bytes.specs.declared.key.Key.{Key}
 use Rattle.rec_bytes.specs.declared.record.Rec.{Rec}
@@ -27,7 +28,7 @@ use Rattle.edge_changes.specs.declared.edge_end.Ends.{Ends}
 use Rattle.edge_changes.specs.declared.edge_end.Ends.TheVariants.{Loop, Two}
 use Rattle.edge_changes.specs.EdgeEnds.{AtEach, IsEdgeEnd, joined}
 use Rattle.edge_changes.specs.EdgeJoining.{end_joined, ends_joined}
-use Rattle.edge_changes.specs.EdgePlacing.{IsEdgeBetween}
+use Rattle.edge_changes.specs.EdgePlacing.{IsEdgeBetween, IsEdgeLabelled}
 use Rattle.edge_changes.proofs.EdgeSteps.{record_joined}
 
 -- a record below the same mark with the same kind
@@ -36,13 +37,14 @@ unfolding kind_in
 kind_stays mark other x r q marks kinds = λ i. cond (nat_lt x (marks i)) (kinds i) 0
 
 -- where its kind, its type and its ends are as they were, and as many were given out
-edge_stays : (s t : Records) (id from to : ℕ) → high t format.relationships_file ≡ high s format.relationships_file
+edge_stays : (s t : Records) (id from type to : ℕ) → high t format.relationships_file ≡ high s format.relationships_file
     → ((n at : ℕ) → at + n ≤ 16 → field n (rec_at t format.relationships_file id) at ≡ field n (rec_at s format.relationships_file id) at)
-    → IsEdgeBetween s id from to → IsEdgeBetween t id from to
-edge_stays s t id from to mark number is = record {
+    → IsEdgeBetween s id from type to → IsEdgeBetween t id from type to
+edge_stays s t id from type to mark number is = record {
   used = λ e. is.used (sym (kind_stays (high s format.relationships_file) (high t format.relationships_file) id (rec_at s format.relationships_file id)
       (rec_at t format.relationships_file id) mark (number 1 format.kind (omega arith))) ∙ e);
   from_is = number 4 format.relationship_source (omega arith) ∙ is.from_is;
+  type_is = number 4 format.relationship_type (omega arith) ∙ is.type_is;
   to_is = number 4 format.relationship_target (omega arith) ∙ is.to_is;
 }
 
@@ -73,20 +75,21 @@ pub meta_joined : (s : State) (end : EdgeEnd) (rel : ℕ) → IsEdgeEnd end
 meta_joined s end rel is = record_joined s (head_of end.head) end.node rel _ (meta_key_of format.relationships_file) (λ e. omega arith)
     (λ e. not_meta_key end.head.key.file end.head.key.id format.relationships_file is.own (sym e)) (λ e. let f = ap (λ (k : Key). k.file) e in omega arith)
 
-end_stands : (s : State) (end : EdgeEnd) (rel : ℕ) → IsEdgeEnd end → (id from to : ℕ) → IsEdgeBetween s.records id from to
-    → IsEdgeBetween (end_joined s end rel).records id from to
-end_stands s end rel is id from to stands =
-    edge_stays s.records (end_joined s end rel).records id from to
+end_stands : (s : State) (end : EdgeEnd) (rel : ℕ) → IsEdgeEnd end → (id from type to : ℕ) → IsEdgeBetween s.records id from type to
+    → IsEdgeBetween (end_joined s end rel).records id from type to
+end_stands s end rel is id from type to stands =
+    edge_stays s.records (end_joined s end rel).records id from type to
     (ap (λ r. (metas.meta_of r).high) (meta_joined s end rel is)) (rel_joined s (head_of end.head) end.node rel _ is.head.place.elsewhere id) stands
 
-pub ends_stand : (s t : State) (ends : Ends EdgeEnd) (rel : ℕ) → AtEach IsEdgeEnd ends → t ≡ ends_joined s ends rel → (id from to : ℕ)
-    → IsEdgeBetween s.records id from to → IsEdgeBetween t.records id from to
-ends_stand s t ends rel each is id from to stands =
-    subst (λ (z : State). IsEdgeBetween z.records id from to) (sym is) (by ends each)
+pub ends_stand : (s t : State) (ends : Ends EdgeEnd) (rel : ℕ) → AtEach IsEdgeEnd ends → t ≡ ends_joined s ends rel → (id from type to : ℕ)
+    → IsEdgeBetween s.records id from type to → IsEdgeBetween t.records id from type to
+ends_stand s t ends rel each is id from type to stands =
+    subst (λ (z : State). IsEdgeBetween z.records id from type to) (sym is) (by ends each)
   where
-    by : (ends : Ends EdgeEnd) → AtEach IsEdgeEnd ends → IsEdgeBetween (ends_joined s ends rel).records id from to
-    by (Loop end) each = end_stands s end rel each id from to stands
-    by (Two source target) each = end_stands (end_joined s source rel) target rel each.1 id from to (end_stands s source rel each.0 id from to stands)
+    by : (ends : Ends EdgeEnd) → AtEach IsEdgeEnd ends → IsEdgeBetween (ends_joined s ends rel).records id from type to
+    by (Loop end) each = end_stands s end rel each id from type to stands
+    by (Two source target) each =
+        end_stands (end_joined s source rel) target rel each.1 id from type to (end_stands s source rel each.0 id from type to stands)
 
 -- ---- it gets its properties
 
@@ -96,7 +99,11 @@ meta_owned s t id left = left.others (meta_key_of format.relationships_file) (λ
     (λ e. let f = ap (λ (k : Key). k.id) e in omega arith) (λ e. let f = ap (λ (k : Key). k.id) e in omega arith)
     (λ e. let f = ap (λ (k : Key). k.file) e in omega arith)
 
-pub owner_stands : (s t : State) (id from to : ℕ) → LeavesElement s t (owner_of (targets.Edge id)) → IsEdgeBetween s.records id from to
-    → IsEdgeBetween t.records id from to
-owner_stands s t id from to left stands = edge_stays s.records t.records id from to (ap (λ r. (metas.meta_of r).high) (meta_owned s t id left))
-    (λ n at low. left.own n at (omega (arith, low)) (inl (omega (arith, low)))) stands
+pub owner_stands : (s t : State) (names : List (List ℕ)) (id from type : ℕ) (label : List ℕ) (to : ℕ) → slice_get names type ≡ Some label
+    → LeavesElement s t (owner_of (targets.Edge id)) → IsEdgeBetween s.records id from type to → IsEdgeLabelled t.records names id from label to
+owner_stands s t names id from type label to at left stands = (
+  type,
+  at,
+  edge_stays s.records t.records id from type to (ap (λ r. (metas.meta_of r).high) (meta_owned s t id left))
+      (λ n at low. left.own n at (omega (arith, low)) (inl (omega (arith, low)))) stands,
+)

@@ -1,5 +1,5 @@
 -- What a new edge writes.
-use Rattle.std.specs.Prelude.{◌≡◌, ◌≢◌, ℕ, ◌+◌, ◌<◌, true, false, List, Some}
+use Rattle.std.specs.Prelude.{◌≡◌, ◌≢◌, ℕ, ◌+◌, ◌<◌, true, false, List, Some, slice_get}
 use Rattle.plain_graph.specs.Graph.{edge_number, has_edge, has_node, with_row}
 use Rattle.plain_graph.specs.Properties.{no_properties}
 use Rattle.rec_bytes.specs.Format as format
@@ -48,14 +48,21 @@ pub record IsFirst (records : Records) (id from to : ℕ) : Type 0 where
   pub next : from ≡ to → field 4 (rec_at records format.relationships_file id)
       format.relationship_target_next ≡ format.nil
 
--- Whatever else the records are, a relationship of this number is in use, and leads from one node
--- to the other.
-pub record IsEdgeBetween (records : Records) (id from to : ℕ) : Type 0 where
+-- Whatever else the records are, a relationship of this number is in use, leads from one node to the
+-- other, and has the type of this number.
+pub record IsEdgeBetween (records : Records) (id from type to : ℕ) : Type 0 where
   pub used : kind_at records format.relationships_file id ≢ format.free_kind
   pub from_is : field 4 (rec_at records format.relationships_file id) format.relationship_source
       ≡ from
+  pub type_is : field 4 (rec_at records format.relationships_file id) format.relationship_type
+      ≡ type
   pub to_is : field 4 (rec_at records format.relationships_file id) format.relationship_target
       ≡ to
+
+-- so it is, and the number is that of this type among the names
+abbrev pub IsEdgeLabelled : Records → List (List ℕ) → ℕ → ℕ → List ℕ → ℕ → Type 0
+IsEdgeLabelled records names id from label to =
+    (type : ℕ) × (slice_get names type ≡ Some label) × IsEdgeBetween records id from type to
 
 -- The store has one more edge, of this type, without properties.
 pub record PutsEdge (s t : State) (names : List (List ℕ)) (from : ℕ) (label : List ℕ) (to id : ℕ)

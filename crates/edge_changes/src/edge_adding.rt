@@ -21,7 +21,7 @@ ghost use Rattle.edge_changes.specs.EdgeAdding.{degree_weight, degrees_weight, g
 ghost use Rattle.edge_changes.specs.EdgeAdding.{HasEndDegree, IsNodeEnd, IsUsedEnd, LeadFrom};
 ghost use Rattle.edge_changes.specs.EdgeEnds.{AtEach};
 ghost use Rattle.edge_changes.specs.EdgeOpening.{ends_moved};
-ghost use Rattle.edge_changes.specs.EdgePlacing.{HadFewGroups, IsEdgeBetween, IsFirst};
+ghost use Rattle.edge_changes.specs.EdgePlacing.{HadFewGroups, IsEdgeLabelled, IsFirst};
 ghost use Rattle.edge_changes.specs.EdgePlacing.{TakesFirst};
 ghost use Rattle.change_parts.specs.Degrees.{HasDegree};
 ghost use Rattle.change_parts.specs.Owners.{IsAbsent};
@@ -55,9 +55,9 @@ pub fn add_edge<S: Space>(
     // the other free ones are free still, and the mark is past it
     ensures free { S.tells → OnOk result (TakesFirst
         (S.state space.old).records (S.state space.new).records relationships_file) }
-    // whatever the records are, it is in use, and leads from one node to the other
-    ensures stands { S.tells → IfOk result (λ added.
-        IsEdgeBetween (S.state space.new).records added.id from to) }
+    // whatever the records are, it is in use, leads from one node to the other, and has the type
+    ensures stands { S.tells → IfOk result (λ added. IsEdgeLabelled
+        (S.state space.new).records names.new.names added.id from label.now to) }
     ensures refused { S.tells → IsStore (S.state space.old) names.old.names
         → IfErr result (IsRefusal (S.state space.old).shape.limit (graph_in (S.state space.old))
         (commands.Edge from label.now to pairs.now)) }

@@ -72,7 +72,7 @@ pub(crate) fn join_edge<S: Space>(
         → IfErr result (IfBlames (IsChainDamage (S.state space.old) (S.state space.new)
         (IsOfLost (S.state space.old) ends))) }
     ensures stands { S.tells → IfOk result (λ id. IsEdgeBetween (S.state space.new).records id
-        (source_of ends).node (target_of ends).node) }
+        (source_of ends).node label (target_of ends).node) }
     ensures free { S.tells → OnOk result (TakesFirst
         (S.state space.old).records (S.state space.new).records relationships_file) }
     ensures key { IfOk result (λ id. IsKey (key_in relationships_file id)) }
@@ -116,7 +116,7 @@ fn place<S: Space>(space: &mut S, label: u32, from: u32, to: u32) -> Result<u32,
     ensures heads { S.tells
         → OnOk result (KeepsHeads (S.state space.old) (S.state space.new)) }
     ensures stands { S.tells
-        → IfOk result (λ id. IsEdgeBetween (S.state space.new).records id from to) }
+        → IfOk result (λ id. IsEdgeBetween (S.state space.new).records id from label to) }
     ensures key { IfOk result (λ id. IsKey (key_in relationships_file id)) }
     ensures writes { IfOk result (λ id.
         WritesOnly (S.state space.old) (S.state space.new) (rel_key id ∷ meta_keys)) }

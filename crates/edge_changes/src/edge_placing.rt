@@ -79,7 +79,7 @@ pub(crate) fn put_edge<S: Space>(space: &mut S, joint: Joint) -> Result<u32, Cha
         → IfErr result
         (BlamesChains (S.state space.old) (S.state space.new) (from_of joint) (to_of joint)) }
     ensures stands { S.tells → IfOk result (λ id. IsEdgeBetween (S.state space.new).records id
-        (from_of joint) (to_of joint)) }
+        (from_of joint) joint.label (to_of joint)) }
     ensures free { S.tells → OnOk result (TakesFirst
         (S.state space.old).records (S.state space.new).records relationships_file) }
     ensures key { IfOk result (λ id. IsKey (key_in relationships_file id)) }

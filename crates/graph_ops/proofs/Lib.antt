@@ -1,3 +1,4 @@
+pub mod ChangeLeft
 pub mod Meeting
 pub mod NewIds
 pub mod Parts

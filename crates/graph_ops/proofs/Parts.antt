@@ -1,5 +1,5 @@
 -- Parts of a list of changes over a store, one after the other.
-use Rattle.std.specs.Prelude.{Result, Ok, Err, IfErr, IfOk, IsErrAnd}
+use Rattle.std.specs.Prelude.{Result, Ok, Err, IfErr, IfOk, IsErrAnd, OnOk}
 use Rattle.std.proofs.Common.{◌≡◌, ◌∙◌, ℕ, ◌+◌, ◌<◌, ◌≤◌, min, List, [], ◌∷◌, ◌++◌, Option, None, is_some, true, false}
 use Rattle.std.proofs.Common.{length, take, drop, get_or, append_assoc, inl, inr, sym, ap, subst, arith, refl}
 use Rattle.plain_graph.specs.Graph.{Graph}
@@ -24,6 +24,8 @@ use Rattle.change_parts.specs.declared.change_fault.ChangeFault.TheVariants.{Too
 use Rattle.change_parts.specs.declared.change_fault.ChangeFault.TheVariants.{NamesFull, PropsFull, Memory, Disk, Damaged}
 use Rattle.change_parts.proofs.Exits.{fault_exit}
 use Rattle.change_parts.specs.Causes.{IsCausedAfter}
+use Rattle.graph_ops.specs.ChangeLeft.{LeavesChange, LeavesEach}
+use Rattle.graph_ops.proofs.ChangeLeft.{leaves_one, leaves_then}
 use Rattle.graph_ops.specs.Mutating.{IsListCaused, IsListRefusal, MakesChanges, MakesList}
 use Rattle.graph_ops.specs.Mutating.{MakesMutation, MakesPart, any_replies, most_drafted, most_told}
 use Rattle.plain_graph.specs.Mutations.{MakesEach, RefusesEach, changes_of, elements_of, new_elements, targets_once, vertex_id}
@@ -46,14 +48,15 @@ pub record IsMaking (tells onward : Type 0) (commands : List Command) (Shown : L
 -- ---- single changes
 
 pub one_part : (tells : Type 0) (command : Command) (Shown : List Reply → Type 0) (reply : Reply) (weight : ℕ) (s t : State) (before names : List (List ℕ))
-    → (tells → IsStore s before → MakesChange command reply weight s t names)
+    → (tells → IsStore s before → MakesChange command reply weight s t names) → (tells → LeavesChange command reply s.records t.records names)
     → weight + 7 ≤ 2048 → WritesAtMost weight s t → Shown (reply ∷ []) → MakesPart tells (command ∷ []) Shown weight s t before names
-one_part tells command Shown reply weight s t before names made light writes shown = record {
-  made = λ told store.
-      let one = made told store in (
-        reply ∷ [],
-        shown,
-        record {
+one_part tells command Shown reply weight s t before names made left light writes shown = record {
+  made = λ told. (
+    reply ∷ [],
+    shown,
+    leaves_one command reply s.records t.records names (left told),
+    λ store.
+        let one = made told store in record {
           store = one.store;
           each = (
             reply,
@@ -67,22 +70,23 @@ one_part tells command Shown reply weight s t before names made light writes sho
             (refl, refl, refl),
           );
         },
-      );
+  );
   few = omega arith;
   writes = writes;
 }
 
 -- of a result, where nothing is said of its reply
 pub one_result : (r : Result ℕ ChangeFault) (tells : Type 0) (command : Command) (reply : Reply) (s t : State) (before names : List (List ℕ))
-    → (tells → IfOk r (λ weight. IsStore s before → MakesChange command reply weight s t names)) → IfOk r (λ weight. weight + 7 ≤ 2048)
+    → (tells → IfOk r (λ weight. IsStore s before → MakesChange command reply weight s t names))
+    → (tells → OnOk r (LeavesChange command reply s.records t.records names)) → IfOk r (λ weight. weight + 7 ≤ 2048)
     → IfOk r (λ weight. WritesAtMost weight s t) → IfOk r (λ weight. MakesPart tells (command ∷ []) any_replies weight s t before names)
-one_result (Ok weight) tells command reply s t before names made light writes =
-    one_part tells command any_replies reply weight s t before names made light writes tt
-one_result (Err fault) tells command reply s t before names made light writes = tt
+one_result (Ok weight) tells command reply s t before names made left light writes =
+    one_part tells command any_replies reply weight s t before names made left light writes tt
+one_result (Err fault) tells command reply s t before names made left light writes = tt
 
 pub none_part : (tells : Type 0) (Shown : List Reply → Type 0) (s : State) (names : List (List ℕ)) → Shown [] → MakesPart tells [] Shown 0 s s names names
 none_part tells Shown s names shown = record {
-  made = λ told store. ([], shown, record { store = store; each = (refl, refl, refl) });
+  made = λ told. ([], shown, (refl, refl), λ store. record { store = store; each = (refl, refl, refl) });
   few = omega arith;
   writes = none_written s s refl;
 }
@@ -112,15 +116,18 @@ module _ (xs ys : List Command) (w v both : ℕ) (s t u : State) (is : both ≡ 
         (subst (λ (z : Shape). MakesEach z.limit z.threshold (graph_in t) ys ts v (graph_in u)) shape next.each));
   }
 
-  pub part_then : {tells : Type 0} {Shown Next Then : List Reply → Type 0} (b m n : List (List ℕ)) → t.shape ≡ s.shape
-      → ((rs ts : List Reply) (total : ℕ) → Shown rs → MakesEach s.shape.limit s.shape.threshold (graph_in s) xs rs total (graph_in t) → Next ts → Then
-      (rs ++ ts)) → MakesPart tells xs Shown w s t b m → MakesPart tells ys Next v t u m n
-      → MakesPart tells (xs ++ ys) Then both s u b n
-  part_then b m n shape joins made next = record {
-    made = λ told store.
-        let one = made.made told store in
-        let other = next.made told one.2.store in
-        (one.0 ++ other.0, joins one.0 other.0 w one.1 one.2.each other.1, list_then one.0 other.0 m n shape one.2 other.2);
+  pub part_then : {tells : Type 0} {Shown Next Then : List Reply → Type 0} (b m n : List (List ℕ)) → ((rest : List (List ℕ)) × (n ≡ m ++ rest))
+      → t.shape ≡ s.shape → ((rs ts : List Reply) → Shown rs → LeavesEach xs rs s.records t.records m → Next ts → Then (rs ++ ts))
+      → MakesPart tells xs Shown w s t b m → MakesPart tells ys Next v t u m n → MakesPart tells (xs ++ ys) Then both s u b n
+  part_then b m n grown shape joins made next = record {
+    made = λ told.
+        let one = made.made told in
+        let other = next.made told in (
+          one.0 ++ other.0,
+          joins one.0 other.0 one.1 one.2 other.1,
+          leaves_then xs ys one.0 other.0 s.records t.records u.records m n grown.0 grown.1 one.2 other.2,
+          λ store. let first = one.3 store in list_then one.0 other.0 m n shape first (other.3 first.store),
+        );
     few = few;
     writes = more_written (omega arith) (then_written made.writes next.writes);
   }
@@ -165,8 +172,8 @@ pub next_refused : {tells : Type 0} {Shown : List Reply → Type 0} (told : tell
     → all ≡ xs ++ (ys ++ zs) → (fault : ChangeFault) → (IsStore t names → IsListRefusal t.shape.limit (graph_in t) ys fault)
     → IsListRefusal s.shape.limit (graph_in s) all fault
 next_refused told s t xs ys zs all w before names part store shape is fault refused =
-    let made = (part.made told store).2 in
-    let replies = (part.made told store).0 in
+    let made = (part.made told).3 store in
+    let replies = (part.made told).0 in
     list_by s.shape.limit (graph_in t) (graph_in s) ys all
     (λ why refuses.
     subst (λ (cs : List Command). RefusesEach s.shape.limit (graph_in s) cs why) (sym is)
@@ -229,11 +236,11 @@ module _ {X : Type 0} (of : List X → List Command) (spread : IsSpread of) (xs 
   pub making_more : {tells on next_on : Type 0} {Shown Next Then : List Reply → Type 0} (w v both : ℕ) (s t u : State) (b m n : List (List ℕ))
       (faults now then : ℕ) → both ≡ w + v → both ≤ most_drafted → IsMaking tells on (of (take i xs)) Shown w s t b m faults now
       → MakesPart tells (of (item ∷ [])) Next v t u m n → ((rest : List (List ℕ)) × (n ≡ m ++ rest)) → u.shape ≡ t.shape → next_on → now ≤ then
-      → ((rs ts : List Reply) (total : ℕ) → Shown rs → MakesEach s.shape.limit s.shape.threshold (graph_in s) (of (take i xs)) rs total (graph_in t) → Next ts
-      → Then (rs ++ ts)) → IsMaking tells next_on (of (take (i + 1) xs)) Then both s u b n faults then
+      → ((rs ts : List Reply) → Shown rs → LeavesEach (of (take i xs)) rs s.records t.records m → Next ts → Then (rs ++ ts))
+      → IsMaking tells next_on (of (take (i + 1) xs)) Then both s u b n faults then
   making_more {tells} {on} {next_on} {Shown} {Next} {Then} w v both s t u b m n faults now then is few making part grown shape next later joins = record {
     part = subst (λ (cs : List Command). MakesPart tells cs Then both s u b n) (sym up_to)
-        (part_then (of (take i xs)) (of (item ∷ [])) w v both s t u is few b m n making.shape joins making.part part);
+        (part_then (of (take i xs)) (of (item ∷ [])) w v both s t u is few b m n grown making.shape joins making.part part);
     prefix = (making.prefix.0 ++ grown.0, grown.1 ∙ ap (λ (l : List (List ℕ)). l ++ grown.0) making.prefix.1 ∙ append_assoc b making.prefix.0 grown.0);
     shape = shape ∙ making.shape;
     onward_is = next;
@@ -327,11 +334,11 @@ module _ {tells : Type 0} (results shown start : List Item) (weight told : ℕ) 
       (λ replies. shown ≡ start ++ new_elements (commands.Node label pairs ∷ []) replies) weight s t b n → tells → IsStore s b
       → MakesMutation (mutations.AddV label pairs) results shown told s t n
   vertex_made label pairs none part tells_it store =
-      let made = part.made tells_it store in (
+      let made = part.made tells_it in (
         made.0,
         from_none shown start (new_elements (commands.Node label pairs ∷ []) made.0) none made.1,
         node_whole label pairs made.0 weight told s t n is
-            made.2,
+            (made.3 store),
       )
 
   pub edges_made : (label : List ℕ) (to : ℕ) (pairs : List Pair) → start ≡ []
@@ -339,26 +346,35 @@ module _ {tells : Type 0} (results shown start : List Item) (weight told : ℕ) 
       (λ replies. shown ≡ start ++ new_elements (changes_of (mutations.AddE label to pairs) results) replies) weight s t b n → tells → IsStore s b
       → MakesMutation (mutations.AddE label to pairs) results shown told s t n
   edges_made label to pairs none part tells_it store =
-      let made = part.made tells_it store in
+      let made = part.made tells_it in
       let list = changes_of (mutations.AddE label to pairs) results in (
         made.0,
         from_none shown start (new_elements list made.0) none made.1,
         edges_whole list made.0 weight told s t n (edges_all label to pairs results)
-            is made.2,
+            is (made.3 store),
       )
 
   pub values_made : (pairs : List Pair) → MakesPart tells (changes_of (mutations.Property pairs) results) any_replies weight s t b n → tells → IsStore s b
       → MakesMutation (mutations.Property pairs) results results told s t n
   values_made pairs part tells_it store =
-      let made = part.made tells_it store in
-      (made.0, refl, elements_whole (changes_of (mutations.Property pairs) results) made.0 weight told s t n (items_all pairs results) is made.2)
+      let made = part.made tells_it in
+      (made.0, refl, elements_whole (changes_of (mutations.Property pairs) results) made.0 weight told s t n (items_all pairs results) is (made.3 store))
 
   pub drops_made : shown ≡ [] → MakesPart tells (changes_of mutations.Drop results) any_replies weight s t b n → tells → IsStore s b
       → MakesMutation mutations.Drop results shown told s t n
   drops_made none part tells_it store =
-      let made = part.made tells_it store in (
+      let made = part.made tells_it in (
         made.0,
         none,
         elements_whole (changes_of mutations.Drop results) made.0 weight told s t n (deletions_all (targets_once [] (elements_of results)))
-            is made.2,
+            is (made.3 store),
       )
+
+-- ---- what each leaves of the records
+
+-- the new elements are shown
+pub shown_left : {tells : Type 0} (list : List Command) (shown start : List Item) (weight : ℕ) (s t : State) (b n : List (List ℕ)) → start ≡ []
+    → MakesPart tells list (λ replies. shown ≡ start ++ new_elements list replies) weight s t b n → tells
+    → (replies : List Reply) × (shown ≡ new_elements list replies) × LeavesEach list replies s.records t.records n
+shown_left list shown start weight s t b n none part told =
+    let made = part.made told in (made.0, from_none shown start (new_elements list made.0) none made.1, made.2)

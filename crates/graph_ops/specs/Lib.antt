@@ -1,3 +1,4 @@
+pub mod ChangeLeft
 pub mod Distinct
 pub mod MutateFault
 pub mod Mutating

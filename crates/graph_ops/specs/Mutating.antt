@@ -25,6 +25,7 @@ use Rattle.plain_graph.specs.Mutations.{ChangesEach, MakesEach, RefusesEach, Wei
 use Rattle.plain_graph.specs.Mutations.{results_of}
 use Rattle.plain_graph.specs.declared.mutation.Mutation.{Mutation}
 use Rattle.plain_graph.specs.declared.mutation.Mutation.TheVariants as mutations
+use Rattle.graph_ops.specs.ChangeLeft.{LeavesEach}
 use Rattle.graph_ops.specs.declared.mutating.NewEdge.{NewEdge}
 use Rattle.store_rules.specs.Graph.{graph_in}
 
@@ -100,13 +101,13 @@ pub record MakesList (commands : List Command) (replies : List Reply) (weight : 
   pub each : MakesEach old.shape.limit old.shape.threshold (graph_in old) commands replies weight
       (graph_in new)
 
--- So they were where the space tells and was a store, with what is said of the replies. Over every
--- space the weight bounds what became written.
+-- Where the space tells, the changes leave this of its records, with what is said of the replies. In
+-- a store they were made so. Over every space the weight bounds what became written.
 pub record MakesPart (tells : Type 0) (commands : List Command) (Shown : List Reply → Type 0)
     (weight : ℕ) (old new : State) (before names : List (List ℕ)) : Type 0 where
-  pub made : tells → IsStore old before
-      → (replies : List Reply) × Shown replies
-      × MakesList commands replies weight old new names
+  pub made : tells → (replies : List Reply) × Shown replies
+      × LeavesEach commands replies old.records new.records names
+      × (IsStore old before → MakesList commands replies weight old new names)
   pub few : weight ≤ most_drafted
   pub writes : WritesAtMost weight old new
 

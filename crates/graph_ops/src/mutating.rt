@@ -12,6 +12,7 @@ ghost use Rattle.change_parts.specs.Change.{IsRefusal};
 ghost use Rattle.change_parts.specs.ChangeFault.{HasChangeCause};
 ghost use Rattle.change_parts.specs.Store.{IsStore};
 ghost use Rattle.change_parts.specs.Causes.{IsCausedAfter};
+ghost use Rattle.graph_ops.specs.ChangeLeft.{LeavesMutation};
 ghost use Rattle.graph_ops.specs.MutateFault.{BlamesNone, HasMutateCause, IfRefused};
 ghost use Rattle.graph_ops.specs.MutateFault.{IsMutateRefusal};
 ghost use Rattle.graph_ops.specs.Mutating.{IsListCaused, IsListRefusal};
@@ -72,6 +73,10 @@ pub fn mutate<S: Space>(
     ensures refused { S.tells → IsStore (S.state space.old) names.old.names
         → IfErr result (IsMutateRefusal (S.state space.old).shape.limit
         (graph_in (S.state space.old)) (changes_of mutation.now items.items)) }
+    // what it leaves of the records, whatever they are
+    ensures leaves { S.tells → IfOk result (λ mutated.
+        LeavesMutation mutation.now items.items mutated.items.items
+        (S.state space.old).records (S.state space.new).records names.new.names) }
     // its new elements have the identifiers of the free list, and then those from the mark on
     ensures ids { S.tells → IfOk result (λ mutated.
         GetsFreeIds mutation.now mutated.items.items (S.state space.old).records) }
@@ -112,6 +117,9 @@ fn make_changes<S: Space>(
     ensures refused { S.tells → IsStore (S.state space.old) names.old.names
         → IfErr result (IsListRefusal (S.state space.old).shape.limit
         (graph_in (S.state space.old)) (changes_of mutation.now items.items)) }
+    ensures leaves { S.tells → IfOk result (λ mutated.
+        LeavesMutation mutation.now items.items mutated.items.items
+        (S.state space.old).records (S.state space.new).records names.new.names) }
     ensures ids { S.tells → IfOk result (λ mutated.
         GetsFreeIds mutation.now mutated.items.items (S.state space.old).records) }
     ensures shown { AllByRecursion IsShown items.items

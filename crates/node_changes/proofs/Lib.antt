@@ -27,6 +27,7 @@ pub mod NodeEntries
 pub mod NodeFound
 pub mod NodeGone
 pub mod NodePut
+pub mod NodeStands
 pub mod NodeWeights
 pub mod PairWeights
 pub mod SetRefused

@@ -14,7 +14,7 @@ use Rattle.rec_bytes.proofs.Spaces.{put_same, put_other}
 use Rattle.store_rules.specs.Rules.{IsWellFormed}
 use Rattle.store_rules.specs.Views.{NodeRow, Records, high, kind_at, node_at, node_in, rec_at, text_of}
 use Rattle.store_rules.proofs.Made.{IsMade}
-use Rattle.store_rules.proofs.ViewLaws.{kind_low, some_row}
+use Rattle.store_rules.proofs.ViewLaws.{some_row}
 use Rattle.store_rules.proofs.NodeChange.{edges_stay, names_stay}
 use Rattle.store_rules.proofs.NodeMade.{IsNewNode, node_added, node_fresh, node_well}
 use Rattle.id_freelist.specs.FreeLists.{IsFreeList}
@@ -95,7 +95,6 @@ module _ (s m t : State) (names : List (List ℕ)) (id number : ℕ) (label : Li
     nodes = node_added s.records after s.shape id number rec made fresh store.store known.0
         ∙ ap (λ l. with_row node_number (record { id = id; label = l; properties = no_properties }) (graph_in s).nodes) known.1;
     edges = edges_stay s.records after id made.change;
-    sparse = kind_low (high after format.nodes_file) (rec_at after format.nodes_file id) id made.below ∙ ap (λ r. field 1 r format.kind) made.here ∙ fresh.kind;
     numbered = ap (λ r. field 4 r format.node_label) made.here ∙ fresh.label;
     file = changed_index s.records after format.nodes_file id made.change (λ e. omega arith);
     lacks = lacks;

@@ -1,5 +1,5 @@
 -- A node that is added.
-use Rattle.std.specs.Prelude.{◌≡◌, ◌≢◌, ℕ, ◌<◌, false, List, length}
+use Rattle.std.specs.Prelude.{◌≡◌, ◌≢◌, ℕ, ◌<◌, false, List, Some, length, slice_get}
 use Rattle.plain_graph.specs.Graph.{has_node, node_number, with_row}
 use Rattle.plain_graph.specs.Properties.{no_properties}
 use Rattle.rec_bytes.specs.Format as format
@@ -17,9 +17,16 @@ use Rattle.store_rules.specs.Graph.{graph_in}
 abbrev pub IsFullOfNodes : State → Type 0
 IsFullOfNodes s = length (graph_in s).nodes ≡ s.shape.limit
 
--- the node is in use, and its first link is to a relationship
-abbrev pub IsSparse : Records → ℕ → Type 0
-IsSparse records id = kind_at records format.nodes_file id ≡ format.sparse
+-- Whatever else the records are, a node of this number is in use, its first link is to a
+-- relationship, and it has the label of this number.
+pub record IsNodeOf (records : Records) (id label : ℕ) : Type 0 where
+  pub sparse : kind_at records format.nodes_file id ≡ format.sparse
+  pub label_is : field 4 (rec_at records format.nodes_file id) format.node_label ≡ label
+
+-- so it is, and the number is that of this label among the names
+abbrev pub IsNodeLabelled : Records → List (List ℕ) → ℕ → List ℕ → Type 0
+IsNodeLabelled records names id label =
+    (number : ℕ) × (slice_get names number ≡ Some label) × IsNodeOf records id number
 
 -- a node without relationships and properties
 abbrev pub new_row : ℕ → ℕ → NodeRow
@@ -45,7 +52,6 @@ pub record PutsNode (s t : State) (names : List (List ℕ)) (number : ℕ) (labe
       ≡ with_row node_number (record { id = id; label = label; properties = no_properties })
       (graph_in s).nodes
   pub edges : (graph_in t).edges ≡ (graph_in s).edges
-  pub sparse : IsSparse t.records id
   pub numbered : field 4 (rec_at t.records format.nodes_file id) format.node_label ≡ number
   pub file : IsSameFile s.records t.records format.index_file
   pub lacks : LacksEntries (wanted_in t.records) id

@@ -20,7 +20,8 @@ ghost use Rattle.change_parts.specs.Change.{IsCounted, IsRefusal, MakesChange};
 ghost use Rattle.change_parts.specs.ChangeFault.{HasChangeCause, IsFailure, IsOutside, LeavesSpace};
 ghost use Rattle.change_parts.specs.Damage.{BlamesEntries, BlamesBroken, IfBlames};
 ghost use Rattle.node_changes.specs.Entries.{WeighsNode};
-ghost use Rattle.node_changes.specs.NodeAdding.{IsFullOfNodes, IsSparse, PutsNode, new_row};
+ghost use Rattle.node_changes.specs.NodeAdding.{IsFullOfNodes, IsNodeLabelled, IsNodeOf};
+ghost use Rattle.node_changes.specs.NodeAdding.{PutsNode, new_row};
 ghost use Rattle.change_parts.specs.Rooms.{HasRoom};
 ghost use Rattle.change_parts.specs.Store.{IsMidway, IsStore};
 ghost use Rattle.store_rules.specs.Graph.{graph_in};
@@ -50,6 +51,10 @@ pub fn add_node<S: Space>(
     // its identifier is the free one that was given back last, or else the mark
     ensures taken { S.tells → IfOk result (λ added.
         added.id ≡ taken_id (meta_of (S.state space.old) nodes_file)) }
+    // Whatever the records are, it is in use, and has the label. It becomes dense only where it gets
+    // more edges than a sparse one may have.
+    ensures stands { S.tells → IfOk result (λ added. IsNodeLabelled
+        (S.state space.new).records names.new.names added.id label.now) }
     ensures refused { S.tells → IsStore (S.state space.old) names.old.names
         → IfErr result (IsRefusal (S.state space.old).shape.limit (graph_in (S.state space.old))
         (commands.Node label.now pairs.now)) }
@@ -73,9 +78,6 @@ pub fn add_node<S: Space>(
         → IfOk result (λ added. added.weight
         ≡ 1 + properties_weight (with_pairs no_properties pairs.now)
         + (length names.new.names - length names.old.names)) }
-    // it becomes dense only where it gets more edges than a sparse one may have
-    ensures sparse { S.tells → IfOk result (λ added. IsStore (S.state space.old) names.old.names
-        → IsSparse (S.state space.new).records added.id) }
     ensures light { IfOk result (λ added. added.weight + start_weight ≤ most_weight) }
     ensures prefix { (rest : List (List ℕ)) × (names.new.names ≡ names.old.names ++ rest) }
     ensures writes { IfOk result (λ added.
@@ -114,6 +116,8 @@ fn put_node<S: Space>(space: &mut S, label: u32) -> Result<u32, ChangeFault>
         → IsMidway (S.state space.old) names → slice_get names label ≡ Some text
         → PutsNode (S.state space.old) (S.state space.new) names label text id) }
     ensures is { IfOk result (λ id. id ≡ taken_id (meta_of (S.state space.old) nodes_file)) }
+    ensures stands { S.tells → IfOk result
+        (λ id. IsNodeOf (S.state space.new).records id label) }
     ensures not_damaged { S.tells → (names : List (List ℕ)) → IsMidway (S.state space.old) names
         → HasRoom (S.state space.old) nodes_file 1 → IfErr result IsOutside }
     ensures failure { S.tells → HasRoom (S.state space.old) nodes_file 1

@@ -1,4 +1,4 @@
-use Rattle.std.specs.Prelude.{Contains}
+use Rattle.std.specs.Prelude.{Contains, slice_get}
 use Rattle.std.proofs.Common.{◌≡◌, ◌≢◌, ℕ, List, ◌++◌, ◌∷◌, [], Some, length, ◌∙◌, sym, ap, subst, append_assoc, append-nil, inl, inr, arith, refl, rules}
 use Rattle.plain_graph.specs.Graph.{UsesName}
 use Rattle.plain_graph.specs.Names.{IsShortName}
@@ -18,7 +18,7 @@ use Rattle.change_parts.proofs.Assigned.{blocks-assigned, length-assigned}
 use Rattle.change_parts.proofs.Late.{assign_late, intern_late, is_err, reserve_late}
 use Rattle.change_parts.proofs.LineNames.{held_name, name_long, name_prefix, uses_long, uses_once}
 use Rattle.change_parts.proofs.NewNames.{name_one}
-use Rattle.change_parts.proofs.Preparation.{assign_refused_by, label_refused, prepared_is, reserve_refused}
+use Rattle.change_parts.proofs.Preparation.{assign_refused_by, label_refused, prepared_is, reserve_refused, slice_get-more}
 use Rattle.store_rules.proofs.WriteLaws.{more_written, then_written}
 use Rattle.change_parts.proofs.Causes.{assign_caused, label_caused, reserve_caused}
 use Rattle.change_parts.proofs.Adding.{interned_beside, names_then}
@@ -87,6 +87,26 @@ returns-in_err-blocks-clause-refused g c tells store =
     c.in_ok-assigned.ensures.uses (kept g at tells store) c.in_ok-assigned.ensures.assigned c.in_ok-assigned.ensures.few c.in_ok-assigned.ensures.held.few fault
     (subst (λ l. IsReserveFault u (length l) (assigned_blocks pairs l) fault) c.deref.ensures.0 c.in_err-blocks.ensures.refused))
 
+-- the label has its number among all names
+labelled : (g : Over) (c : In_ok-assigned g) → slice_get c.assign_pairs.new.names.names c.in_ok-label.label ≡ Some c.args.label.now
+labelled g c =
+    let grown = c.assign_pairs.ensures.prefix in
+    let label = c.in_ok-label.label in
+    ap (λ (n : List (List ℕ)). slice_get n label) grown.1
+    ∙ slice_get-more c.intern.new.self.names grown.0 label c.args.label.now (c.in_ok-label.ensures.number ∙ ap (λ l. Some l) c.as_bytes.ensures)
+
+pub returns-clause-label : goal.returns-clause-label
+returns-clause-label g c = labelled g (goal.at.returns-clause-label g c).In_ok-assigned
+
+pub returns-in_err-label-clause-label : goal.returns-in_err-label-clause-label
+returns-in_err-label-clause-label g c = never_ok c.from_residual.result _ _ c.from_residual.ensures.1
+
+pub returns-in_err-assigned-clause-label : goal.returns-in_err-assigned-clause-label
+returns-in_err-assigned-clause-label g c = never_ok c.from_residual-in_err-assigned.result _ _ c.from_residual-in_err-assigned.ensures.1
+
+pub returns-in_err-blocks-clause-label : goal.returns-in_err-blocks-clause-label
+returns-in_err-blocks-clause-label g c = never_ok c.from_residual-in_err-blocks.result _ _ c.from_residual-in_err-blocks.ensures.1
+
 pub returns-clause-prepared : goal.returns-clause-prepared
 returns-clause-prepared g c tells store =
     let at = (goal.at.returns-clause-prepared g c).In_ok-assigned in
@@ -97,7 +117,7 @@ returns-clause-prepared g c tells store =
     prepared_is s c.args.names.now.names c.intern.new.self.names c.args.label.now pairs store (uses g (goal.at.returns-clause-prepared g c).In_ok-label) u
     c.assign_pairs.new.names.names items
     c.in_ok-assigned.ensures.uses (kept g at tells store) c.in_ok-assigned.ensures.assigned c.in_ok-assigned.ensures.few c.in_ok-assigned.ensures.held.few _
-    refl (c.in_ok-label.ensures.number ∙ ap (λ l. Some l) c.as_bytes.ensures)
+    refl (labelled g at)
     (subst (λ l. HasPropertyRoom u (length l) (assigned_blocks pairs l)) c.deref.ensures.0 c.in_ok-blocks.ensures.room)
     (let n = c.len.ensures.value in let b = c.in_ok-blocks.ensures.blocks ∙ ap (assigned_blocks pairs) c.deref.ensures.0 in let k =
     c.count-known.ensures.value in let m = c.count.ensures.value in omega arith)

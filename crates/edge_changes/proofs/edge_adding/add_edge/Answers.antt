@@ -38,8 +38,7 @@ use Rattle.edge_changes.proofs.OpenWrites.{ends_weigh, most_threshold}
 use Rattle.store_rules.proofs.WriteLaws.{beside_then, beside_written, more_written, none_written, then_written}
 use Rattle.change_parts.proofs.Writes.{on_any_err}
 use Rattle.change_parts.specs.Causes.{IsCaused, IsCausedAfter}
-use Rattle.change_parts.proofs.Causes.{absent_caused, broken_left, caused_left, caused_read, line_edge, no_edge, node_of, put_caused}
-use Rattle.change_parts.proofs.Causes.{room_caused}
+use Rattle.change_parts.proofs.Causes.{absent_caused, broken_left, caused_left, caused_read, line_edge, no_edge, node_of, put_caused, room_caused}
 use Rattle.change_parts.proofs.DiskCauses.{change_cause_passed, later_on, room_refusal_cause}
 use Rattle.change_parts.proofs.Adding.{line_blamed, names_harm_no_lists, no_lists_then, room_blamed}
 use Rattle.edge_changes.proofs.FullGroups.{absent_few, edge_caused, few_named, line_few, put_late, room_few, values_few}
@@ -771,8 +770,10 @@ returns-clause-stands g c tells =
     let v = g.S.Reads.state c.put_edge.new.space in
     let w = g.S.Reads.state c.put_properties.new.space in
     let id = c.in_ok-id.id in
-    owner_stands v w id c.args.from c.args.to (subst (LeavesElement v w) c.edge_owner.ensures (c.in_ok-put_properties.ensures.leaves tells))
-    (at_nodes (λ from to. IsEdgeBetween v.records id from to) c.in_ok-ends.ends c.args.from c.args.to c.in_ok-ends.ensures.ends
+    let type = c.in_ok-prepared.prepared.label in
+    owner_stands v w c.prepare.new.names.names id c.args.from type c.args.label.now c.args.to c.in_ok-prepared.ensures.label
+    (subst (LeavesElement v w) c.edge_owner.ensures (c.in_ok-put_properties.ensures.leaves tells))
+    (at_nodes (λ from to. IsEdgeBetween v.records id from type to) c.in_ok-ends.ends c.args.from c.args.to c.in_ok-ends.ensures.ends
     (c.in_ok-id.ensures.stands tells))
 
 pub returns-in_err-ends-clause-stands : goal.returns-in_err-ends-clause-stands

@@ -145,14 +145,14 @@ returns-in_err-join_ends-clause-found g c tells heads =
     (placed_then s t u ends (c.in_ok-id.ensures.lists tells) (c.in_ok-id.ensures.others tells) (c.in_ok-id.ensures.grown tells) heads) fault
     (c.in_err-join_ends.ensures.found tells has c.requires.apart))
 
--- ---- it is in use, and leads from one node to the other
+-- ---- it is in use, leads from one node to the other, and has its type
 pub returns-clause-stands : goal.returns-clause-stands
 returns-clause-stands g c tells =
     let t = g.S.Reads.state c.place.new.space in
     let id = c.in_ok-id.id in
     ends_stand t (g.S.Reads.state c.join_ends.new.space) c.args.ends id c.requires.each (c.in_ok-join_ends.ensures.ok tells) id
-    (source_of c.args.ends).node (target_of c.args.ends).node
-    (subst (λ (p : ℕ × ℕ). IsEdgeBetween t.records id p.0 p.1) c.nodes-from.ensures (c.in_ok-id.ensures.stands tells))
+    (source_of c.args.ends).node c.args.label (target_of c.args.ends).node
+    (subst (λ (p : ℕ × ℕ). IsEdgeBetween t.records id p.0 c.args.label p.1) c.nodes-from.ensures (c.in_ok-id.ensures.stands tells))
 
 pub returns-in_err-id-clause-stands : goal.returns-in_err-id-clause-stands
 returns-in_err-id-clause-stands g c _ = never_ok c.from_residual.result _ _ c.from_residual.ensures.1

@@ -220,7 +220,7 @@ returns-in_err-id-clause-lists g c _ = never_ok c.from_residual.result _ _ c.fro
 pub returns-in_err-save-clause-lists : goal.returns-in_err-save-clause-lists
 returns-in_err-save-clause-lists g c _ = never_ok c.from_residual-in_err-save.result _ _ c.from_residual-in_err-save.ensures.1
 
--- ---- it is in use, and leads from one node to the other
+-- ---- it is in use, leads from one node to the other, and has its type
 pub returns-clause-stands : goal.returns-clause-stands
 returns-clause-stands g c tells =
     let t = g.S.Reads.state c.take_id.new.space in
@@ -231,6 +231,7 @@ returns-clause-stands g c tells =
           (c.in_ok-save.ensures.ok ∙ ap (λ (r : RelRow). after_put t (rel_key r.id) (rel_record r)) c.new_row.ensures)
           (placed_used _ row got);
       from_is = ap (λ (r : RelRow). r.from) got;
+      type_is = ap (λ (r : RelRow). r.label) got;
       to_is = ap (λ (r : RelRow). r.to) got;
     }
 

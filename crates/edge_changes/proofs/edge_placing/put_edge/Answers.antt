@@ -168,7 +168,7 @@ returns-clause-found g c tells used =
     (chain_then s t u (IsOfLost t ends) (c.in_ok-ends.ensures.files tells) keeps damage told))
     (c.join_edge.ensures.found tells has)
 
--- ---- it is in use, and leads from one node to the other
+-- ---- it is in use, leads from one node to the other, and has its type
 pub returns-clause-stands : goal.returns-clause-stands
 returns-clause-stands g c tells =
     let u = g.S.Reads.state c.join_edge.new.space in
@@ -176,8 +176,10 @@ returns-clause-stands g c tells =
     let to = to_of c.args.joint in
     let ends = c.in_ok-ends.ends in
     let nodes = c.in_ok-ends.ensures.nodes in
-    if_ok c.join_edge.result (λ id. IsEdgeBetween u.records id (source_of ends).node (target_of ends).node) (λ id. IsEdgeBetween u.records id from to)
-    (λ id stands. subst (λ n. IsEdgeBetween u.records id n to) nodes.0 (subst (IsEdgeBetween u.records id (source_of ends).node) nodes.1 stands))
+    let label = c.args.joint.label in
+    if_ok c.join_edge.result (λ id. IsEdgeBetween u.records id (source_of ends).node label (target_of ends).node)
+    (λ id. IsEdgeBetween u.records id from label to)
+    (λ id stands. subst (λ n. IsEdgeBetween u.records id n label to) nodes.0 (subst (IsEdgeBetween u.records id (source_of ends).node label) nodes.1 stands))
     (c.join_edge.ensures.stands tells)
 
 pub returns-in_err-ends-clause-stands : goal.returns-in_err-ends-clause-stands

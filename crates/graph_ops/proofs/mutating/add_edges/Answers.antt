@@ -6,14 +6,13 @@ use Rattle.plain_graph.specs.declared.item.Item.{Item}
 use Rattle.graph_ops.specs.Mutating.{IsListCaused, MakesPart, steps_for}
 use Rattle.change_parts.proofs.Exits.{fault_exit}
 use Rattle.plain_graph.specs.Mutations.{changes_of, new_elements}
-use Rattle.plain_graph.proofs.Making.{elements_then}
+use Rattle.graph_ops.proofs.ChangeLeft.{elements_then}
 use Rattle.graph_ops.proofs.Parts.{making_more, next_exit, next_caused, up_to}
 use Rattle.graph_ops.proofs.Spreading.{edges_spread}
 use Rattle.rec_bytes.proofs.Causes.{never_ok, ok_cause}
 use Rattle.rec_bytes.specs.Format as format
 use Rattle.graph_ops.proofs.NewIds.{shows_then}
 use Rattle.graph_ops.proofs.mutating.add_edges.Goals as goal
-use Rattle.store_rules.specs.Graph.{graph_in}
 
 pub returns-in_err-more-clause-refused : goal.returns-in_err-more-clause-refused
 returns-in_err-more-clause-refused g c told store =
@@ -45,11 +44,11 @@ loop-item-preserved g c =
           c.in_ok-more.ensures.part c.add_edge_from.ensures.prefix (g.met.S.Reads.onward_shape _ _ c.add_edge_from.ensures.onward)
           (g.met.S.Reads.further_onward c.args.space.now c.loop-item.space c.add_edge_from.new.space inv.onward_is c.add_edge_from.ensures.onward)
           c.add_edge_from.ensures.cause.later
-          (λ rs ts total a each b.
+          (λ rs ts a each b.
           b ∙ ap (λ (l : List Item). l ++ new_elements (of (item ∷ [])) ts) a
           ∙ append_assoc start (new_elements (of (take i results)) rs) (new_elements (of (item ∷ [])) ts)
           ∙ ap (λ (l : List Item). start ++ l)
-          (sym (elements_then s.shape.limit s.shape.threshold (graph_in s) (graph_in t) (of (take i results)) (of (item ∷ [])) rs ts total each) ∙ ap
+          (sym (elements_then (of (take i results)) (of (item ∷ [])) rs ts s.records t.records c.loop-item.names.names each) ∙ ap
           (λ (cs : List Command). new_elements cs (rs ++ ts)) (sym (up_to of spread results i item item c.loop-item-test.true c.item-item.is))));
       ids = λ tells. shows_then s.records t.records (g.S.Reads.state c.add_edge_from.new.space).records format.relationships_file start c.loop-item.shown.items
           c.add_edge_from.new.shown.items (c.loop-item.invariant.ids tells) (c.in_ok-more.ensures.ids tells);

@@ -1,9 +1,10 @@
-use Rattle.std.proofs.Common.{◌≡◌, ◌∙◌, ◌++◌, ◌∷◌, [], List, inl, refl, rules}
+use Rattle.std.proofs.Common.{◌≡◌, ◌∙◌, ◌++◌, ◌∷◌, [], List, ap, subst, inl, refl, rules}
 use Rattle.graph_ops.specs.Mutating.{IsListCaused, command_from}
 use Rattle.change_parts.proofs.Exits.{fault_exit}
 use Rattle.plain_graph.specs.Reply.{EdgeMade, Reply}
 use Rattle.plain_graph.specs.declared.item.Item.TheVariants as items
 use Rattle.plain_graph.specs.Mutations.{new_elements}
+use Rattle.edge_changes.specs.EdgePlacing.{IsEdgeLabelled}
 use Rattle.graph_ops.proofs.Parts.{one_caused, one_part}
 use Rattle.rec_bytes.proofs.Causes.{never_ok, ok_cause}
 use Rattle.rec_bytes.specs.Format as format
@@ -20,10 +21,14 @@ returns-clause-part g c =
     let old = c.args.shown.now.items in
     let shown : c.show.new.shown.items ≡ old ++ items.Edge id edge.label.now from edge.to ∷ []
     = c.in_ok-show.ensures.shown ∙ (λ i. old ++ items.Edge id (c.in-Ok.ensures i) from edge.to ∷ []) in
+    let t = g.S.Reads.state c.add_edge.new.space in
+    let names = c.add_edge.new.names.names in
     one_part g.S.Reads.tells command (λ (replies : List Reply). c.show.new.shown.items ≡ old ++ new_elements (command ∷ []) replies) (EdgeMade id)
-    c.in_ok-id.field-0.weight (g.S.Reads.state c.args.space.now) (g.S.Reads.state c.add_edge.new.space) c.args.names.now.names c.add_edge.new.names.names
-    made.made made.light
-    made.writes shown
+    c.in_ok-id.field-0.weight (g.S.Reads.state c.args.space.now) t c.args.names.now.names names made.made
+    (λ told. (
+      ap EdgeMade (made.taken told),
+      subst (λ n. IsEdgeLabelled t.records names n from edge.label.now edge.to) (made.taken told) (made.stands told),
+    )) made.light made.writes shown
 
 -- ---- why it is refused, by the space as it is left
 

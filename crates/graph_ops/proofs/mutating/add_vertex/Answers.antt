@@ -1,10 +1,11 @@
-use Rattle.std.proofs.Common.{◌≡◌, ◌∙◌, ◌++◌, ◌∷◌, [], List, inl, rules}
+use Rattle.std.proofs.Common.{◌≡◌, ◌∙◌, ◌++◌, ◌∷◌, [], List, ap, subst, inl, rules}
 use Rattle.graph_ops.specs.Mutating.{IsListCaused}
 use Rattle.change_parts.proofs.Exits.{fault_exit}
 use Rattle.plain_graph.specs.Reply.{NodeMade, Reply}
 use Rattle.plain_graph.specs.declared.command.Command.TheVariants as commands
 use Rattle.plain_graph.specs.declared.item.Item.TheVariants as items
 use Rattle.plain_graph.specs.Mutations.{new_elements}
+use Rattle.node_changes.specs.NodeAdding.{IsNodeLabelled}
 use Rattle.graph_ops.proofs.Parts.{one_caused, one_part}
 use Rattle.rec_bytes.proofs.Causes.{never_ok, ok_cause}
 use Rattle.graph_ops.proofs.mutating.add_vertex.Goals as goal
@@ -16,10 +17,12 @@ returns-clause-part g c =
     let id = c.in_ok-id.field-0.id in
     let old = c.args.shown.now.items in
     let shown : c.show.new.shown.items ≡ old ++ items.Vertex id ∷ [] = c.in_ok-show.ensures.shown in
+    let t = g.S.Reads.state c.add_node.new.space in
+    let names = c.add_node.new.names.names in
     one_part g.S.Reads.tells command (λ (replies : List Reply). c.show.new.shown.items ≡ old ++ new_elements (command ∷ []) replies) (NodeMade id)
-    c.in_ok-id.field-0.weight (g.S.Reads.state c.args.space.now) (g.S.Reads.state c.add_node.new.space) c.args.names.now.names c.add_node.new.names.names
-    made.made made.light
-    made.writes shown
+    c.in_ok-id.field-0.weight (g.S.Reads.state c.args.space.now) t c.args.names.now.names names made.made
+    (λ told. (ap NodeMade (made.taken told), subst (λ n. IsNodeLabelled t.records names n c.args.label.now) (made.taken told) (made.stands told)))
+    made.light made.writes shown
 
 -- ---- why it is refused, by the space as it is left
 

@@ -6,6 +6,7 @@ use Rattle.plain_graph.specs.declared.command.Command.TheVariants as commands
 use Rattle.plain_graph.specs.declared.command.Target.{Target}
 use Rattle.graph_ops.specs.Mutating.{MakesPart, any_replies}
 use Rattle.change_parts.specs.Change.{IsRefusal}
+use Rattle.graph_ops.proofs.ChangeLeft.{on_ok_both}
 use Rattle.graph_ops.proofs.Parts.{one_result}
 use Rattle.graph_ops.proofs.mutating.delete.Goals as goal
 use Rattle.store_rules.specs.Graph.{graph_in}
@@ -17,7 +18,9 @@ returns-in-Node-clause-part g c =
     let names = c.args.names.now.names in
     subst (λ (target : Target). IfOk c.delete_node.result (λ weight. MakesPart g.S.Reads.tells (commands.Delete target ∷ []) any_replies weight s t names
     names)) (sym c.in-Node.is)
-    (one_result c.delete_node.result g.S.Reads.tells _ Done s t names names c.delete_node.ensures.made c.delete_node.ensures.light c.delete_node.ensures.writes)
+    (one_result c.delete_node.result g.S.Reads.tells _ Done s t names names c.delete_node.ensures.made
+    (λ told. on_ok_both c.delete_node.result _ _ (c.delete_node.ensures.lone told) (c.delete_node.ensures.gone told)) c.delete_node.ensures.light
+    c.delete_node.ensures.writes)
 
 pub returns-in-Edge-clause-part : goal.returns-in-Edge-clause-part
 returns-in-Edge-clause-part g c =
@@ -26,7 +29,9 @@ returns-in-Edge-clause-part g c =
     let names = c.args.names.now.names in
     subst (λ (target : Target). IfOk c.delete_edge.result (λ weight. MakesPart g.S.Reads.tells (commands.Delete target ∷ []) any_replies weight s t names
     names)) (sym c.in-Edge.is)
-    (one_result c.delete_edge.result g.S.Reads.tells _ Done s t names names c.delete_edge.ensures.made c.delete_edge.ensures.light c.delete_edge.ensures.writes)
+    (one_result c.delete_edge.result g.S.Reads.tells _ Done s t names names c.delete_edge.ensures.made
+    (λ told. on_ok_both c.delete_edge.result _ _ (c.delete_edge.ensures.there told) (c.delete_edge.ensures.gone told)) c.delete_edge.ensures.light
+    c.delete_edge.ensures.writes)
 
 pub returns-in-Node-clause-caused_after : goal.returns-in-Node-clause-caused_after
 returns-in-Node-clause-caused_after g c tells =

@@ -45,7 +45,7 @@ loop-target-preserved g c =
     (g.S.Reads.faults c.args.space.now) (g.S.Reads.faults c.loop-target.space) (g.S.Reads.faults c.delete.new.space) c.in_ok-both.ensures.sum
     c.in_ok-both.ensures.few inv c.in_ok-more.ensures.part ([], sym (append_none names)) (g.met.S.Reads.onward_shape _ _ c.delete.ensures.onward)
     (g.met.S.Reads.further_onward c.args.space.now c.loop-target.space c.delete.new.space inv.onward_is c.delete.ensures.onward) c.delete.ensures.cause.later
-    (λ rs ts total a each b. tt)
+    (λ rs ts a each b. tt)
 
 -- ---- why it is refused, by the space as it is left
 

@@ -1,4 +1,4 @@
-use Rattle.std.proofs.Common.{◌≡◌, ◌++◌, ◌∷◌, [], List, sym, subst, rules}
+use Rattle.std.proofs.Common.{◌≡◌, ◌++◌, ◌∷◌, [], List, sym, subst, refl, rules}
 use Rattle.std.specs.Prelude.{IfErr}
 use Rattle.plain_graph.specs.Reply.{Reply}
 use Rattle.plain_graph.specs.declared.command.Command.TheVariants as commands
@@ -9,7 +9,8 @@ use Rattle.graph_ops.specs.Mutating.{IsListCaused, IsListRefusal, MakesMutation,
 use Rattle.plain_graph.specs.Mutations.{changes_of, new_elements}
 use Rattle.plain_graph.specs.declared.mutation.Mutation.{Mutation}
 use Rattle.plain_graph.specs.declared.mutation.Mutation.TheVariants as mutations
-use Rattle.graph_ops.proofs.Parts.{drops_made, edges_made, one_refused, values_made, vertex_made}
+use Rattle.graph_ops.specs.ChangeLeft.{LeavesEach, LeavesMutation}
+use Rattle.graph_ops.proofs.Parts.{drops_made, edges_made, one_refused, shown_left, values_made, vertex_made}
 use Rattle.rec_bytes.proofs.Causes.{never_ok}
 use Rattle.rec_bytes.specs.Format as format
 use Rattle.graph_ops.specs.NewIds.{GetsFreeIds}
@@ -192,3 +193,65 @@ returns-in_err-weight-in-Property-clause-ids g c _ =
 
 pub returns-in_err-weight-in-Drop-clause-ids : goal.returns-in_err-weight-in-Drop-clause-ids
 returns-in_err-weight-in-Drop-clause-ids g c _ = never_ok c.from_residual-in_err-weight-in-Drop.result _ _ c.from_residual-in_err-weight-in-Drop.ensures.1
+
+-- ---- what it leaves of the records
+
+pub returns-in_ok-weight-in-AddV-clause-leaves : goal.returns-in_ok-weight-in-AddV-clause-leaves
+returns-in_ok-weight-in-AddV-clause-leaves g c told =
+    let s = g.S.Reads.state c.args.space.now in
+    let t = g.S.Reads.state c.add_vertex.new.space in
+    let shown = c.add_vertex.new.shown.items in
+    let n = c.add_vertex.new.names.names in
+    subst (λ (m : Mutation). LeavesMutation m c.args.items.items shown s.records t.records n) (sym c.in-AddV.is)
+    (shown_left (commands.Node c.in-AddV.label c.in-AddV.pairs ∷ []) shown c.new-vertices.result.items c.in_ok-weight-in-AddV.weight s t c.args.names.now.names n
+    c.new-vertices.ensures.items c.in_ok-weight-in-AddV.ensures.part told)
+
+pub returns-in_ok-weight-in-AddE-clause-leaves : goal.returns-in_ok-weight-in-AddE-clause-leaves
+returns-in_ok-weight-in-AddE-clause-leaves g c told =
+    let s = g.S.Reads.state c.args.space.now in
+    let t = g.S.Reads.state c.add_edges.new.space in
+    let shown = c.add_edges.new.shown.items in
+    let n = c.add_edges.new.names.names in
+    let steps = mutations.AddE c.in-AddE.label c.in-AddE.to c.in-AddE.pairs in
+    let left = shown_left (changes_of steps c.deref.result.now) shown c.new-edges.result.items c.in_ok-weight-in-AddE.weight s t c.args.names.now.names n
+    c.new-edges.ensures.items c.in_ok-weight-in-AddE.ensures.part told in
+    subst (λ (m : Mutation). LeavesMutation m c.args.items.items shown s.records t.records n) (sym c.in-AddE.is)
+    (subst (λ (list : List Item). LeavesMutation steps list shown s.records t.records n) c.deref.ensures.value left)
+
+pub returns-in_ok-weight-in-Property-clause-leaves : goal.returns-in_ok-weight-in-Property-clause-leaves
+returns-in_ok-weight-in-Property-clause-leaves g c told =
+    let s = (g.S.Reads.state c.args.space.now).records in
+    let t = (g.S.Reads.state c.set_each.new.space).records in
+    let n = c.set_each.new.names.names in
+    let results = c.args.items.items in
+    let made = c.in_ok-weight-in-Property.ensures.part.made told in
+    let left = subst (λ (pairs : List Pair). LeavesEach (changes_of (mutations.Property pairs) c.deref-in-Property.result.now) made.0 s t n) c.as_slice.ensures
+    made.2 in
+    let whole = subst (λ (list : List Item). LeavesEach (changes_of (mutations.Property c.in-Property.pairs) list) made.0 s t n)
+    c.deref-in-Property.ensures.value left in
+    subst (λ (m : Mutation). LeavesMutation m results results s t n) (sym c.in-Property.is) (made.0, refl, whole)
+
+pub returns-in_ok-weight-in-Drop-clause-leaves : goal.returns-in_ok-weight-in-Drop-clause-leaves
+returns-in_ok-weight-in-Drop-clause-leaves g c told =
+    let s = (g.S.Reads.state c.args.space.now).records in
+    let t = (g.S.Reads.state c.drop_each.new.space).records in
+    let n = c.args.names.now.names in
+    let shown = c.new.result.items in
+    let made = c.in_ok-weight-in-Drop.ensures.part.made told in
+    subst (λ (m : Mutation). LeavesMutation m c.args.items.items shown s t n) (sym c.in-Drop.is)
+    (made.0, c.new.ensures.items, subst (λ (list : List Item). LeavesEach (changes_of mutations.Drop list) made.0 s t n) c.deref-in-Drop.ensures.value made.2)
+
+pub returns-in_err-weight-in-AddV-clause-leaves : goal.returns-in_err-weight-in-AddV-clause-leaves
+returns-in_err-weight-in-AddV-clause-leaves g c _ = never_ok c.from_residual.result _ _ c.from_residual.ensures.1
+
+pub returns-in_err-weight-in-AddE-clause-leaves : goal.returns-in_err-weight-in-AddE-clause-leaves
+returns-in_err-weight-in-AddE-clause-leaves g c _ =
+    never_ok c.from_residual-in_err-weight-in-AddE.result _ _ c.from_residual-in_err-weight-in-AddE.ensures.1
+
+pub returns-in_err-weight-in-Property-clause-leaves : goal.returns-in_err-weight-in-Property-clause-leaves
+returns-in_err-weight-in-Property-clause-leaves g c _ =
+    never_ok c.from_residual-in_err-weight-in-Property.result _ _ c.from_residual-in_err-weight-in-Property.ensures.1
+
+pub returns-in_err-weight-in-Drop-clause-leaves : goal.returns-in_err-weight-in-Drop-clause-leaves
+returns-in_err-weight-in-Drop-clause-leaves g c _ =
+    never_ok c.from_residual-in_err-weight-in-Drop.result _ _ c.from_residual-in_err-weight-in-Drop.ensures.1

@@ -28,7 +28,7 @@ loop-item-preserved g c =
     (g.S.Reads.faults c.loop-item.space) (g.S.Reads.faults c.set_item.new.space) c.in_ok-both.ensures.sum c.in_ok-both.ensures.few inv
     c.in_ok-more.ensures.part c.set_item.ensures.prefix
     (g.met.S.Reads.onward_shape _ _ c.set_item.ensures.onward) (g.met.S.Reads.further_onward c.args.space.now c.loop-item.space c.set_item.new.space
-    inv.onward_is c.set_item.ensures.onward) c.set_item.ensures.cause.later (λ rs ts total a each b. tt)
+    inv.onward_is c.set_item.ensures.onward) c.set_item.ensures.cause.later (λ rs ts a each b. tt)
 
 -- ---- why it is refused, by the space as it is left
 

@@ -18,9 +18,10 @@ use Rattle.rec_bytes.specs.Space.{State, meta_of}
 use Rattle.rec_bytes.specs.Format as format
 use Rattle.store_rules.specs.Indexes.{AreIndexed, IsIndexed, wanted_in}
 use Rattle.id_freelist.specs.Taking.{taken_id}
-use Rattle.store_rules.specs.Views.{high, key_in}
+use Rattle.store_rules.specs.Views.{Records, high, key_in}
 use Rattle.store_rules.specs.Writes.{WritesAtMost, WritesBeside}
 use Rattle.prop_index.specs.Listing.{pair_of}
+use Rattle.prop_store.specs.Touching.{LeavesElement}
 use Rattle.prop_store.specs.declared.owner.Owner.{Owner}
 use Rattle.change_parts.specs.Assigning.{CanPut, HasPropertyRoom, IsPutCause, PutsPairs, assigned_blocks, pairs_of}
 use Rattle.change_parts.specs.Change.{IsCounted, IsRefusal, MakesChange}
@@ -36,13 +37,11 @@ use Rattle.change_parts.proofs.KeptIndexes.{midway}
 use Rattle.change_parts.proofs.Counted.{outside_counted, room_counted}
 use Rattle.change_parts.proofs.ElementRooms.{room_before, room_still}
 use Rattle.change_parts.proofs.Exits.{exit_is, failure_late, fault_exit, late_leaves, read_leaves}
-use Rattle.change_parts.proofs.KeptLinks.{kind_kept}
 use Rattle.change_parts.proofs.Late.{is_err}
 use Rattle.node_changes.proofs.NodeAdded.{can_put, full_fault, full_refused, line_refused, not_full, put_room, room_kept}
 use Rattle.change_parts.proofs.Reasons.{outside_refused}
 use Rattle.store_rules.proofs.WriteLaws.{beside_then, beside_written, more_written, none_written, then_written}
 use Rattle.change_parts.proofs.Writes.{on_any_err}
-use Rattle.store_rules.specs.Views.{Records}
 use Rattle.change_parts.specs.Causes.{AsksRoom, IsCaused, IsCausedAfter}
 use Rattle.change_parts.proofs.Causes.{broken_left, failure_caused, line_node, put_caused, room_caused}
 use Rattle.node_changes.proofs.EntriesFaults.{entry_caused}
@@ -53,7 +52,8 @@ use Rattle.change_parts.proofs.Adding.{index_beside, line_blamed, lists_before, 
 use Rattle.change_parts.proofs.Adding.{no_lists_then, node_damage, node_harms_no_lists, room_blamed}
 use Rattle.change_parts.proofs.Broken.{blames_both, blames_more}
 use Rattle.change_parts.proofs.DiskCauses.{change_cause_passed, later_on, room_refusal_cause}
-use Rattle.node_changes.proofs.IndexBeside.{index_written, kinds_beside, touched_beside}
+use Rattle.node_changes.proofs.IndexBeside.{index_written, touched_beside}
+use Rattle.node_changes.proofs.NodeStands.{node_stands}
 use Rattle.node_changes.proofs.NodeEntries.{added_made, entries, entries_refused, keys_once, listed, node_low, pairs_then, prepared_read, room_then}
 use Rattle.node_changes.proofs.NodeEntries.{whole_before}
 use Rattle.rec_bytes.proofs.Causes.{never_ok, ok_cause}
@@ -656,22 +656,22 @@ returns-clause-made g c tells whole =
     (not_full s c.args.names.now.names (midway _ _ whole) c.in_ok-test_room.ensures.room) (fits g after tells whole)
     (1 + prepared.weight + 3 * c.entry_count-entries.result) (ap (λ n. 1 + prepared.weight + 3 * n) (many g after tells whole)))
 
--- its properties and entries leave it sparse
 -- the names were given numbers before, and the nodes' meta record stayed
 pub returns-clause-taken : goal.returns-clause-taken
 returns-clause-taken g c tells = c.in_ok-id.ensures.is ∙ ap taken_id (nodes_meta g (goal.at.returns-clause-taken g c).After-listed_pairs tells)
 
-pub returns-clause-sparse : goal.returns-clause-sparse
-returns-clause-sparse g c tells whole =
-    let after = (goal.at.returns-clause-sparse g c).After-enter_values in
+-- its properties and entries leave it so
+pub returns-clause-stands : goal.returns-clause-stands
+returns-clause-stands g c tells =
     let v = g.S.Reads.state c.put_node.new.space in
     let w = g.S.Reads.state c.put_properties.new.space in
     let x = g.S.Reads.state c.enter_values.new.space in
-    let id = c.in_ok-id.id in
-    ap (λ (f : ℕ → ℕ). f id) (kinds_beside w.records x.records (touched_beside _ w x tells c.enter_values.ensures.touches) format.nodes_file refl
-    (λ e. omega arith))
-    ∙ kind_kept v.records w.records (targets.Node id) (put g after tells whole).keeps format.nodes_file
-    (record { no_properties = λ e. omega arith; no_strings = λ e. omega arith }) (λ e. omega arith) id ∙ (put_there g after tells whole).sparse
+    let label = c.in_ok-prepared.prepared.label in (
+      label,
+      c.in_ok-prepared.ensures.label,
+      node_stands v w x c.in_ok-id.id label (subst (LeavesElement v w) c.node_owner.ensures (c.in_ok-put_properties.ensures.leaves tells))
+          (touched_beside _ w x tells c.enter_values.ensures.touches) (c.in_ok-id.ensures.stands tells),
+    )
 
 pub returns-clause-full : goal.returns-clause-full
 returns-clause-full g c whole full = absurd (not_full (g.S.Reads.state c.args.space.now) c.args.names.now.names (midway _ _ whole)
@@ -914,8 +914,8 @@ returns-in_err-test_room-clause-weight g c = never_ok c.from_residual.result _ _
 pub returns-in_err-test_room-clause-unindexed : goal.returns-in_err-test_room-clause-unindexed
 returns-in_err-test_room-clause-unindexed g c _ _ = never_ok c.from_residual.result _ _ c.from_residual.ensures.1
 
-pub returns-in_err-test_room-clause-sparse : goal.returns-in_err-test_room-clause-sparse
-returns-in_err-test_room-clause-sparse g c _ = never_ok c.from_residual.result _ _ c.from_residual.ensures.1
+pub returns-in_err-test_room-clause-stands : goal.returns-in_err-test_room-clause-stands
+returns-in_err-test_room-clause-stands g c _ = never_ok c.from_residual.result _ _ c.from_residual.ensures.1
 
 pub returns-in_err-test_room-clause-light : goal.returns-in_err-test_room-clause-light
 returns-in_err-test_room-clause-light g c = never_ok c.from_residual.result _ _ c.from_residual.ensures.1
@@ -938,8 +938,8 @@ returns-in_err-prepared-clause-weight g c = never_ok c.from_residual-in_err-prep
 pub returns-in_err-prepared-clause-unindexed : goal.returns-in_err-prepared-clause-unindexed
 returns-in_err-prepared-clause-unindexed g c _ _ = never_ok c.from_residual-in_err-prepared.result _ _ c.from_residual-in_err-prepared.ensures.1
 
-pub returns-in_err-prepared-clause-sparse : goal.returns-in_err-prepared-clause-sparse
-returns-in_err-prepared-clause-sparse g c _ = never_ok c.from_residual-in_err-prepared.result _ _ c.from_residual-in_err-prepared.ensures.1
+pub returns-in_err-prepared-clause-stands : goal.returns-in_err-prepared-clause-stands
+returns-in_err-prepared-clause-stands g c _ = never_ok c.from_residual-in_err-prepared.result _ _ c.from_residual-in_err-prepared.ensures.1
 
 pub returns-in_err-prepared-clause-light : goal.returns-in_err-prepared-clause-light
 returns-in_err-prepared-clause-light g c = never_ok c.from_residual-in_err-prepared.result _ _ c.from_residual-in_err-prepared.ensures.1
@@ -959,8 +959,8 @@ returns-in_err-listed-clause-weight g c = never_ok c.from_residual-in_err-listed
 pub returns-in_err-listed-clause-unindexed : goal.returns-in_err-listed-clause-unindexed
 returns-in_err-listed-clause-unindexed g c _ _ = never_ok c.from_residual-in_err-listed.result _ _ c.from_residual-in_err-listed.ensures.1
 
-pub returns-in_err-listed-clause-sparse : goal.returns-in_err-listed-clause-sparse
-returns-in_err-listed-clause-sparse g c _ = never_ok c.from_residual-in_err-listed.result _ _ c.from_residual-in_err-listed.ensures.1
+pub returns-in_err-listed-clause-stands : goal.returns-in_err-listed-clause-stands
+returns-in_err-listed-clause-stands g c _ = never_ok c.from_residual-in_err-listed.result _ _ c.from_residual-in_err-listed.ensures.1
 
 pub returns-in_err-listed-clause-light : goal.returns-in_err-listed-clause-light
 returns-in_err-listed-clause-light g c = never_ok c.from_residual-in_err-listed.result _ _ c.from_residual-in_err-listed.ensures.1
@@ -980,8 +980,8 @@ returns-in_err-test_room-2-clause-weight g c = never_ok c.from_residual-in_err-t
 pub returns-in_err-test_room-2-clause-unindexed : goal.returns-in_err-test_room-2-clause-unindexed
 returns-in_err-test_room-2-clause-unindexed g c _ _ = never_ok c.from_residual-in_err-test_room-2.result _ _ c.from_residual-in_err-test_room-2.ensures.1
 
-pub returns-in_err-test_room-2-clause-sparse : goal.returns-in_err-test_room-2-clause-sparse
-returns-in_err-test_room-2-clause-sparse g c _ = never_ok c.from_residual-in_err-test_room-2.result _ _ c.from_residual-in_err-test_room-2.ensures.1
+pub returns-in_err-test_room-2-clause-stands : goal.returns-in_err-test_room-2-clause-stands
+returns-in_err-test_room-2-clause-stands g c _ = never_ok c.from_residual-in_err-test_room-2.result _ _ c.from_residual-in_err-test_room-2.ensures.1
 
 pub returns-in_err-test_room-2-clause-light : goal.returns-in_err-test_room-2-clause-light
 returns-in_err-test_room-2-clause-light g c = never_ok c.from_residual-in_err-test_room-2.result _ _ c.from_residual-in_err-test_room-2.ensures.1
@@ -1001,8 +1001,8 @@ returns-in_err-id-clause-weight g c = never_ok c.from_residual-in_err-id.result 
 pub returns-in_err-id-clause-unindexed : goal.returns-in_err-id-clause-unindexed
 returns-in_err-id-clause-unindexed g c _ _ = never_ok c.from_residual-in_err-id.result _ _ c.from_residual-in_err-id.ensures.1
 
-pub returns-in_err-id-clause-sparse : goal.returns-in_err-id-clause-sparse
-returns-in_err-id-clause-sparse g c _ = never_ok c.from_residual-in_err-id.result _ _ c.from_residual-in_err-id.ensures.1
+pub returns-in_err-id-clause-stands : goal.returns-in_err-id-clause-stands
+returns-in_err-id-clause-stands g c _ = never_ok c.from_residual-in_err-id.result _ _ c.from_residual-in_err-id.ensures.1
 
 pub returns-in_err-id-clause-light : goal.returns-in_err-id-clause-light
 returns-in_err-id-clause-light g c = never_ok c.from_residual-in_err-id.result _ _ c.from_residual-in_err-id.ensures.1
@@ -1023,8 +1023,8 @@ pub returns-in_err-put_properties-clause-unindexed : goal.returns-in_err-put_pro
 returns-in_err-put_properties-clause-unindexed g c _ _ =
     never_ok c.from_residual-in_err-put_properties.result _ _ c.from_residual-in_err-put_properties.ensures.1
 
-pub returns-in_err-put_properties-clause-sparse : goal.returns-in_err-put_properties-clause-sparse
-returns-in_err-put_properties-clause-sparse g c _ = never_ok c.from_residual-in_err-put_properties.result _ _ c.from_residual-in_err-put_properties.ensures.1
+pub returns-in_err-put_properties-clause-stands : goal.returns-in_err-put_properties-clause-stands
+returns-in_err-put_properties-clause-stands g c _ = never_ok c.from_residual-in_err-put_properties.result _ _ c.from_residual-in_err-put_properties.ensures.1
 
 pub returns-in_err-put_properties-clause-light : goal.returns-in_err-put_properties-clause-light
 returns-in_err-put_properties-clause-light g c = never_ok c.from_residual-in_err-put_properties.result _ _ c.from_residual-in_err-put_properties.ensures.1
@@ -1044,8 +1044,8 @@ returns-in_err-enter_values-clause-weight g c = never_ok c.from_residual-in_err-
 pub returns-in_err-enter_values-clause-unindexed : goal.returns-in_err-enter_values-clause-unindexed
 returns-in_err-enter_values-clause-unindexed g c _ _ = never_ok c.from_residual-in_err-enter_values.result _ _ c.from_residual-in_err-enter_values.ensures.1
 
-pub returns-in_err-enter_values-clause-sparse : goal.returns-in_err-enter_values-clause-sparse
-returns-in_err-enter_values-clause-sparse g c _ = never_ok c.from_residual-in_err-enter_values.result _ _ c.from_residual-in_err-enter_values.ensures.1
+pub returns-in_err-enter_values-clause-stands : goal.returns-in_err-enter_values-clause-stands
+returns-in_err-enter_values-clause-stands g c _ = never_ok c.from_residual-in_err-enter_values.result _ _ c.from_residual-in_err-enter_values.ensures.1
 
 pub returns-in_err-enter_values-clause-light : goal.returns-in_err-enter_values-clause-light
 returns-in_err-enter_values-clause-light g c = never_ok c.from_residual-in_err-enter_values.result _ _ c.from_residual-in_err-enter_values.ensures.1

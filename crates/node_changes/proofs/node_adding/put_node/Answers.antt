@@ -1,20 +1,22 @@
-use Rattle.std.proofs.Common.{◌≡◌, ◌∙◌, ap, refl, inl, inr, ⊎_elim, [], ◌∷◌, rules}
+use Rattle.std.proofs.Common.{◌≡◌, ◌∙◌, ap, subst, refl, inl, inr, ⊎_elim, [], ◌∷◌, rules}
 use Rattle.rec_bytes.specs.Format as format
 use Rattle.rec_bytes.specs.RecordFiles.{meta_key_of}
 use Rattle.rec_bytes.specs.Space.{State, after_put}
 use Rattle.store_rules.specs.Views.{key_in}
 use Rattle.node_store.specs.declared.node_row.NodeRow.{NodeRow}
-use Rattle.node_store.specs.NodeRecord.{node_key, node_record}
+use Rattle.node_store.specs.NodeRecord.{node_key, node_record, row_of}
 use Rattle.prop_store.proofs.BlockSteps.{beside_put}
 use Rattle.change_parts.specs.ChangeFault.{IsOutside, IsFailure, of_space, of_take}
 use Rattle.change_parts.proofs.Exits.{fault_exit, space_fails}
 use Rattle.node_changes.proofs.NodePut.{puts_node}
+use Rattle.node_changes.proofs.NodeStands.{put_stands}
 use Rattle.change_parts.proofs.Takes.{store_can_take, take_fails, take_outside, taken-shape}
 use Rattle.store_rules.proofs.WriteLaws.{among_metas, beside_then, then_written, this_written}
 use Rattle.change_parts.proofs.Writes.{on_any_err, read_exit, record_written, taken_written}
 use Rattle.change_parts.specs.Damage.{BlamesBroken, IfBlames}
 use Rattle.change_parts.proofs.Causes.{take_blamed_still}
 use Rattle.id_freelist.specs.Taking.{IsTakeDamage}
+use Rattle.id_freelist.proofs.ListSteps.{put_is_used}
 use Rattle.node_changes.specs.NodeAdding.{new_row}
 use Rattle.change_parts.proofs.Adding.{space_blamed, take_blamed}
 use Rattle.change_parts.proofs.DiskCauses.{space_cause_passed, later_on}
@@ -140,3 +142,23 @@ returns-in_err-save-clause-writes g c = never_ok c.from_residual-in_err-save.res
 
 pub returns-clause-cause : goal.returns-clause-cause
 returns-clause-cause g c = ok_cause _ _ _ _ (later_on c.in_ok-id.ensures.cause.later c.in_ok-save.ensures.cause.later)
+
+-- ---- it is in use, and has the label
+pub returns-clause-stands : goal.returns-clause-stands
+returns-clause-stands g c tells =
+    let s = g.S.Reads.state c.args.space.now in
+    let t = g.S.Reads.state c.take.new.space in
+    let u = g.S.Reads.state c.save.new.space in
+    let id = c.in_ok-id.id in
+    let took = c.in_ok-id.ensures in
+    let saved = c.in_ok-save.ensures.ok ∙ ap (λ (r : NodeRow). after_put t (node_key r.id) (node_record r)) c.new_row.ensures in
+    let got = subst (λ (r : NodeRow). row_of (u.records (node_key r.id)) r.id ≡ r) c.new_row.ensures c.in_ok-save.ensures.got in
+    put_stands t u id c.args.label saved got
+    (put_is_used s t u format.nodes_file id (node_record (new_row id c.args.label)) refl (took.ok tells) took.is (took.undamaged tells) (took.fresh tells)
+    took.key.id took.small saved)
+
+pub returns-in_err-id-clause-stands : goal.returns-in_err-id-clause-stands
+returns-in_err-id-clause-stands g c _ = never_ok c.from_residual.result _ _ c.from_residual.ensures.1
+
+pub returns-in_err-save-clause-stands : goal.returns-in_err-save-clause-stands
+returns-in_err-save-clause-stands g c _ = never_ok c.from_residual-in_err-save.result _ _ c.from_residual-in_err-save.ensures.1
