@@ -7,15 +7,11 @@ use Rattle.std.proofs.lemmas.List.Folds.{list_all-append, list_all_at, list_all_
 use Rattle.std.specs.Int.{from_bool}
 use Rattle.std.specs.List.{filter, flat_map}
 use Rattle.plain_graph.specs.Graph.{Graph}
-use Rattle.std.specs.FinMap as maps
-use Rattle.plain_graph.specs.Meaning.{is_some_and, passes, properties_of}
-use Rattle.plain_graph.specs.Values.{is_related}
+use Rattle.plain_graph.specs.Meaning.{is_some_and, passes}
 use Rattle.plain_graph.specs.declared.item.Item.{Item}
 use Rattle.node_store.specs.declared.node_row.NodeRow.{NodeRow}
 use Rattle.plain_graph.specs.declared.filter.Filter.{Filter}
 use Rattle.plain_graph.specs.declared.filter.Filter.TheVariants as filters
-use Rattle.plain_graph.specs.declared.filter.Relation.{Relation}
-use Rattle.plain_graph.specs.declared.value.Value.{Value}
 use Rattle.plain_graph.specs.declared.item.Item.TheVariants as items
 use Rattle.store_rules.specs.Rows.{option_list}
 use Rattle.traversal_run.specs.Feeding.{IsCountOf, are_filters, filter_stage, is_filter, passes_rows, passes_stage}
@@ -229,23 +225,6 @@ module _ (p : Item → Bool) (all now rest : List Item) (found : Option Item) (p
 pub count_end : (p : Item → Bool) (all now : List Item) (before so_far : ℕ) → so_far + length (filter p now) ≡ before + length (filter p all) → now ≡ []
     → so_far ≡ before + length (filter p all)
 count_end p all now before so_far same none = let long : length (filter p now) ≡ 0 = ap (λ (list : List Item). length (filter p list)) none in omega arith
-
--- ---- what a filter asks of a value
-
-some_all : {A : Type 0} (found : Option A) → is_some found ≡ is_some_and found (λ value. true)
-some_all None = refl
-some_all (Some value) = refl
-
-pub has_passes : (graph : Graph) (test : Filter) (key : List ℕ) (item : Item) (found : Option Value) → test ≡ filters.Has key
-    → found ≡ maps.get (properties_of graph item) key → is_some found ≡ passes graph test item
-has_passes graph test key item found is has =
-    some_all found ∙ ap (λ (value : Option Value). is_some_and value (λ x. true)) has ∙ ap (λ (f : Filter). passes graph f item) (sym is)
-
-pub value_passes : (graph : Graph) (test : Filter) (key : List ℕ) (relation : Relation) (written : Value) (item : Item) (found : Option Value)
-    → test ≡ filters.HasValue key relation written → found ≡ maps.get (properties_of graph item) key
-    → is_some_and found (λ value. is_related relation value written) ≡ passes graph test item
-value_passes graph test key relation written item found is has =
-    ap (λ (value : Option Value). is_some_and value (λ own. is_related relation own written)) has ∙ ap (λ (f : Filter). passes graph f item) (sym is)
 
 -- ---- filters with the numbers of their names
 

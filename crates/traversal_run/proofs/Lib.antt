@@ -6,6 +6,8 @@ pub mod Broken
 pub mod Causes
 pub mod Codes
 pub mod Counting
+pub mod Deciding
+pub mod Exits
 pub mod Fed
 pub mod FedReads
 pub mod FilterReads

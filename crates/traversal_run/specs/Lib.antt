@@ -9,6 +9,7 @@ pub mod HopRun
 pub mod Hopping
 pub mod KeyValues
 pub mod Kept
+pub mod Lookups
 pub mod Mapping
 pub mod Naming
 pub mod NumberedFilter

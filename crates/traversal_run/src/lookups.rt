@@ -1,4 +1,6 @@
-ghost use Rattle.std.specs.Prelude.{◌≡◌, [], ◌∷◌, IfErr, IfOk};
+ghost use Rattle.std.specs.Prelude.{◌≡◌, ℕ, [], ◌∷◌, IfErr, IfOk, List};
+ghost use Rattle.std.specs.Borrow.{Bor};
+ghost use Rattle.std.specs.Option.{option_map};
 ghost use Rattle.std.specs.List.{list_any};
 ghost use Rattle.plain_graph.specs.Meaning.{label_value, own_rank, passes};
 ghost use Rattle.plain_graph.specs.Values.{is_text};
@@ -6,6 +8,7 @@ ghost use Rattle.store_rules.specs.Graph.{graph_of};
 ghost use Rattle.rec_bytes.specs.Fault.{HasFaultCause};
 ghost use Rattle.prop_store.specs.Fault.{BlamesBroken};
 ghost use Rattle.traversal_run.specs.Elements.{IsRowOf};
+ghost use Rattle.traversal_run.specs.Lookups.{passes_label, passes_value, asked_key};
 ghost use Rattle.traversal_run.specs.Mapping.{distinct_values};
 ghost use Rattle.traversal_run.specs.Reading.{IsNamedStore, IsRead};
 ghost use Rattle.traversal_run.specs.Stage.{rank_in};
@@ -45,33 +48,59 @@ pub(crate) fn passes<R: Reads>(
     ensures read { IsRead R.Reads space.old space.new }
     ensures cause { HasFaultCause (R.faults space.old) (R.faults space.new) result }
 {
-    match &filter.what {
-        Filter::Has(key) => {
-            let name = SoughtName {
-                text: key.as_bytes(),
-                guess: &filter.guess,
-            };
-            let value = value_of(alloc, space, names, &name, item, row)?;
-            Ok(value.is_some())
-        }
+    let Some(key) = asked_key(&filter.what) else {
+        let label = label_of(space, names, item, row)?;
+        return Ok(passes_label(&filter.what, label));
+    };
+    let name = SoughtName {
+        text: key.as_bytes(),
+        guess: &filter.guess,
+    };
+    let value = value_of(alloc, space, names, &name, item, row)?;
+    Ok(passes_value(&filter.what, &value))
+}
+
+/// The key whose value decides whether an item passes a filter, unless its label does.
+fn asked_key(filter: &Filter) -> Option<&Text>
+    ensures { option_map (λ (key : Bor (List ℕ)). key.now) result ≡ asked_key filter.now }
+{
+    match filter {
+        Filter::Has(key) => Some(key),
+        Filter::HasValue { key, .. } => Some(key),
+        Filter::HasLabel(_) => None,
+    }
+}
+
+/// Whether an item with this value of the key passes a filter.
+pub(crate) fn passes_value(filter: &Filter, value: &Option<Value>) -> bool
+    ensures { result ≡ passes_value filter.now value.now }
+{
+    match filter {
+        Filter::Has(_) => value.is_some(),
         Filter::HasValue {
-            key,
             relation,
-            value,
-        } => {
-            let name = SoughtName {
-                text: key.as_bytes(),
-                guess: &filter.guess,
-            };
-            match value_of(alloc, space, names, &name, item, row)? {
-                Some(own) => Ok(is_related(*relation, &own, value)),
-                None => Ok(false),
-            }
-        }
-        Filter::HasLabel(labels) => match label_of(space, names, item, row)? {
-            Some(label) => Ok(is_among(label, labels.as_slice())),
-            None => Ok(false),
+            value: written,
+            ..
+        } => match value {
+            Some(own) => is_related(*relation, own, written),
+            None => false,
         },
+        Filter::HasLabel(_) => false,
+    }
+}
+
+/// Whether an item with this label passes a filter.
+fn passes_label(filter: &Filter, label: Option<&[u8]>) -> bool
+    ensures { result ≡ passes_label filter.now
+        (option_map (λ (text : Bor (List ℕ)). text.now) label.entry) }
+{
+    match filter {
+        Filter::HasLabel(labels) => match label {
+            Some(label) => is_among(label, labels.as_slice()),
+            None => false,
+        },
+        Filter::Has(_) => false,
+        Filter::HasValue { .. } => false,
     }
 }
 

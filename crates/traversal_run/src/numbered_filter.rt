@@ -18,8 +18,8 @@ ghost use Rattle.traversal_run.specs.Reading.{IsNamedStore, IsRead};
 ghost use Rattle.traversal_run.specs.Owing.{filter_reads, numbered_reads};
 ghost use Rattle.prop_store.specs.Reading.{ReadsAtMost};
 
-use crate::comparing::is_related;
 use crate::elements::{label_number, numbered_value};
+use crate::lookups::passes_value;
 use crate::naming::{number_of, numbers_of};
 use crate::row::Row;
 use crate::shown::Shown;
@@ -88,25 +88,15 @@ impl<'a> NumberedFilter<'a> {
         ensures read { IsRead R.Reads space.old space.new }
         ensures cause { HasFaultCause (R.faults space.old) (R.faults space.new) result }
     {
-        let vertex = Shown::vertex(id);
-        match self.filter {
-            Filter::Has(_) => {
-                let value = numbered_value(alloc, space, self.key, vertex.as_item(), row)?;
-                Ok(value.is_some())
-            }
-            Filter::HasValue {
-                relation,
-                value,
-                ..
-            } => match numbered_value(alloc, space, self.key, vertex.as_item(), row)? {
-                Some(own) => Ok(is_related(*relation, &own, value)),
-                None => Ok(false),
-            },
-            Filter::HasLabel(_) => match label_number(space, id, row)? {
+        if let Filter::HasLabel(_) = self.filter {
+            return match label_number(space, id, row)? {
                 Some(label) => Ok(is_among(label, &self.labels)),
                 None => Ok(false),
-            },
+            };
         }
+        let vertex = Shown::vertex(id);
+        let value = numbered_value(alloc, space, self.key, vertex.as_item(), row)?;
+        Ok(passes_value(self.filter, &value))
     }
 }
 

@@ -4,7 +4,7 @@ use Rattle.plain_graph.specs.Meaning.{is_some_and}
 use Rattle.prop_store.specs.Fault.{BlamesBroken}
 use Rattle.prop_store.specs.Reading.{ReadsAtMost}
 use Rattle.rec_bytes.specs.Space.{State}
-use Rattle.rec_bytes.proofs.Causes.{never_ok}
+use Rattle.rec_bytes.proofs.Causes.{never_ok, ok_cause}
 use Rattle.store_rules.specs.Graph.{graph_of}
 use Rattle.store_rules.specs.Rules.{IsWellFormed}
 use Rattle.traversal_run.specs.Finding.{element_at, element_mark}
@@ -12,7 +12,7 @@ use Rattle.traversal_run.specs.NumberedFilter.{IsNumbered, passes_numbered}
 use Rattle.traversal_run.specs.Owing.{vertex_reads}
 use Rattle.traversal_run.specs.Source.{HasNoneBelow, left_of}
 use Rattle.traversal_run.specs.declared.source.Source.{Source}
-use Rattle.traversal_run.proofs.Causes.{cause_passed}
+use Rattle.traversal_run.proofs.Causes.{cause_passed, later_on}
 use Rattle.traversal_run.proofs.Fed.{ended}
 use Rattle.traversal_run.proofs.FedReads.{taken_pays}
 use Rattle.traversal_run.proofs.FilterReads.{spends_vertex}
@@ -155,3 +155,6 @@ returns-in_err-passed-clause-counts g c _ _ _ = never_ok c.from_residual.result 
 
 pub returns-in_err-passed-clause-over : goal.returns-in_err-passed-clause-over
 returns-in_err-passed-clause-over g c = never_ok c.from_residual.result _ _ c.from_residual.ensures.1
+
+pub returns-then-not-add-clause-cause : goal.returns-then-not-add-clause-cause
+returns-then-not-add-clause-cause g c = ok_cause _ _ _ _ (later_on c.loop-id.invariant.read.later c.in_ok-passed.ensures.cause.later)

@@ -9,7 +9,7 @@ use Rattle.traversal_run.specs.declared.stage.Stage.{Stage}
 use Rattle.traversal_run.proofs.Causes.{fault_stop_cause, fault_stop_has, fault_stops}
 use Rattle.traversal_run.proofs.FedReads.{spends_count, spends_source}
 use Rattle.traversal_run.proofs.feeding.feed.Goals.{in-Mapped+in-Neighbours-1, in-Dedup-1, then-fits, else-fits}
-use Rattle.rec_bytes.proofs.Causes.{never_ok}
+use Rattle.rec_bytes.proofs.Causes.{never_ok, ok_cause}
 use Rattle.traversal_run.proofs.feeding.feed.Goals as goal
 use Rattle.traversal_run.proofs.Spending.{spends_err}
 
@@ -180,3 +180,51 @@ returns-then-given-clause-owes g c = λ tells store.
     let counts : is_count c.if-fits.stage ≡ true = elim c.if-fits.branch [ then-fits w ↦ ap is_count w.stage-is | else-fits w ↦ ap is_count w.stage-is ] in
     spends_count s.records c.args.source.now c.count.new.self c.args.stage.now c.if-fits.stage s (g.R.Reads.state c.count.new.space)
     (ap is_count c.in-Count.is) counts c.in_ok-fits.ensures.owes
+
+pub returns-then-source-clause-feeds : goal.returns-then-source-clause-feeds
+returns-then-source-clause-feeds g c = c.in_ok-outs.ensures.feeds
+
+pub returns-then-source-clause-limits : goal.returns-then-source-clause-limits
+returns-then-source-clause-limits g c = c.in_ok-outs.ensures.limits
+
+pub returns-then-source-clause-counts : goal.returns-then-source-clause-counts
+returns-then-source-clause-counts g c = c.in_ok-outs.ensures.counts
+
+pub returns-then-source-clause-hops : goal.returns-then-source-clause-hops
+returns-then-source-clause-hops g c = c.in_ok-outs.ensures.hops
+
+pub returns-then-source-clause-plain : goal.returns-then-source-clause-plain
+returns-then-source-clause-plain g c = c.in_ok-outs.ensures.plain
+
+pub returns-then-source-clause-asks : goal.returns-then-source-clause-asks
+returns-then-source-clause-asks g c = c.in_ok-outs.ensures.asks
+
+pub returns-then-source-clause-few : goal.returns-then-source-clause-few
+returns-then-source-clause-few g c = c.in_ok-outs.ensures.few
+
+pub returns-then-source-clause-owes : goal.returns-then-source-clause-owes
+returns-then-source-clause-owes g c = c.in_ok-outs.ensures.owes
+
+pub returns-then-source-clause-read : goal.returns-then-source-clause-read
+returns-then-source-clause-read g c = c.in_ok-outs.ensures.read
+
+pub returns-then-source-clause-cause : goal.returns-then-source-clause-cause
+returns-then-source-clause-cause g c = ok_cause _ _ _ _ c.in_ok-outs.ensures.cause.later
+
+pub returns-in_err-outs-3-clause-counts : goal.returns-in_err-outs-3-clause-counts
+returns-in_err-outs-3-clause-counts g c =
+    let stays : c.match-stage-2.stage ≡ c.args.stage.now = elim c.match-stage-2.branch
+    [ in-Mapped+in-Neighbours-1 w ↦ search rules | in-Dedup-1 w ↦ w.stage-is ] in
+    c.in_err-outs-3.ensures.counts ∙ ap is_count stays
+
+pub returns-in_err-outs-3-clause-hops : goal.returns-in_err-outs-3-clause-hops
+returns-in_err-outs-3-clause-hops g c =
+    let stays : c.match-stage-2.stage ≡ c.args.stage.now = elim c.match-stage-2.branch
+    [ in-Mapped+in-Neighbours-1 w ↦ search rules | in-Dedup-1 w ↦ w.stage-is ] in
+    c.in_err-outs-3.ensures.hops ∙ ap is_hop stays
+
+pub returns-in_err-outs-3-clause-plain : goal.returns-in_err-outs-3-clause-plain
+returns-in_err-outs-3-clause-plain g c =
+    let stays : c.match-stage-2.stage ≡ c.args.stage.now = elim c.match-stage-2.branch
+    [ in-Mapped+in-Neighbours-1 w ↦ search rules | in-Dedup-1 w ↦ w.stage-is ] in
+    c.in_err-outs-3.ensures.plain ∙ ap is_plain stays

@@ -5,8 +5,8 @@ use Rattle.store_rules.specs.Graph.{graph_of}
 use Rattle.traversal_run.specs.Finding.{element_mark}
 use Rattle.traversal_run.specs.Owing.{Spends, source_owes, stage_reads}
 use Rattle.traversal_run.specs.Source.{GivesFirst, left_of}
-use Rattle.traversal_run.specs.Held.{IsBatch}
-use Rattle.traversal_run.specs.Stage.{Takes}
+use Rattle.traversal_run.specs.Held.{IsBatch, is_hop}
+use Rattle.traversal_run.specs.Stage.{Takes, limit_left}
 use Rattle.traversal_run.proofs.Fed.{feeds_end, feeds_more, feeds_on, limit_stays, none_left}
 use Rattle.traversal_run.proofs.FedReads.{spends_end, spends_next, spends_source, spends_stage}
 use Rattle.traversal_run.proofs.HeldSteps.{few_at, takes_batch}
@@ -14,7 +14,8 @@ use Rattle.traversal_run.proofs.OnlyReads.{is_read-on, named-read}
 use Rattle.traversal_run.proofs.Causes.{cause_passed, later_on}
 use Rattle.std.proofs.lemmas.Result.{err_from_is_err_and}
 use Rattle.prop_store.specs.Fault.{BlamesBroken}
-use Rattle.rec_bytes.proofs.Causes.{never_ok}
+use Rattle.rec_bytes.proofs.Causes.{never_ok, ok_cause}
+use Rattle.traversal_run.proofs.Exits.{few_none, limit_none}
 use Rattle.traversal_run.proofs.feeding.feed_edges.Goals as goal
 use Rattle.traversal_run.proofs.Spending.{spends_err, spends_less, spends_on}
 
@@ -246,3 +247,28 @@ returns-in_err-outs-clause-limits g c = never_ok c.from_residual-in_err-outs.res
 
 pub returns-in_err-outs-clause-few : goal.returns-in_err-outs-clause-few
 returns-in_err-outs-clause-few g c _ _ _ _ _ = never_ok c.from_residual-in_err-outs.result _ _ c.from_residual-in_err-outs.ensures.1
+
+pub returns-then-not-is_empty-clause-cause : goal.returns-then-not-is_empty-clause-cause
+returns-then-not-is_empty-clause-cause g c =
+    ok_cause _ _ _ _ (later_on (later_on c.loop.invariant.read.later c.in_ok-item.ensures.cause.later) c.in_ok-outs.ensures.cause.later)
+
+pub returns-in_default-clause-cause : goal.returns-in_default-clause-cause
+returns-in_default-clause-cause g c = ok_cause _ _ _ _ (later_on c.loop.invariant.read.later c.in_ok-item.ensures.cause.later)
+
+pub returns-then-not-is_empty-clause-limits : goal.returns-then-not-is_empty-clause-limits
+returns-then-not-is_empty-clause-limits g c = c.in_ok-outs.ensures.limits ∙ c.loop.invariant.limits
+
+pub returns-in_default-clause-limits : goal.returns-in_default-clause-limits
+returns-in_default-clause-limits g c = limit_none (limit_left c.loop.stage) c.new.result c.new.ensures ∙ c.loop.invariant.limits
+
+pub returns-in_default-clause-few : goal.returns-in_default-clause-few
+returns-in_default-clause-few g c = λ tells store d degrees plain. few_none d (is_hop c.args.stage.now) c.new.result c.new.ensures
+
+pub returns-then-not-is_empty-clause-counts : goal.returns-then-not-is_empty-clause-counts
+returns-then-not-is_empty-clause-counts g c = c.take.ensures.counts ∙ c.loop.invariant.counts
+
+pub returns-then-not-is_empty-clause-hops : goal.returns-then-not-is_empty-clause-hops
+returns-then-not-is_empty-clause-hops g c = c.take.ensures.hops ∙ c.loop.invariant.hops
+
+pub returns-then-not-is_empty-clause-plain : goal.returns-then-not-is_empty-clause-plain
+returns-then-not-is_empty-clause-plain g c = c.take.ensures.plain ∙ c.loop.invariant.plain

@@ -4,9 +4,9 @@ use Rattle.plain_graph.specs.declared.item.Item.TheVariants as items
 use Rattle.rec_bytes.specs.Space.{State}
 use Rattle.store_rules.specs.Graph.{graph_of}
 use Rattle.traversal_run.specs.Finding.{element_at, element_mark}
-use Rattle.traversal_run.specs.Held.{IsBatch}
+use Rattle.traversal_run.specs.Held.{IsBatch, is_hop}
 use Rattle.traversal_run.specs.Source.{HasNoneBelow, left_of}
-use Rattle.traversal_run.specs.Stage.{Takes}
+use Rattle.traversal_run.specs.Stage.{Takes, limit_left}
 use Rattle.traversal_run.specs.declared.source.Source.{Source}
 use Rattle.traversal_run.proofs.Fed.{ended, feeds_end, feeds_more, feeds_on, feeds_past, gives_none, gives_vertex, limit_stays}
 use Rattle.traversal_run.proofs.HeldSteps.{few_at, takes_batch}
@@ -16,10 +16,12 @@ use Rattle.traversal_run.proofs.OnlyReads.{is_read-on, named-read}
 use Rattle.traversal_run.proofs.Causes.{cause_passed, later_on}
 use Rattle.std.proofs.lemmas.Result.{err_from_is_err_and}
 use Rattle.prop_store.specs.Fault.{BlamesBroken}
-use Rattle.rec_bytes.proofs.Causes.{never_ok}
+use Rattle.rec_bytes.proofs.Causes.{never_ok, ok_cause}
 use Rattle.traversal_run.proofs.HopRuns.{fed_took, feeds_over, feeds_took, ended_none, took_row, took_step}
 use Rattle.traversal_run.specs.Owing.{stage_reads}
 use Rattle.prop_store.specs.Reading.{ReadsAtMost}
+use Rattle.traversal_run.proofs.Exits.{few_none, limit_none}
+use Rattle.traversal_run.specs.Elements.{IsRowOf}
 use Rattle.traversal_run.proofs.feeding.feed_vertices.Goals as goal
 use Rattle.traversal_run.proofs.Spending.{spends_err, spends_on}
 
@@ -330,3 +332,45 @@ returns-clause-hop g c =
     feeds_over space c.args.names.now.names c.args.stage.now c.args.space.now c.args.source.now c.loop-id.stage c.loop-id.space now.left c.end.new.self
     (ap (λ (source : Source). source.edges) c.end.ensures ∙ inv.edges)
     (ended_none now c.end.new.self c.end.ensures) inv.hop
+
+pub returns-then-not-is_empty-clause-cause : goal.returns-then-not-is_empty-clause-cause
+returns-then-not-is_empty-clause-cause g c =
+    ok_cause _ _ _ _ (later_on (later_on c.loop-id.invariant.read.later c.in_ok-row.ensures.cause.later) c.in_ok-outs.ensures.cause.later)
+
+pub returns-clause-cause : goal.returns-clause-cause
+returns-clause-cause g c = ok_cause _ _ _ _ c.loop-id.invariant.read.later
+
+pub returns-then-not-is_empty-clause-limits : goal.returns-then-not-is_empty-clause-limits
+returns-then-not-is_empty-clause-limits g c = c.in_ok-outs.ensures.limits ∙ c.loop-id.invariant.limits
+
+pub returns-clause-limits : goal.returns-clause-limits
+returns-clause-limits g c = limit_none (limit_left c.loop-id.stage) c.new.result c.new.ensures ∙ c.loop-id.invariant.limits
+
+pub returns-clause-few : goal.returns-clause-few
+returns-clause-few g c = λ tells store d degrees plain. few_none d (is_hop c.args.stage.now) c.new.result c.new.ensures
+
+pub returns-then-not-is_empty-clause-counts : goal.returns-then-not-is_empty-clause-counts
+returns-then-not-is_empty-clause-counts g c = c.take.ensures.counts ∙ c.loop-id.invariant.counts
+
+pub returns-then-not-is_empty-clause-hops : goal.returns-then-not-is_empty-clause-hops
+returns-then-not-is_empty-clause-hops g c = c.take.ensures.hops ∙ c.loop-id.invariant.hops
+
+pub returns-then-not-is_empty-clause-plain : goal.returns-then-not-is_empty-clause-plain
+returns-then-not-is_empty-clause-plain g c = c.take.ensures.plain ∙ c.loop-id.invariant.plain
+
+pub returns-in_err-outs-clause-counts : goal.returns-in_err-outs-clause-counts
+returns-in_err-outs-clause-counts g c = c.take.ensures.counts ∙ c.loop-id.invariant.counts
+
+pub returns-in_err-outs-clause-hops : goal.returns-in_err-outs-clause-hops
+returns-in_err-outs-clause-hops g c = c.take.ensures.hops ∙ c.loop-id.invariant.hops
+
+pub returns-in_err-outs-clause-plain : goal.returns-in_err-outs-clause-plain
+returns-in_err-outs-clause-plain g c = c.take.ensures.plain ∙ c.loop-id.invariant.plain
+
+pub take-requires-clause-row : goal.take-requires-clause-row
+take-requires-clause-row g c =
+    subst (λ (item : Item). IsRowOf g.R.Reads.tells (g.R.Reads.state c.vertex_row.new.space).records item c.in_ok-row.row) (sym c.vertex.ensures)
+    c.in_ok-row.ensures.row
+
+pub take-requires-clause-counts : goal.take-requires-clause-counts
+take-requires-clause-counts g c = c.loop-id.invariant.counts ∙ c.requires.counts

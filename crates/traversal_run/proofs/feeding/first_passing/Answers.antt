@@ -1,4 +1,4 @@
-use Rattle.std.proofs.Common.{[], ap, cond, false, refl, subst, sym, ◌∙◌, ◌∷◌}
+use Rattle.std.proofs.Common.{[], ap, cond, false, refl, subst, sym, ◌∙◌, ◌∷◌, List, length, ◌≤◌}
 use Rattle.plain_graph.specs.Meaning.{passes}
 use Rattle.plain_graph.specs.declared.item.Item.{Item}
 use Rattle.plain_graph.specs.declared.item.Item.TheVariants as items
@@ -16,7 +16,8 @@ use Rattle.traversal_run.proofs.OnlyReads.{is_read-on, named-read}
 use Rattle.traversal_run.proofs.Causes.{cause_passed, later_on}
 use Rattle.std.proofs.lemmas.Result.{err_from_is_err_and}
 use Rattle.prop_store.specs.Fault.{BlamesBroken}
-use Rattle.rec_bytes.proofs.Causes.{never_ok}
+use Rattle.rec_bytes.proofs.Causes.{never_ok, ok_cause}
+use Rattle.std.proofs.Math.Nat.{le_refl}
 use Rattle.traversal_run.proofs.feeding.first_passing.Goals as goal
 use Rattle.traversal_run.proofs.Spending.{spends_err, spends_on}
 
@@ -222,3 +223,10 @@ returns-in_err-passed-clause-feeds g c _ _ = never_ok c.from_residual-in_err-pas
 
 pub returns-in_err-passed-clause-few : goal.returns-in_err-passed-clause-few
 returns-in_err-passed-clause-few g c = never_ok c.from_residual-in_err-passed.result _ _ c.from_residual-in_err-passed.ensures.1
+
+pub returns-then-passed-clause-cause : goal.returns-then-passed-clause-cause
+returns-then-passed-clause-cause g c =
+    ok_cause _ _ _ _ (later_on (later_on c.loop-id.invariant.read.later c.in_ok-row.ensures.cause.later) c.in_ok-passed.ensures.cause.later)
+
+pub returns-then-passed-clause-few : goal.returns-then-passed-clause-few
+returns-then-passed-clause-few g c = subst (λ (outs : List Item). length outs ≤ 1) (sym c.one.ensures) (le_refl 1)

@@ -8,6 +8,7 @@ use Rattle.traversal_run.proofs.Causes.{memory_cause}
 use Rattle.rec_bytes.proofs.Causes.{never_ok}
 use Rattle.traversal_run.proofs.HopCosts.{hop_costs}
 use Rattle.prop_store.proofs.ReadCounts.{reads_none}
+use Rattle.traversal_run.proofs.OnlyReads.{is_read-none}
 use Rattle.traversal_run.proofs.hopping.rows_of_types.Goals as goal
 use Rattle.traversal_run.proofs.hopping.rows_of_types.Goals.{else-is_empty-via-else-is_empty, else-is_empty-via-then-is_empty+else-not-is_empty}
 
@@ -79,3 +80,6 @@ pub returns-in_err-numbers-clause-reads : goal.returns-in_err-numbers-clause-rea
 returns-in_err-numbers-clause-reads g c = λ tells store.
     let s = g.R.Reads.state c.args.space.now in
     reads_none (reads_at_vertex s.records c.args.hop.now c.args.id) s
+
+pub returns-then-not-is_empty-clause-read : goal.returns-then-not-is_empty-clause-read
+returns-then-not-is_empty-clause-read g c = is_read-none g.R.Reads g.met.R.Reads.stays_onward c.args.space.now

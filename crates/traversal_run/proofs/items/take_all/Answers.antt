@@ -5,6 +5,7 @@ use Rattle.rec_bytes.proofs.Causes.{never_ok, ok_cause}
 use Rattle.traversal_run.proofs.Causes.{later_on, memory_cause}
 use Rattle.traversal_run.proofs.OnlyReads.{is_read-on}
 use Rattle.prop_store.proofs.Exits.{same_has}
+use Rattle.traversal_run.proofs.Exits.{memory_blames}
 use Rattle.traversal_run.proofs.items.take_all.Goals as goal
 
 pub loop-init : goal.loop-init
@@ -75,3 +76,12 @@ returns-in-Damaged-clause-cause g c =
 
 pub returns-clause-read : goal.returns-clause-read
 returns-clause-read g c = c.loop.invariant.read
+
+pub returns-in-Memory-clause-read : goal.returns-in-Memory-clause-read
+returns-in-Memory-clause-read g c = is_read-on g.R.Reads g.met.R.Reads.further_onward _ _ _ c.loop.invariant.read c.next.ensures.read
+
+pub returns-in-Memory-clause-cause : goal.returns-in-Memory-clause-cause
+returns-in-Memory-clause-cause g c = memory_blames _ _ (later_on c.loop.invariant.read.later c.next.ensures.read.later)
+
+pub returns-clause-cause : goal.returns-clause-cause
+returns-clause-cause g c = memory_blames _ _ c.loop.invariant.read.later

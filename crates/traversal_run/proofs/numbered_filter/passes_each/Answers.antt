@@ -11,6 +11,8 @@ use Rattle.traversal_run.specs.declared.numbered_filter.NumberedFilter.{Numbered
 use Rattle.traversal_run.proofs.FilteredCounts.{fails_one, passes_more}
 use Rattle.traversal_run.proofs.OnlyReads.{is_read-none, is_read-on}
 use Rattle.traversal_run.proofs.StepReads.{numbered_one, numbered_part}
+use Rattle.traversal_run.proofs.Causes.{cause_passed, later_on}
+use Rattle.rec_bytes.proofs.Causes.{ok_cause}
 use Rattle.traversal_run.proofs.numbered_filter.passes_each.Goals as goal
 
 pub returns-then-not-branch-clause-found : goal.returns-then-not-branch-clause-found
@@ -94,3 +96,16 @@ loop-filter-init g c = record {
   reads = λ tells store numbered. reads_none 0 (g.R.Reads.state c.args.space.now);
   read = is_read-none g.R.Reads g.met.R.Reads.stays_onward c.args.space.now;
 }
+
+pub returns-in_err-passes-clause-read : goal.returns-in_err-passes-clause-read
+returns-in_err-passes-clause-read g c = is_read-on g.R.Reads g.met.R.Reads.further_onward _ _ _ c.loop-filter.invariant.read c.in_err-passes.ensures.read
+
+pub returns-then-not-branch-clause-read : goal.returns-then-not-branch-clause-read
+returns-then-not-branch-clause-read g c = is_read-on g.R.Reads g.met.R.Reads.further_onward _ _ _ c.loop-filter.invariant.read c.in_ok-passes.ensures.read
+
+pub returns-then-not-branch-clause-cause : goal.returns-then-not-branch-clause-cause
+returns-then-not-branch-clause-cause g c = ok_cause _ _ _ _ (later_on c.loop-filter.invariant.read.later c.in_ok-passes.ensures.cause.later)
+
+pub returns-in_err-passes-clause-cause : goal.returns-in_err-passes-clause-cause
+returns-in_err-passes-clause-cause g c =
+    cause_passed _ _ _ c.from_residual.result c.in_err-passes.field-0.0 c.loop-filter.invariant.read.later c.in_err-passes.ensures.cause c.from_residual.ensures.1

@@ -1,5 +1,5 @@
 use Rattle.std.proofs.Common.{arith}
-use Rattle.rec_bytes.proofs.Causes.{never_ok}
+use Rattle.rec_bytes.proofs.Causes.{never_ok, ok_cause}
 use Rattle.store_rules.specs.Graph.{graph_of}
 use Rattle.traversal_run.specs.Source.{left_of}
 use Rattle.traversal_run.proofs.Causes.{fault_stop_cause, fault_stop_has, fault_stops}
@@ -7,6 +7,7 @@ use Rattle.traversal_run.proofs.FilteredCounts.{fed_count, fed_count_past, one_c
 use Rattle.traversal_run.specs.Owing.{Spends, rows_owe}
 use Rattle.traversal_run.proofs.OwedRuns.{owe-counted, owe-front, owes-none}
 use Rattle.traversal_run.proofs.Rows.{idle_take}
+use Rattle.traversal_run.proofs.Exits.{past_blames}
 use Rattle.traversal_run.proofs.run.feed_count.Goals as goal
 use Rattle.traversal_run.proofs.Spending.{spends_stop}
 
@@ -89,3 +90,9 @@ returns-in_err-fits-clause-owes g c = λ tells store.
     let spends : Spends s t (rows_owe s.records c.args.source.now rows) 0 = omega (arith, step, within) in
     spends_stop c.from_residual.result _ s t (rows_owe s.records c.args.source.now rows) (rows_owe s.records c.count_passing.new.source rows)
     c.from_residual.ensures.1 spends
+
+pub returns-then-fits-given-clause-cause : goal.returns-then-fits-given-clause-cause
+returns-then-fits-given-clause-cause g c = ok_cause _ _ _ _ c.in_ok-fits.ensures.cause.later
+
+pub returns-else-fits-given-clause-cause : goal.returns-else-fits-given-clause-cause
+returns-else-fits-given-clause-cause g c = past_blames _ _ c.in_ok-fits.ensures.cause.later

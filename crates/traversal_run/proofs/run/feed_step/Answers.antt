@@ -12,12 +12,13 @@ use Rattle.traversal_run.proofs.Fed.{fed, fed_past}
 use Rattle.traversal_run.proofs.HeldRows.{near-fed, plain_at}
 use Rattle.traversal_run.proofs.Limits.{allowed-row, allowed_any}
 use Rattle.traversal_run.proofs.Stops.{may_stop}
-use Rattle.rec_bytes.proofs.Causes.{never_ok}
+use Rattle.rec_bytes.proofs.Causes.{never_ok, ok_cause}
 use Rattle.traversal_run.proofs.Causes.{stop_cause_passed, stop_has}
 use Rattle.traversal_run.proofs.HopRuns.{alone_fed}
 use Rattle.traversal_run.specs.HopRun.{FeedsHop}
 use Rattle.traversal_run.specs.Owing.{Spends, rows_owe}
 use Rattle.traversal_run.proofs.OwedRuns.{owe-fed, owe-head}
+use Rattle.traversal_run.proofs.Rows.{idle_behind}
 use Rattle.traversal_run.proofs.run.feed_step.Goals as goal
 use Rattle.traversal_run.proofs.Spending.{spends_stop}
 
@@ -124,3 +125,9 @@ returns-in_err-outs-clause-owes g c = λ tells store.
     let within = owe-head s.records rows (get_or rows 0 any) any (left_of (graph_of s.records) c.args.source.now) c.requires.some refl c.requires.idle in
     let spends : Spends s t (rows_owe s.records c.args.source.now rows) 0 = omega (arith, step, within) in
     spends_stop c.from_residual.result _ s t (rows_owe s.records c.args.source.now rows) _ c.from_residual.ensures.1 spends
+
+pub put-requires-clause-idle : goal.put-requires-clause-idle
+put-requires-clause-idle g c = idle_behind c.args.rows.now 0 _ c.requires.idle
+
+pub returns-clause-cause : goal.returns-clause-cause
+returns-clause-cause g c = ok_cause _ _ _ _ c.in_ok-outs.ensures.cause.later

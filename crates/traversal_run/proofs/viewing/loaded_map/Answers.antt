@@ -108,3 +108,16 @@ returns-in_err-map-clause-cause g c =
 pub returns-clause-read : goal.returns-clause-read
 returns-clause-read g c =
     is_read-on g.R.Reads g.met.R.Reads.further_onward _ _ _ c.in_ok-label.ensures.read c.in_ok-props.ensures.read
+
+pub returns-clause-at_most : goal.returns-clause-at_most
+returns-clause-at_most g c = subst (λ (w : State). ReadsAtMost (owner_reads c.args.row.now + 736) w (g.R.Reads.state c.read_properties.new.space))
+    (c.in_ok-label.ensures.no_read c.requires.loaded) c.in_ok-props.ensures.at_most
+
+pub returns-in_err-props-clause-at_most : goal.returns-in_err-props-clause-at_most
+returns-in_err-props-clause-at_most g c =
+    subst (λ (w : State). ReadsAtMost (owner_reads c.args.row.now + 736) w (g.R.Reads.state c.read_properties.new.space))
+    (c.in_ok-label.ensures.no_read c.requires.loaded) c.in_err-props.ensures.at_most
+
+pub returns-in_err-map-clause-at_most : goal.returns-in_err-map-clause-at_most
+returns-in_err-map-clause-at_most g c = subst (λ (w : State). ReadsAtMost (owner_reads c.args.row.now + 736) w (g.R.Reads.state c.read_properties.new.space))
+    (c.in_ok-label.ensures.no_read c.requires.loaded) c.in_ok-props.ensures.at_most

@@ -6,9 +6,12 @@ use Rattle.plain_graph.specs.declared.element_map.ElementMap.{ElementMap}
 use Rattle.rec_bytes.specs.Space.{State}
 use Rattle.store_rules.specs.Graph.{graph_of}
 use Rattle.store_rules.specs.Views.{Records}
-use Rattle.traversal_run.proofs.OnlyReads.{named-read}
+use Rattle.traversal_run.proofs.OnlyReads.{named-read, is_read-on}
 use Rattle.traversal_run.proofs.ViewLines.{after_row, after_row-same, map-no_node, on_ok}
 use Rattle.rec_bytes.proofs.Causes.{never_ok, ok_cause}
+use Rattle.traversal_run.proofs.Exits.{reads_first}
+use Rattle.traversal_run.proofs.Broken.{blamed_before}
+use Rattle.std.proofs.lemmas.Result.{IfErr-weaker}
 use Rattle.traversal_run.proofs.viewing.read_map.Goals as goal
 
 pub returns-then-is_none-clause-found : goal.returns-then-is_none-clause-found
@@ -51,3 +54,16 @@ returns-in_err-row-clause-cost g c _ _ = never_ok c.from_residual.result _ _ c.f
 
 pub returns-then-is_none-clause-cause : goal.returns-then-is_none-clause-cause
 returns-then-is_none-clause-cause g c = ok_cause _ _ _ _ c.in_ok-row.ensures.cause.later
+
+pub returns-then-is_none-clause-cost : goal.returns-then-is_none-clause-cost
+returns-then-is_none-clause-cost g c _ _ = reads_first _ (g.R.Reads.state c.args.space.now) (g.R.Reads.state c.vertex_row.new.space) c.in_ok-row.ensures.gets
+
+pub returns-then-is_none-clause-at_most : goal.returns-then-is_none-clause-at_most
+returns-then-is_none-clause-at_most g c = reads_first 736 (g.R.Reads.state c.args.space.now) (g.R.Reads.state c.vertex_row.new.space) c.in_ok-row.ensures.gets
+
+pub returns-clause-read : goal.returns-clause-read
+returns-clause-read g c = is_read-on g.R.Reads g.met.R.Reads.further_onward _ _ _ c.in_ok-row.ensures.read c.loaded_map-2.ensures.read
+
+pub returns-clause-damaged : goal.returns-clause-damaged
+returns-clause-damaged g c tells =
+    IfErr-weaker _ _ _ (blamed_before (g.R.Reads.state c.args.space.now) (g.R.Reads.state c.vertex_row.new.space) c.in_ok-row.ensures.read.same) (c.loaded_map-2.ensures.damaged tells)

@@ -15,6 +15,7 @@ use Rattle.rec_bytes.proofs.Causes.{never_ok, ok_cause}
 use Rattle.prop_store.proofs.Exits.{same_has}
 use Rattle.traversal_run.proofs.Broken.{blamed_before}
 use Rattle.traversal_run.proofs.Causes.{cause_passed, later_on, memory_cause}
+use Rattle.traversal_run.proofs.Exits.{reads_first}
 use Rattle.traversal_run.proofs.viewing.view_edge.Goals as goal
 
 pub returns-in_default-clause-found : goal.returns-in_default-clause-found
@@ -175,3 +176,9 @@ returns-in_err-map-clause-cause g c =
 pub returns-clause-read : goal.returns-clause-read
 returns-clause-read g c =
     is_read-on g.R.Reads g.met.R.Reads.further_onward _ _ _ c.in_ok-row.ensures.read c.in_ok-props.ensures.read
+
+pub returns-in_default-clause-cost : goal.returns-in_default-clause-cost
+returns-in_default-clause-cost g c _ _ = reads_first _ (g.R.Reads.state c.args.space.now) (g.R.Reads.state c.edge_row.new.space) c.in_ok-row.ensures.gets
+
+pub returns-in_default-clause-at_most : goal.returns-in_default-clause-at_most
+returns-in_default-clause-at_most g c = reads_first 736 (g.R.Reads.state c.args.space.now) (g.R.Reads.state c.edge_row.new.space) c.in_ok-row.ensures.gets

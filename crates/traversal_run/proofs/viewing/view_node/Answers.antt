@@ -12,6 +12,7 @@ use Rattle.traversal_run.proofs.OnlyReads.{is_read-on, named-read}
 use Rattle.traversal_run.proofs.ViewLines.{after_row, after_row-same, view-no_node, view-node}
 use Rattle.rec_bytes.proofs.Causes.{never_ok, ok_cause}
 use Rattle.traversal_run.proofs.Causes.{cause_passed, later_on}
+use Rattle.traversal_run.proofs.Exits.{reads_first}
 use Rattle.traversal_run.proofs.viewing.view_node.Goals as goal
 
 pub returns-then-is_none-clause-found : goal.returns-then-is_none-clause-found
@@ -103,3 +104,9 @@ returns-in_err-map-clause-cause g c =
 pub returns-clause-read : goal.returns-clause-read
 returns-clause-read g c =
     is_read-on g.R.Reads g.met.R.Reads.further_onward _ _ _ c.in_ok-row.ensures.read c.in_ok-map.ensures.read
+
+pub returns-then-is_none-clause-cost : goal.returns-then-is_none-clause-cost
+returns-then-is_none-clause-cost g c _ _ = reads_first _ (g.R.Reads.state c.args.space.now) (g.R.Reads.state c.vertex_row.new.space) c.in_ok-row.ensures.gets
+
+pub returns-then-is_none-clause-at_most : goal.returns-then-is_none-clause-at_most
+returns-then-is_none-clause-at_most g c = reads_first 736 (g.R.Reads.state c.args.space.now) (g.R.Reads.state c.vertex_row.new.space) c.in_ok-row.ensures.gets

@@ -6,11 +6,12 @@ use Rattle.traversal_run.specs.declared.stage.Stage.{Stage}
 use Rattle.traversal_run.proofs.Counting.{counts_row, not_count, passes_all}
 use Rattle.traversal_run.proofs.HeldSteps.{few_at, takes_batch}
 use Rattle.traversal_run.proofs.Scans.{limit_taken}
-use Rattle.rec_bytes.proofs.Causes.{never_ok}
+use Rattle.rec_bytes.proofs.Causes.{never_ok, ok_cause}
 use Rattle.traversal_run.proofs.Causes.{fault_stop_cause, fault_stop_has, fault_stops}
 use Rattle.traversal_run.specs.Owing.{Spends, row_owes}
 use Rattle.traversal_run.specs.declared.row.Row.{Row}
 use Rattle.traversal_run.proofs.OwedRows.{count-owes, owe-taken}
+use Rattle.traversal_run.proofs.OnlyReads.{is_read-none}
 use Rattle.traversal_run.proofs.row.Row.advance.Goals as goal
 use Rattle.traversal_run.proofs.Spending.{reads_count, spends_stop}
 
@@ -107,3 +108,12 @@ returns-in_err-outs-in-Some-clause-owes g c = λ tells store coming.
     let read = reads_count _ s t (c.take.ensures.reads tells store) in
     let spends : Spends s t (row_owes s.records row coming) 0 = omega (arith, taken, read) in
     spends_stop c.from_residual.result _ s t (row_owes s.records row coming) (row_owes s.records new coming) c.from_residual.ensures.1 spends
+
+pub returns-then-count_all-clause-read : goal.returns-then-count_all-clause-read
+returns-then-count_all-clause-read g c = is_read-none g.R.Reads g.met.R.Reads.stays_onward c.args.space.now
+
+pub returns-else-count_all-clause-read : goal.returns-else-count_all-clause-read
+returns-else-count_all-clause-read g c = is_read-none g.R.Reads g.met.R.Reads.stays_onward c.args.space.now
+
+pub returns-in_ok-outs-in-Some-clause-cause : goal.returns-in_ok-outs-in-Some-clause-cause
+returns-in_ok-outs-in-Some-clause-cause g c = ok_cause _ _ _ _ c.in_ok-outs-in-Some.ensures.cause.later

@@ -1,4 +1,5 @@
 use Rattle.std.proofs.Common.{◌-◌, not, length, slice_get, ap, sym, ◌∙◌}
+use Rattle.std.specs.Prelude.{IsTrue, false}
 use Rattle.std.specs.List.{list_all}
 use Rattle.traversal_run.specs.Row.{stages_of}
 use Rattle.traversal_run.specs.Source.{is_over}
@@ -7,9 +8,12 @@ use Rattle.traversal_run.specs.declared.row.Row.{Row}
 use Rattle.traversal_run.proofs.Limits.{allowed-zero_ready, spent-no, spent-yes}
 use Rattle.traversal_run.proofs.run.Run.is_spent.Goals as goal
 
+no_truth : {A : Type 0} → IsTrue false → A
+no_truth truth = absurd cc
+
 pub returns-then-not-is_empty : goal.returns-then-not-is_empty
 returns-then-not-is_empty c = (
-  λ no. absurd cc,
+  λ no. no_truth no,
   λ none.
       let run = c.args.self.now in
       let empty = c.is_empty.ensures.no (allowed-zero_ready (is_over run.source.left) (stages_of run.rows.items) run.ready none) in cc,

@@ -1,4 +1,4 @@
-use Rattle.std.proofs.Common.{[], ◌∷◌, ◌++◌, ◌≡◌, ◌<◌, ◌+◌, List, Option, Bool, true, false, get_or, length, set, sym, ap, ◌∙◌, subst, arith}
+use Rattle.std.proofs.Common.{[], ◌∷◌, ◌++◌, ◌≡◌, ◌<◌, ◌+◌, List, Option, None, Some, Bool, true, false, get_or, length, take, set, refl, sym, ap, ◌∙◌, subst, arith}
 use Rattle.std.proofs.lemmas.Result.{err_from_is_err_and}
 use Rattle.std.specs.Option.{IfSome}
 use Rattle.plain_graph.specs.declared.item.Item.{Item}
@@ -13,8 +13,9 @@ use Rattle.traversal_run.specs.declared.row.Row.{Row}
 use Rattle.traversal_run.proofs.Causes.{fault_stop_cause, memory_stop_cause, stop_cause_passed, stop_has, fault_stop_has, fault_stops}
 use Rattle.traversal_run.proofs.HeldRows.{near-sourced, plain_at}
 use Rattle.traversal_run.proofs.HeldSteps.{plain_quiet}
+use Rattle.traversal_run.proofs.Exits.{allowed-sourced, end_blames, idle_none}
 use Rattle.traversal_run.proofs.Places.{written_back}
-use Rattle.traversal_run.proofs.Rows.{ends_at}
+use Rattle.traversal_run.proofs.Rows.{ends_at, idle_drop}
 use Rattle.traversal_run.proofs.Scans.{cut_scan, idle_scan, quiet_scan}
 use Rattle.traversal_run.proofs.Stops.{may_stop}
 use Rattle.rec_bytes.proofs.Causes.{never_ok, ok_cause}
@@ -38,11 +39,18 @@ returns-clause-stops g c = λ tells store.
 clash : (b : Bool) → b ≡ true → b ≡ false → ⊥
 clash b on off = cc
 
+no_item : (item : Item) → Some item ≡ None → ⊥
+no_item item none = cc
+
+not_true : (b : Bool) → (b ≡ true → ⊥) → b ≡ false
+not_true true untrue = absurd (untrue refl)
+not_true false untrue = refl
+
 pub returns-in-Some-clause-near : goal.returns-in-Some-clause-near
 returns-in-Some-clause-near g c = λ tells store d most degrees near.
     let run = c.args.self.now in
     let rows : c.deref_mut.result.now ≡ run.rows.items = c.deref_mut.ensures.value in
-    let back = written_back c.advance_row.new.rows run.rows.items run.rows.len (omega (arith, c.advance_row.auto.rows, ap length rows)) run.rows.ok.0 in
+    let back = written_back c.advance_row.new.rows run.rows.items run.rows.len (c.advance_row.auto.rows ∙ ap length rows) run.rows.ok.0 in
     c.cut.ensures.near d most (subst (λ (rs : List Row). IsNear d most rs c.advance_row.new.ready) (sym back)
     (c.in_ok-advance_row.ensures.near tells store d most degrees (subst (λ (rs : List Row). IsNear d most rs run.ready) (sym rows) near)))
 
@@ -50,7 +58,7 @@ pub returns-in-Some-clause-limit : goal.returns-in-Some-clause-limit
 returns-in-Some-clause-limit g c = λ from most item scan.
     let run = c.args.self.now in
     let rows : c.deref_mut.result.now ≡ run.rows.items = c.deref_mut.ensures.value in
-    let back = written_back c.advance_row.new.rows run.rows.items run.rows.len (omega (arith, c.advance_row.auto.rows, ap length rows)) run.rows.ok.0 in
+    let back = written_back c.advance_row.new.rows run.rows.items run.rows.len (c.advance_row.auto.rows ∙ ap length rows) run.rows.ok.0 in
     let step = c.in_ok-advance_row.ensures.limit (most + 1) item (rows ∙ scan.rows) in
     let lt : c.in-Some.at < 1 = subst (λ (rs : List Row). c.in-Some.at < length rs) (c.deref.ensures.value ∙ scan.rows) c.in-Some.ensures.some.0 in
     (step.2, cut_scan _ c.cut.new.self c.in-Some.at from most item lt scan.source (back ∙ step.0) step.1 c.cut.ensures.either)
@@ -65,7 +73,7 @@ returns-in-Some-2-clause-near g c = λ tells store d most degrees near.
     let run = c.args.self.now in
     let old = c.deref_mut-in-Some-2.result.now in
     let rows : old ≡ run.rows.items = c.deref_mut-in-Some-2.ensures.value in
-    let back = written_back c.put.new.rows run.rows.items run.rows.len (omega (arith, c.put.auto.rows, ap length rows)) run.rows.ok.0 in
+    let back = written_back c.put.new.rows run.rows.items run.rows.len (c.put.auto.rows ∙ ap length rows) run.rows.ok.0 in
     let idle : AreIdle old = subst AreIdle (c.deref.ensures.value ∙ sym rows) c.in_default.ensures.none in
     let before : IsNear d most old [] = subst (λ (rs : List Row). IsNear d most rs []) (sym rows)
     (subst (λ (ready : List Item). IsNear d most run.rows.items ready) c.requires near) in
@@ -81,7 +89,7 @@ returns-in-Some-2-clause-scan g c = λ at most scan.
     let old = c.deref_mut-in-Some-2.result.now in
     let rows : old ≡ run.rows.items = c.deref_mut-in-Some-2.ensures.value in
     let only : old ≡ any ∷ [] = rows ∙ scan.rows in
-    let back = written_back c.put.new.rows run.rows.items run.rows.len (omega (arith, c.put.auto.rows, ap length rows)) run.rows.ok.0 in
+    let back = written_back c.put.new.rows run.rows.items run.rows.len (c.put.auto.rows ∙ ap length rows) run.rows.ok.0 in
     let takes = subst (λ (found : Option Item). IfSome found (λ item. TakesVertex at (space.state c.args.space.now).reads (space.state c.next.new.space).reads
     item c.next.new.self)) c.in-Some-2.is
     (c.in_ok-item.ensures.vertex at scan.source) in
@@ -126,7 +134,7 @@ pub returns-then-is_fed-clause-near : goal.returns-then-is_fed-clause-near
 returns-then-is_fed-clause-near g c = λ tells store d most degrees near.
     let run = c.args.self.now in
     let rows : c.deref_mut-then-is_fed.result.now ≡ run.rows.items = c.deref_mut-then-is_fed.ensures.value in
-    let back = written_back c.feed_rows.new.rows run.rows.items run.rows.len (omega (arith, c.feed_rows.auto.rows, ap length rows)) run.rows.ok.0 in
+    let back = written_back c.feed_rows.new.rows run.rows.items run.rows.len (c.feed_rows.auto.rows ∙ ap length rows) run.rows.ok.0 in
     subst (λ (rs : List Row). IsNear d most rs c.feed_rows.new.ready) (sym back)
     (c.in_ok-feed_rows.ensures.near tells store d most degrees (subst (λ (rs : List Row). IsNear d most rs run.ready) (sym rows) near))
 
@@ -147,7 +155,7 @@ returns-in-Some-clause-same g c = λ tells store.
     let run = c.args.self.now in
     let left = stream (left_of graph run.source) in
     let rows : c.deref_mut.result.now ≡ run.rows.items = c.deref_mut.ensures.value in
-    let back = written_back c.advance_row.new.rows run.rows.items run.rows.len (omega (arith, c.advance_row.auto.rows, ap length rows)) run.rows.ok.0 in
+    let back = written_back c.advance_row.new.rows run.rows.items run.rows.len (c.advance_row.auto.rows ∙ ap length rows) run.rows.ok.0 in
     c.cut.ensures.same graph
     ∙ ap (λ (rs : List Row). with_first c.advance_row.new.ready (through graph rs left)) back
     ∙ c.in_ok-advance_row.ensures.same tells store left
@@ -160,7 +168,7 @@ returns-then-is_fed-clause-allowed g c =
     let over = is_over run.source.left in
     let now = is_over c.feed_rows.new.source.left in
     let rows : c.deref_mut-then-is_fed.result.now ≡ run.rows.items = c.deref_mut-then-is_fed.ensures.value in
-    let back = written_back c.feed_rows.new.rows run.rows.items run.rows.len (omega (arith, c.feed_rows.auto.rows, ap length rows)) run.rows.ok.0 in
+    let back = written_back c.feed_rows.new.rows run.rows.items run.rows.len (c.feed_rows.auto.rows ∙ ap length rows) run.rows.ok.0 in
     ap (λ (rs : List Row). allowed_by now (stages_of rs) (length c.feed_rows.new.ready)) back
     ∙ c.in_ok-feed_rows.ensures.allowed over now
     ∙ ap (λ (rs : List Row). allowed_by over (stages_of rs) 0) rows
@@ -293,7 +301,7 @@ returns-then-is_fed-clause-hop g c = λ alone vertices.
     let rows : c.deref_mut-then-is_fed.result.now ≡ run.rows.items = c.deref_mut-then-is_fed.ensures.value in
     let still : IsHopAlone c.deref_mut-then-is_fed.result.now = record { row = alone.row; is = rows ∙ alone.is; idle = alone.idle; hop = alone.hop } in
     let fed = c.feed_rows.ensures.hop still vertices in
-    let back = written_back c.feed_rows.new.rows run.rows.items run.rows.len (omega (arith, c.feed_rows.auto.rows, ap length rows)) run.rows.ok.0 in
+    let back = written_back c.feed_rows.new.rows run.rows.items run.rows.len (c.feed_rows.auto.rows ∙ ap length rows) run.rows.ok.0 in
     (fed.0, subst IsHopAlone (sym back) (c.in_ok-feed_rows.ensures.hop still vertices).1)
 
 pub returns-in_err-item-clause-hop : goal.returns-in_err-item-clause-hop
@@ -355,7 +363,7 @@ returns-in-Some-clause-allowed g c =
     let run = c.args.self.now in
     let over = is_over run.source.left in
     let rows : c.deref_mut.result.now ≡ run.rows.items = c.deref_mut.ensures.value in
-    let back = written_back c.advance_row.new.rows run.rows.items run.rows.len (omega (arith, c.advance_row.auto.rows, ap length rows)) run.rows.ok.0 in
+    let back = written_back c.advance_row.new.rows run.rows.items run.rows.len (c.advance_row.auto.rows ∙ ap length rows) run.rows.ok.0 in
     c.cut.ensures.allowed
     ∙ ap (λ (rs : List Row). allowed_by over (stages_of rs) (length c.advance_row.new.ready)) back
     ∙ c.in_ok-advance_row.ensures.allowed over
@@ -368,7 +376,7 @@ returns-then-is_fed-clause-same g c = λ tells store.
     let run = c.args.self.now in
     let left = stream (left_of graph run.source) in
     let rows : c.deref_mut-then-is_fed.result.now ≡ run.rows.items = c.deref_mut-then-is_fed.ensures.value in
-    let back = written_back c.feed_rows.new.rows run.rows.items run.rows.len (omega (arith, c.feed_rows.auto.rows, ap length rows)) run.rows.ok.0 in
+    let back = written_back c.feed_rows.new.rows run.rows.items run.rows.len (c.feed_rows.auto.rows ∙ ap length rows) run.rows.ok.0 in
     ap (λ (rs : List Row). with_first c.feed_rows.new.ready (through graph rs (stream (left_of graph c.feed_rows.new.source)))) back
     ∙ c.in_ok-feed_rows.ensures.same tells store
     ∙ ap (λ (rs : List Row). through graph rs left) rows
@@ -401,7 +409,7 @@ returns-in-Some-clause-owes g c = λ tells store.
     let run = c.args.self.now in
     let left = left_of (graph_of records) run.source in
     let rows : c.deref_mut.result.now ≡ run.rows.items = c.deref_mut.ensures.value in
-    let back = written_back c.advance_row.new.rows run.rows.items run.rows.len (omega (arith, c.advance_row.auto.rows, ap length rows)) run.rows.ok.0 in
+    let back = written_back c.advance_row.new.rows run.rows.items run.rows.len (c.advance_row.auto.rows ∙ ap length rows) run.rows.ok.0 in
     let step = c.in_ok-advance_row.ensures.owes tells store left in
     let cut = c.cut.ensures.owes records in
     let before = ap (λ (rs : List Row). steps_owe records rs left) rows in
@@ -425,7 +433,7 @@ returns-then-is_fed-clause-owes g c = λ tells store.
     let records = (g.R.Reads.state c.args.space.now).records in
     let run = c.args.self.now in
     let rows : c.deref_mut-then-is_fed.result.now ≡ run.rows.items = c.deref_mut-then-is_fed.ensures.value in
-    let back = written_back c.feed_rows.new.rows run.rows.items run.rows.len (omega (arith, c.feed_rows.auto.rows, ap length rows)) run.rows.ok.0 in
+    let back = written_back c.feed_rows.new.rows run.rows.items run.rows.len (c.feed_rows.auto.rows ∙ ap length rows) run.rows.ok.0 in
     let step = c.in_ok-feed_rows.ensures.owes tells store in
     let before = ap (λ (rs : List Row). rows_owe records run.source rs) rows in
     let after = ap (λ (rs : List Row). rows_owe records c.feed_rows.new.source rs) back in
@@ -459,7 +467,7 @@ returns-in-Some-2-clause-owes g c = λ tells store.
     let rest = left_of graph c.next.new.self in
     let old = c.deref_mut-in-Some-2.result.now in
     let rows : old ≡ run.rows.items = c.deref_mut-in-Some-2.ensures.value in
-    let back = written_back c.put.new.rows run.rows.items run.rows.len (omega (arith, c.put.auto.rows, ap length rows)) run.rows.ok.0 in
+    let back = written_back c.put.new.rows run.rows.items run.rows.len (c.put.auto.rows ∙ ap length rows) run.rows.ok.0 in
     let gives = subst (λ (found : Option Item). GivesFirst graph run.source found c.next.new.self) c.in-Some-2.is (c.in_ok-item.ensures.first tells store) in
     let outs : c.one-outs.result ≡ c.in-Some-2.item ∷ [] = c.one-outs.ensures in
     let step = c.in_ok-item.ensures.owes in
@@ -479,7 +487,7 @@ returns-in-Some-first_open-clause-owes g c = λ tells store.
     let run = c.args.self.now in
     let old = c.deref_mut-in-Some-first_open.result.now in
     let rows : old ≡ run.rows.items = c.deref_mut-in-Some-first_open.ensures.value in
-    let back = written_back c.finish_row.new.rows run.rows.items run.rows.len (omega (arith, c.finish_row.auto.rows, ap length rows)) run.rows.ok.0 in
+    let back = written_back c.finish_row.new.rows run.rows.items run.rows.len (c.finish_row.auto.rows ∙ ap length rows) run.rows.ok.0 in
     let none = subst (λ (found : Option Item). GivesFirst graph run.source found c.next.new.self) c.in_default-2.is (c.in_ok-item.ensures.first tells store) in
     let step = c.in_ok-item.ensures.owes in
     let now = ap (λ (rs : List Row). steps_owe records rs (left_of graph c.next.new.self)) back in
@@ -503,3 +511,122 @@ pub returns-clause-owes : goal.returns-clause-owes
 returns-clause-owes g c = λ tells store.
     let step = c.in_ok-item.ensures.owes in
     omega (arith, step)
+
+pub returns-in-Some-2-clause-same : goal.returns-in-Some-2-clause-same
+returns-in-Some-2-clause-same g c = λ tells store.
+    let graph = graph_of (g.R.Reads.state c.args.space.now).records in
+    let run = c.args.self.now in
+    let left = stream (left_of graph run.source) in
+    let rest = left_of graph c.next.new.self in
+    let old = c.deref_mut-in-Some-2.result.now in
+    let rows : old ≡ run.rows.items = c.deref_mut-in-Some-2.ensures.value in
+    let back = written_back c.put.new.rows run.rows.items run.rows.len (c.put.auto.rows ∙ ap length rows) run.rows.ok.0 in
+    let gives = subst (λ (found : Option Item). GivesFirst graph run.source found c.next.new.self) c.in-Some-2.is (c.in_ok-item.ensures.first tells store) in
+    let outs : c.one-outs.result ≡ c.in-Some-2.item ∷ [] = c.one-outs.ensures in
+    ap (λ (rs : List Row). with_first c.put.new.ready (through graph rs (stream rest))) (back ∙ sym (all-left c.put.new.rows))
+    ∙ c.put.ensures.later graph (stream rest)
+    ∙ ap (λ (rs : List Row). through graph rs (with_first c.one-outs.result (stream rest))) (all-left old ∙ rows)
+    ∙ ap (λ (list : List Item). through graph run.rows.items (with_first list (stream rest))) outs
+    ∙ ap (λ (list : List Item). through graph run.rows.items (stream list)) (sym gives)
+    ∙ ap (λ (ready : List Item). with_first ready (through graph run.rows.items left)) (sym c.requires)
+
+pub returns-in-Some-first_open-clause-same : goal.returns-in-Some-first_open-clause-same
+returns-in-Some-first_open-clause-same g c = λ tells store.
+    let graph = graph_of (g.R.Reads.state c.args.space.now).records in
+    let run = c.args.self.now in
+    let left = stream (left_of graph run.source) in
+    let old = c.deref_mut-in-Some-first_open.result.now in
+    let rows : old ≡ run.rows.items = c.deref_mut-in-Some-first_open.ensures.value in
+    let back = written_back c.finish_row.new.rows run.rows.items run.rows.len (c.finish_row.auto.rows ∙ ap length rows) run.rows.ok.0 in
+    let none = subst (λ (found : Option Item). GivesFirst graph run.source found c.next.new.self) c.in_default-2.is (c.in_ok-item.ensures.first tells store) in
+    ap (λ (rs : List Row). with_first c.finish_row.new.ready (through graph rs (stream (left_of graph c.next.new.self)))) back
+    ∙ ap (λ (list : List Item). with_first c.finish_row.new.ready (through graph c.finish_row.new.rows (stream list))) none.1
+    ∙ c.in_ok-finish_row.ensures.same graph
+    ∙ ap (λ (rs : List Row). through graph rs (stream [])) rows
+    ∙ ap (λ (list : List Item). through graph run.rows.items (stream list)) (sym none.0)
+    ∙ ap (λ (ready : List Item). with_first ready (through graph run.rows.items left)) (sym c.requires)
+
+pub returns-in-Some-2-clause-allowed : goal.returns-in-Some-2-clause-allowed
+returns-in-Some-2-clause-allowed g c =
+    let run = c.args.self.now in
+    let over = is_over run.source.left in
+    let old = c.deref_mut-in-Some-2.result.now in
+    let rows : old ≡ run.rows.items = c.deref_mut-in-Some-2.ensures.value in
+    let back = written_back c.put.new.rows run.rows.items run.rows.len (c.put.auto.rows ∙ ap length rows) run.rows.ok.0 in
+    let going : over ≡ false = not_true over (λ ended. no_item c.in-Some-2.item (sym c.in-Some-2.is ∙ c.in_ok-item.ensures.none ended)) in
+    ap (λ (rs : List Row). allowed_by (is_over c.next.new.self.left) (stages_of rs) (length c.put.new.ready)) back
+    ∙ ap (λ (b : Bool). allowed_by b (stages_of c.put.new.rows) (length c.put.new.ready)) c.next.ensures.over
+    ∙ allowed-sourced over old c.put.new.rows c.put.new.ready c.put.ensures.stages going c.put.ensures.passed
+    ∙ ap (λ (rs : List Row). allowed_by over (stages_of rs) 0) rows
+    ∙ ap (λ (ready : List Item). allowed_by over (stages_of run.rows.items) (length ready)) (sym c.requires)
+
+pub returns-in-Some-first_open-clause-allowed : goal.returns-in-Some-first_open-clause-allowed
+returns-in-Some-first_open-clause-allowed g c =
+    let run = c.args.self.now in
+    let over = is_over run.source.left in
+    let rows : c.deref_mut-in-Some-first_open.result.now ≡ run.rows.items = c.deref_mut-in-Some-first_open.ensures.value in
+    let back = written_back c.finish_row.new.rows run.rows.items run.rows.len (c.finish_row.auto.rows ∙ ap length rows) run.rows.ok.0 in
+    ap (λ (rs : List Row). allowed_by (is_over c.next.new.self.left) (stages_of rs) (length c.finish_row.new.ready)) back
+    ∙ ap (λ (b : Bool). allowed_by b (stages_of c.finish_row.new.rows) (length c.finish_row.new.ready)) c.next.ensures.over
+    ∙ c.in_ok-finish_row.ensures.allowed over
+    ∙ ap (λ (rs : List Row). allowed_by over (stages_of rs) 0) rows
+    ∙ ap (λ (ready : List Item). allowed_by over (stages_of run.rows.items) (length ready)) (sym c.requires)
+
+pub returns-in_err-feed_rows-clause-stops : goal.returns-in_err-feed_rows-clause-stops
+returns-in_err-feed_rows-clause-stops g c = λ tells store.
+    let graph = graph_of (g.R.Reads.state c.args.space.now).records in
+    let run = c.args.self.now in
+    let left = stream (left_of graph run.source) in
+    let rows : c.deref_mut-then-is_fed.result.now ≡ run.rows.items = c.deref_mut-then-is_fed.ensures.value in
+    let p = err_from_is_err_and c.from_residual-in_err-feed_rows.result c.from_residual-in_err-feed_rows.ensures.1 in
+    rw (p.1, p.2) (may_stop ⊥ ((through graph c.deref_mut-then-is_fed.result.now left).past ≡ true) (to_come graph run ≡ stream [])
+    ((to_come graph run).past ≡ true) c.in_err-feed_rows.field-0.0 (λ none. absurd none)
+    (λ past. subst (λ (rs : List Row). (through graph rs left).past ≡ true) rows past) (c.in_err-feed_rows.ensures.stops tells store))
+
+pub returns-clause-cause : goal.returns-clause-cause
+returns-clause-cause g c = end_blames _ _ c.in_ok-item.ensures.cause.later
+
+pub returns-then-is_fed-clause-scan : goal.returns-then-is_fed-clause-scan
+returns-then-is_fed-clause-scan g c = λ at most scan.
+    absurd (clash c.is_fed.result c.if-is_fed.true (c.is_fed.ensures.limit most [] (c.deref-then-not-is_over.ensures.value ∙ scan.rows)))
+
+pub returns-then-is_fed-clause-limit : goal.returns-then-is_fed-clause-limit
+returns-then-is_fed-clause-limit g c = λ from most item scan.
+    absurd (clash c.is_fed.result c.if-is_fed.true (c.is_fed.ensures.limit (most + 1) (item ∷ []) (c.deref-then-not-is_over.ensures.value ∙ scan.rows)))
+
+pub returns-in-Some-2-clause-limit : goal.returns-in-Some-2-clause-limit
+returns-in-Some-2-clause-limit g c = λ from most item scan.
+    absurd (idle_none c.deref.result.now (most + 1) item (c.deref.ensures.value ∙ scan.rows) c.in_default.ensures.none)
+
+pub returns-in-Some-first_open-clause-limit : goal.returns-in-Some-first_open-clause-limit
+returns-in-Some-first_open-clause-limit g c = λ from most item scan.
+    absurd (idle_none c.deref.result.now (most + 1) item (c.deref.ensures.value ∙ scan.rows) c.in_default.ensures.none)
+
+pub returns-in-Some-2-clause-hop : goal.returns-in-Some-2-clause-hop
+returns-in-Some-2-clause-hop g c = λ alone vertices.
+    let over : is_over c.args.self.now.source.left ≡ true = elim c.else-not-is_over.branch [
+      | else-not-is_over-via-then-not-is_over+else-is_fed w ↦
+          absurd (clash w.is_fed.result (w.is_fed.ensures.hop (record {
+            row = alone.row;
+            is = w.deref-then-not-is_over.ensures.value ∙ alone.is;
+            idle =
+                alone.idle;
+            hop = alone.hop;
+          })) w.if-is_fed.false)
+      | else-not-is_over-via-else-not-is_over w ↦ sym c.is_over.ensures ∙ w.if-not-is_over.false
+    ] in
+    absurd (no_item c.in-Some-2.item (sym c.in-Some-2.is ∙ c.in_ok-item.ensures.none over))
+
+pub finish_row-requires-clause-quiet : goal.finish_row-requires-clause-quiet
+finish_row-requires-clause-quiet g c = subst (λ (rs : List Row). AreQuiet (take c.in-Some-first_open.at rs))
+    (c.deref-2.ensures.value ∙ sym c.deref_mut-in-Some-first_open.ensures.value) c.in-Some-first_open.ensures.some.1
+
+pub finish_row-requires-clause-idle : goal.finish_row-requires-clause-idle
+finish_row-requires-clause-idle g c = subst AreIdle (c.deref.ensures.value ∙ sym c.deref_mut-in-Some-first_open.ensures.value) c.in_default.ensures.none
+
+pub feed_rows-requires-clause-idle : goal.feed_rows-requires-clause-idle
+feed_rows-requires-clause-idle g c = subst AreIdle (c.deref.ensures.value ∙ sym c.deref_mut-then-is_fed.ensures.value) c.in_default.ensures.none
+
+pub put-requires-clause-idle : goal.put-requires-clause-idle
+put-requires-clause-idle g c = idle_drop c.deref_mut-in-Some-2.result.now 0
+    (subst AreIdle (c.deref.ensures.value ∙ sym c.deref_mut-in-Some-2.ensures.value) c.in_default.ensures.none)

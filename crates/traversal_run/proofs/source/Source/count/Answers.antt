@@ -10,7 +10,8 @@ use Rattle.traversal_run.proofs.Fed.{counts_end, counts_on, counts_passes}
 use Rattle.traversal_run.proofs.LeftRows.{left-none, left-takes}
 use Rattle.traversal_run.proofs.StepReads.{at_mark}
 use Rattle.traversal_run.proofs.OnlyReads.{is_read-on}
-use Rattle.rec_bytes.proofs.Causes.{never_ok}
+use Rattle.rec_bytes.proofs.Causes.{never_ok, ok_cause}
+use Rattle.traversal_run.proofs.Causes.{later_on}
 use Rattle.traversal_run.proofs.source.Source.count.Goals as goal
 use Rattle.traversal_run.proofs.Spending.{spends_stop}
 
@@ -90,3 +91,9 @@ returns-in_err-used-clause-owes g c =
     let before = c.loop-id.invariant.spent in
     let mark = ap (λ (k : ℕ). left_count k c.args.self.now.left) c.loop-id.invariant.mark in
     spends_stop c.from_residual.result _ s (g.R.Reads.state c.is_in_use.new.space) _ _ c.from_residual.ensures.1 (omega (arith, one, fewer, before, mark))
+
+pub returns-then-not-add-clause-read : goal.returns-then-not-add-clause-read
+returns-then-not-add-clause-read g c = is_read-on g.R.Reads g.met.R.Reads.further_onward _ _ _ c.loop-id.invariant.read c.in_ok-used.ensures.read
+
+pub returns-then-not-add-clause-cause : goal.returns-then-not-add-clause-cause
+returns-then-not-add-clause-cause g c = ok_cause _ _ _ _ (later_on c.loop-id.invariant.read.later c.in_ok-used.ensures.cause.later)

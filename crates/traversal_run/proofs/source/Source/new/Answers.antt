@@ -3,6 +3,7 @@ use Rattle.std.specs.List.{list_any}
 use Rattle.plain_graph.specs.Meaning.{source_of}
 use Rattle.plain_graph.specs.declared.query.Source.{Source as Asked}
 use Rattle.plain_graph.specs.declared.query.Source.TheVariants as sources
+use Rattle.plain_graph.specs.declared.value.Value.{Value}
 use Rattle.store_rules.specs.Graph.{graph_of}
 use Rattle.traversal_run.specs.Finding.{element_mark}
 use Rattle.traversal_run.specs.FoundNodes.{ReadsToBegin}
@@ -12,6 +13,7 @@ use Rattle.traversal_run.proofs.FoundSources.{found-left}
 use Rattle.traversal_run.proofs.StepReads.{edges_few, found_few, vertices_few}
 use Rattle.rec_bytes.proofs.Causes.{never_ok}
 use Rattle.traversal_run.proofs.HopRuns.{one_asked}
+use Rattle.traversal_run.proofs.OnlyReads.{is_read-none}
 use Rattle.traversal_run.proofs.source.Source.new.Goals as goal
 
 pub returns-in_err-nodes-in-Found-clause-cost : goal.returns-in_err-nodes-in-Found-clause-cost
@@ -98,6 +100,12 @@ returns-in_err-left-in-Found-clause-over g c = never_ok c.from_residual-in_err-l
 pub returns-in_err-left-in-Found-clause-there : goal.returns-in_err-left-in-Found-clause-there
 returns-in_err-left-in-Found-clause-there g c _ _ = never_ok c.from_residual-in_err-left-in-Found.result _ _ c.from_residual-in_err-left-in-Found.ensures.1
 
+no_edges : (ids list : List ℕ) → sources.Vertices ids ≡ sources.Edges list → ⊥
+no_edges ids list e = cc
+
+no_found : (ids label key : List ℕ) (value : Value) → sources.Vertices ids ≡ sources.Found label key value → ⊥
+no_found ids label key value e = cc
+
 ids_are : (asked : Asked) (ids list : List ℕ) → asked ≡ sources.Vertices ids → asked ≡ sources.Vertices list → ids ≡ list
 ids_are asked ids list one two = cc
 
@@ -109,10 +117,10 @@ returns-in_ok-left-in-Vertices-clause-one g c = λ id is. (
 )
 
 pub returns-in_ok-left-in-Edges-clause-one : goal.returns-in_ok-left-in-Edges-clause-one
-returns-in_ok-left-in-Edges-clause-one g c = λ id is. absurd (let e = sym is ∙ c.in-Edges.is in cc)
+returns-in_ok-left-in-Edges-clause-one g c = λ id is. absurd (no_edges (id ∷ []) c.in-Edges.ids (sym is ∙ c.in-Edges.is))
 
 pub returns-in_ok-left-in-Found-clause-one : goal.returns-in_ok-left-in-Found-clause-one
-returns-in_ok-left-in-Found-clause-one g c = λ id is. absurd (let e = sym is ∙ c.in-Found.is in cc)
+returns-in_ok-left-in-Found-clause-one g c = λ id is. absurd (no_found (id ∷ []) c.in-Found.label c.in-Found.key c.in-Found.value (sym is ∙ c.in-Found.is))
 
 pub returns-in_err-left-in-Vertices-clause-one : goal.returns-in_err-left-in-Vertices-clause-one
 returns-in_err-left-in-Vertices-clause-one g c _ _ = never_ok c.from_residual.result _ _ c.from_residual.ensures.1
@@ -162,3 +170,9 @@ returns-in_err-nodes-in-Found-clause-owes g c _ _ = never_ok c.from_residual-in_
 
 pub returns-in_err-left-in-Found-clause-owes : goal.returns-in_err-left-in-Found-clause-owes
 returns-in_err-left-in-Found-clause-owes g c _ _ = never_ok c.from_residual-in_err-left-in-Found.result _ _ c.from_residual-in_err-left-in-Found.ensures.1
+
+pub returns-in_ok-left-in-Vertices-clause-read : goal.returns-in_ok-left-in-Vertices-clause-read
+returns-in_ok-left-in-Vertices-clause-read g c = is_read-none g.R.Reads g.met.R.Reads.stays_onward c.args.space.now
+
+pub returns-in_ok-left-in-Edges-clause-read : goal.returns-in_ok-left-in-Edges-clause-read
+returns-in_ok-left-in-Edges-clause-read g c = is_read-none g.R.Reads g.met.R.Reads.stays_onward c.args.space.now

@@ -1,4 +1,4 @@
-use Rattle.std.proofs.Common.{◌≡◌, ◌++◌, ◌+◌, ℕ, false, ap, sym, ◌∙◌, subst, arith}
+use Rattle.std.proofs.Common.{None, Some, ◌≡◌, ◌++◌, ◌+◌, ℕ, false, ap, sym, ◌∙◌, subst, arith}
 use Rattle.std.proofs.lemmas.Result.{err_from_is_err_and}
 use Rattle.rec_bytes.specs.Space.{State}
 use Rattle.store_rules.specs.Graph.{graph_of}
@@ -12,10 +12,13 @@ use Rattle.traversal_run.proofs.LeftRows.{gives-later, gives-some, left-none, le
 use Rattle.traversal_run.proofs.OnlyReads.{is_read-on, named-read}
 use Rattle.traversal_run.proofs.Scans.{scan_found}
 use Rattle.traversal_run.proofs.StepReads.{at_mark}
-use Rattle.traversal_run.proofs.Causes.{cause_passed}
-use Rattle.rec_bytes.proofs.Causes.{never_ok}
+use Rattle.traversal_run.proofs.Causes.{cause_passed, later_on}
+use Rattle.rec_bytes.proofs.Causes.{never_ok, ok_cause}
 use Rattle.traversal_run.proofs.source.Source.next.Goals as goal
 use Rattle.traversal_run.proofs.Spending.{spends_stop}
+
+no_id : (id : ℕ) → Some id ≡ None → ⊥
+no_id id none = cc
 
 pub returns-then-is_some-clause-vertex : goal.returns-then-is_some-clause-vertex
 returns-then-is_some-clause-vertex g c = λ at is.
@@ -59,7 +62,7 @@ loop-id-preserved g c =
           (takes ∙ ap (λ found. option_list found ++ left_of (graph_of s.records) new) (sym item));
       edges = c.loop-id.invariant.edges;
       over = c.take_first.ensures.over ∙ c.loop-id.invariant.over;
-      unread = λ over. absurd (let none = sym c.in-Some.is ∙ c.take_first.ensures.nothing (c.loop-id.invariant.over ∙ over) in cc);
+      unread = λ over. absurd (no_id c.in-Some.id (sym c.in-Some.is ∙ c.take_first.ensures.nothing (c.loop-id.invariant.over ∙ over)));
       vertex = λ at is.
           let v = c.loop-id.invariant.vertex at is in
           let take = c.in-Some.ensures.from v.0 v.2 in
@@ -106,11 +109,11 @@ returns-in_err-item-clause-none g c _ = never_ok c.from_residual.result _ _ c.fr
 
 pub returns-then-is_some-clause-unread : goal.returns-then-is_some-clause-unread
 returns-then-is_some-clause-unread g c =
-    λ over. absurd (let none = sym c.in-Some.is ∙ c.take_first.ensures.nothing (c.loop-id.invariant.over ∙ over) in cc)
+    λ over. absurd (no_id c.in-Some.id (sym c.in-Some.is ∙ c.take_first.ensures.nothing (c.loop-id.invariant.over ∙ over)))
 
 pub returns-in_err-item-clause-unread : goal.returns-in_err-item-clause-unread
 returns-in_err-item-clause-unread g c =
-    λ over. absurd (let none = sym c.in-Some.is ∙ c.take_first.ensures.nothing (c.loop-id.invariant.over ∙ over) in cc)
+    λ over. absurd (no_id c.in-Some.id (sym c.in-Some.is ∙ c.take_first.ensures.nothing (c.loop-id.invariant.over ∙ over)))
 
 pub returns-then-is_some-clause-owes : goal.returns-then-is_some-clause-owes
 returns-then-is_some-clause-owes g c =
@@ -141,3 +144,12 @@ returns-in_err-item-clause-owes g c =
     let before = c.loop-id.invariant.spent in
     let mark = ap (λ (k : ℕ). left_count k c.args.self.now.left) c.requires in
     spends_stop c.from_residual.result _ s (g.R.Reads.state c.element_at.new.space) _ _ c.from_residual.ensures.1 (omega (arith, one, fewer, before, mark))
+
+pub returns-then-is_some-clause-read : goal.returns-then-is_some-clause-read
+returns-then-is_some-clause-read g c = is_read-on g.R.Reads g.met.R.Reads.further_onward _ _ _ c.loop-id.invariant.read c.in_ok-item.ensures.read
+
+pub returns-then-is_some-clause-cause : goal.returns-then-is_some-clause-cause
+returns-then-is_some-clause-cause g c = ok_cause _ _ _ _ (later_on c.loop-id.invariant.read.later c.in_ok-item.ensures.cause.later)
+
+pub returns-in_err-item-clause-read : goal.returns-in_err-item-clause-read
+returns-in_err-item-clause-read g c = is_read-on g.R.Reads g.met.R.Reads.further_onward _ _ _ c.loop-id.invariant.read c.in_err-item.ensures.read
