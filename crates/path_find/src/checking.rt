@@ -42,6 +42,10 @@ struct Claim<'a> {
 
 /// Whether the levels prove that no walk that is sought is shorter, or where no walk is given, that
 /// there is none.
+///
+/// It costs what `expand` reads at each node of the walk but the last, and once more at each node
+/// of the levels that is nearer than the target, or at each of them where no walk is given. The
+/// others cost a read each.
 pub fn check_levels<R: Reads>(
     alloc: Global,
     reads: &mut R,

@@ -29,6 +29,9 @@ use std::alloc::{AllocError, Global};
 /// numbers, or of all types where none is given. Of the shortest walks it is the one whose list of
 /// identifiers is least; it is empty where there is none. The levels hold the nodes that no more
 /// edges reach, or without a walk all that any number of edges reaches.
+///
+/// It costs a read for each of the two nodes, and what `expand` reads at each node that is nearer
+/// than the target, once.
 pub fn find_path<R: Reads>(
     alloc: Global,
     reads: &mut R,

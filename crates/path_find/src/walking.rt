@@ -21,6 +21,11 @@ use std::alloc::Global;
 
 /// The walk that `find_path` finds, without levels. It searches from both nodes, so it mostly reads
 /// far less.
+///
+/// It costs a read for each of the two nodes; what `expand` reads at the nodes that fewer than some
+/// edges lead to from the first, or against the direction from the last, once at each; and once
+/// more at each node of the walk from where the two searches met, but the last. The two numbers of
+/// edges are together as many as the walk has.
 pub fn find_walk<R: Reads>(
     alloc: Global,
     reads: &mut R,
