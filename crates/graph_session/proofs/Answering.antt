@@ -200,13 +200,6 @@ module _ {D K : Type 0} {g : DiskGhosts D} {sink : SinkGhosts K} {line : InputLi
     refl,
   )
 
-  pub answers-given : (reply : Reply) → Gives sink (marked_text (prefix_in line) reply) old.output new.output turn → ¬ IsQuit line
-      → Onward g old.session new.session
-      → (HasNoDraft old.session → MayStepAs g (session_in line) line (shared_in old) reply (shared_in new)) → JudgesLine g line (shared_in old) reply
-      → ((known : Bool) (state : SharedState) → IsSharedAt (as_known known g) (shared_in old) state → SettlesLine (as_known known g) line (shared_in old)
-      (shared_in new) state reply) → AnswersLine g sink line old new turn
-  answers-given reply gives runs onward may judges settles = (given-with reply gives runs onward may judges settles).0
-
 -- a turn without a fault of the sink delivers nothing
 delivers-nothing : (turn : Turn) (text : List ℕ) → turn ≢ SinkFault → Delivers turn text text []
 delivers-nothing Go text goes = sym (append-nil text)

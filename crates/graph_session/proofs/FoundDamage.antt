@@ -21,7 +21,7 @@ use Rattle.change_parts.specs.declared.change_fault.ChangeFault.TheVariants as f
 use Rattle.node_changes.specs.NodeDeleting.{IsDeleteCause}
 use Rattle.txn_core.specs.Store.{state_of}
 use Rattle.graph_session.specs.ChangeDamage.{IsToldAsFound, MayMeetNames, TellsAsFound}
-use Rattle.graph_session.specs.Drafting.{BlamesFound, answer_for, drafted_by, full_groups}
+use Rattle.graph_session.specs.Drafting.{BlamesFound, answer_for, drafted_by, unnamed_damage}
 use Rattle.graph_session.specs.declared.answer.Answer.{Answer}
 use Rattle.graph_session.specs.declared.answer.Answer.TheVariants as answers
 use Rattle.graph_session.specs.declared.changing.Drafted.{Drafted}
@@ -109,14 +109,14 @@ no-groups _ known at_once s t names now live caused = absurd at_once
 module _ {D : Type 0} {g : Ghosts D} (command : Command) (old : Session D g) where
   -- where a file is full, it isn't that of the groups
   by-full : (file : ℕ) (b : Bool) → nat_eq file format.groups_file ≡ b
-      → (g.tells_reads → IsToldAsFound command old.names.names full_groups → file ≢ format.groups_file)
-      → BlamesFound command old (if b then answers.Fault (read_faults.Damaged full_groups) else answers.Refused (full_of file))
+      → (g.tells_reads → IsToldAsFound command old.names.names unnamed_damage → file ≢ format.groups_file)
+      → BlamesFound command old (if b then answers.Fault (read_faults.Damaged unnamed_damage) else answers.Refused (full_of file))
   by-full file true groups apart = λ tells at. absurd (apart tells at (eqb-true file format.groups_file groups))
   by-full file false other apart = tt
 
   by-fault : (fault : ChangeFault) → (g.tells_reads → (damage : Damage) → fault ≡ faults.Damaged damage → IsToldAsFound command old.names.names damage
       → IsBroken (state_of old.store) damage)
-      → (g.tells_reads → (file live : ℕ) → fault ≡ faults.Full file live → IsToldAsFound command old.names.names full_groups → file ≢ format.groups_file)
+      → (g.tells_reads → (file live : ℕ) → fault ≡ faults.Full file live → IsToldAsFound command old.names.names unnamed_damage → file ≢ format.groups_file)
       → BlamesFound command old (answer_for fault)
   by-fault (faults.NoNode id) told apart = tt
   by-fault (faults.NoEdge id) told apart = tt
@@ -152,7 +152,7 @@ module _ {D : Type 0} {g : Ghosts D} (command : Command) (old : Session D g) whe
   found-call meets answer weight told (Ok made) says on s t names now caused = tt
   found-call meets answer weight told (Err fault) says on s t names now caused = by-fault fault
       (λ tells damage is at. let found = told-aside meets damage at in subst (BlamesAside (state_of old.store)) is (on fault found.1 (says tells)) found.0)
-      (λ tells file live is at. full-apart (told-aside meets full_groups at).1 s t names now fault (caused tells) file live is)
+      (λ tells file live is at. full-apart (told-aside meets unnamed_damage at).1 s t names now fault (caused tells) file live is)
 
   -- a change whose call blames nothing else
   pub found-all : {T : Type 0} (answer : T → Answer) (weight : T → ℕ) (outcome : Result T ChangeFault)

@@ -12,11 +12,6 @@ use Rattle.traversal_run.specs.declared.run.Next.{Next}
 use Rattle.traversal_run.specs.declared.run.Run.{Run}
 use Rattle.traversal_run.proofs.HopRuns.{HopCost}
 
--- such a query
-pub record AsksHop (query : Query) (id : ℕ) (hop : Hop) : Type 0 where
-  pub is : IsHopQuery query id hop
-  pub maps : query.maps ≡ None
-
 -- what is promised of a line of it
 abbrev pub HopLine : {R : Type 0} → SpaceGhosts R → List (List ℕ) → Query → R → R → Type 0
 HopLine space names query old now = (id : ℕ) (hop : Hop) → IsHopQuery query id hop → query.maps ≡ None → HopCost space names old now hop id

@@ -39,7 +39,7 @@ use Rattle.change_parts.specs.declared.change_fault.ChangeFault.TheVariants as f
 use Rattle.graph_session.specs.Answering.{reply_of}
 use Rattle.graph_session.specs.ChangeLeft.{LeavesRecords}
 use Rattle.graph_session.specs.Drafting.{Drafts, HasStore, IsStopped, MakesLine, OnlyDrafts, Refuses, answer_for, answer_for_changes, drafted_by}
-use Rattle.graph_session.specs.Drafting.{full_groups}
+use Rattle.graph_session.specs.Drafting.{unnamed_damage}
 use Rattle.graph_session.specs.MayStep.{TellsMade}
 use Rattle.graph_session.specs.declared.answer.Answer.{Answer}
 use Rattle.graph_session.specs.declared.answer.Answer.TheVariants as answers
@@ -207,7 +207,7 @@ module _ {D : Type 0} {g : Ghosts D} (command : Command) (old : Session D g) (no
   -- a store has room for the groups that an edge needs
   full-stopped : (file : ℕ) (b : Bool) → nat_eq file format.groups_file ≡ b
       → (g.tells_reads → HasStore old → (file ≢ format.groups_file) × Refuses command (store.state_of old.store) (full_of file))
-      → IsStopped command old now (if b then answers.Fault (read_faults.Damaged full_groups) else answers.Refused (full_of file))
+      → IsStopped command old now (if b then answers.Fault (read_faults.Damaged unnamed_damage) else answers.Refused (full_of file))
   full-stopped file true groups why = λ told has. absurd ((why told has).0 (eqb-true file format.groups_file groups))
   full-stopped file false other why = λ told has. (why told has).1
 

@@ -20,7 +20,7 @@ use Rattle.txn_core.specs.declared.config.Config.{Config}
 use Rattle.graph_session.specs.Console.{TellsAll}
 use Rattle.graph_session.specs.Opening.{LeavesByOpening, LeavesOldOrSame, StandsForOne, Starts, StartsAs}
 use Rattle.graph_session.specs.Stands.{IsAdmitted}
-use Rattle.graph_session.specs.State.{Admits, Live, State}
+use Rattle.graph_session.specs.State.{Live, State}
 use Rattle.graph_session.proofs.Stands.{admits-own}
 use Rattle.graph_session.proofs.States.{same_one}
 
@@ -79,7 +79,3 @@ module _ {D : Type 0} (g : Ghosts D) (old : D) (config : Config) (state : State)
       at_each_moment_weaker g old opened (LeavesOldOrSame (g.reads old) (g.may_leave old) config) (λ left. g.may_leave old left ⊎ IsAdmitted state left)
       (leaves told (let one = starts-one told.0 in stands-recoverable (g.reads old) one.shape one.graph one.stands))
       (leaves-admitted (g.reads old) (g.may_leave old) config state starts.live (starts.starts told.0))
-
-  -- it begins with the one graph that what the disk reads stands for
-  pub starts_admitted : g.tells_reads → (other : State) → IsAdmitted other (g.reads old) → Admits other state.committed
-  starts_admitted told other admitted = subst (λ (graph : Graph). Admits other graph) (sym (starts.same told other.shape admitted.0 admitted.2)) admitted.1

@@ -99,9 +99,6 @@ viewed-item graph target item element is = by (item_at graph target) is
         some_same : {a b : Item × ElementMap} → Some a ≡ Some b → a ≡ b
         some_same e = cc
 
-pub unviewed : (graph : Graph) (target : Target) → view_of graph target ≡ None → item_at graph target ≡ None
-unviewed graph target is = mapped-none (λ own. (own, element_map graph [] own)) (item_at graph target) is
-
 -- ---- the line that asks for one
 
 view-some : (target : Target) → AsksSome (asked_of (commands.View target))

@@ -16,7 +16,7 @@ use Rattle.rec_bytes.specs.declared.damage.Damage.{Damage}
 use Rattle.rec_bytes.specs.declared.key.Key.{Key}
 use Rattle.rec_bytes.specs.declared.record.Rec.{Rec}
 use Rattle.rec_bytes.specs.Format as format
-use Rattle.rec_bytes.specs.RuleNumbers.{group_rule}
+use Rattle.rec_bytes.specs.RuleNumbers.{range_rule}
 use Rattle.rec_bytes.specs.Pairs.{IsOrdered, Pairs, merged}
 use Rattle.rec_bytes.specs.Space.{State as Space, laid_over}
 use Rattle.rec_bytes.specs.declared.fault.Fault.TheVariants as read_faults
@@ -53,15 +53,15 @@ use Rattle.graph_session.specs.declared.health.Health.TheVariants as healths
 use Rattle.graph_session.specs.declared.session.Session.{Session}
 use Rattle.store_rules.specs.Graph.{graph_in}
 
--- what stands for a record that breaks a rule where the file of groups is full: their meta record
-abbrev pub full_groups : Damage
-full_groups = record { file = format.meta_file; id = format.groups_file; rule = group_rule }
+-- a damage that stands for a record that isn't named yet
+abbrev pub unnamed_damage : Damage
+unnamed_damage = record { file = format.meta_file; id = format.names_file; rule = range_rule }
 
 -- The answer where a file is full. A graph has no groups: where their file is full, a record of the
 -- store breaks a rule.
 abbrev pub full_answer : ℕ → Answer
 full_answer file =
-    if nat_eq file format.groups_file then answers.Fault (read_faults.Damaged full_groups)
+    if nat_eq file format.groups_file then answers.Fault (read_faults.Damaged unnamed_damage)
     else answers.Refused (full_of file)
 
 -- the answer of a change that is refused
@@ -78,10 +78,6 @@ answer_for (faults.PropsFull count) = answers.Refused refusals.TooManyProperties
 answer_for faults.Memory = answers.Fault read_faults.Memory
 answer_for faults.Disk = answers.Fault read_faults.Disk
 answer_for (faults.Damaged damage) = answers.Fault (read_faults.Damaged damage)
-
--- a damage that stands for a record that isn't named yet
-abbrev pub unnamed_damage : Damage
-unnamed_damage = record { file = format.meta_file; id = format.names_file; rule = 1 }
 
 -- the answer of a list of changes that isn't made
 abbrev pub answer_for_changes : MutateFault → Answer

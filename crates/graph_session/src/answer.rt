@@ -9,11 +9,10 @@ use gremlin_parse::LineFault;
 use plain_graph::Refusal;
 use prop_index::LookupFault;
 use rec_bytes::{
-    Damage, Fault, GROUP_RULE, GROUPS, INDEX, META, NAMES, NODES, PROPERTIES, RANGE_RULE,
-    RELATIONSHIPS,
+    Damage, Fault, GROUPS, INDEX, META, NAMES, NODES, PROPERTIES, RANGE_RULE, RELATIONSHIPS,
 };
 
-/// Stands for a damaged record that isn't named yet. Another one replaces it in each reply.
+/// Stands for a damaged record that isn't named yet: the line looks for one before it replies.
 const UNNAMED: Damage = Damage {
     file: META,
     id: NAMES as u32,
@@ -143,11 +142,7 @@ fn full_answer(file: u8) -> Answer
     ensures { result ≡ full_answer file }
 {
     if file == GROUPS {
-        return Answer::Fault(Fault::Damaged(Damage {
-            file: META,
-            id: GROUPS as u32,
-            rule: GROUP_RULE,
-        }));
+        return Answer::Fault(Fault::Damaged(UNNAMED));
     }
     Answer::Refused(full_of(file))
 }
