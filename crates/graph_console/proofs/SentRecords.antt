@@ -43,7 +43,7 @@ use Rattle.graph_session.specs.State.{Failed, Live, SpellsLine, Standing, State,
 use Rattle.graph_session.specs.Tapping.{Acknowledges, TapsLine}
 use Rattle.graph_session.specs.declared.health.Health.TheVariants as healths
 use Rattle.graph_session.specs.declared.turn.Turn.{Turn}
-use Rattle.graph_session.proofs.LineMoves.{LeavesRecords, Moves, acknowledges-live, line-moves}
+use Rattle.graph_session.proofs.LineMoves.{LeavesCommitted, Moves, acknowledges-live, line-moves}
 use Rattle.graph_session.proofs.SnapshotTaking.{opens-shared}
 use Rattle.graph_console.specs.Sending.{HasSent, HasSentMore, OpensSession, Sender, Sends, Ships, Steps, TappedLine, new_state}
 
@@ -207,7 +207,7 @@ module _ {D : Type 0} (g : DiskGhosts D) (told : g.tells_reads) (shape : Shape) 
       → HasSent g shape sent new after
   goes_on-none none found = has-sent sent was.well (λ live. by live moves.leaves)
     where
-      by : after.writer.standing ≡ Live → LeavesRecords g line old.session reply new.session
+      by : after.writer.standing ≡ Live → LeavesCommitted g line old.session reply new.session
           → new.session.console.committed ≡ sender_records shape sent (length sent)
       by live (inl (health, same)) = same told ∙ was.committed (live-before (sym health ∙ live-after live))
       by live (inr (inl acknowledges)) = absurd (none acknowledges)

@@ -67,5 +67,6 @@ pub mod Transactions
 pub mod Viewing
 pub mod Weighing
 pub mod Weights
+pub mod WalkReads
 pub mod WalkReplies
 pub mod WholeReplies

@@ -23,11 +23,13 @@ use Rattle.plain_graph.proofs.LineLaws.{HasIndexOf, change_first, change_free, m
 use Rattle.rec_bytes.specs.Format as format
 use Rattle.rec_bytes.specs.Space.{SameButReads, State as Space}
 use Rattle.rec_bytes.specs.declared.fault.Fault.TheVariants as read_faults
+use Rattle.store_rules.specs.Views.{Records}
 use Rattle.store_rules.specs.Writes.{WritesAtMost}
 use Rattle.txn_core.specs.OnlyReading.{only_reads_base_on}
 use Rattle.txn_core.specs.Store as store
 use Rattle.change_parts.specs.Change.{IsRefusal, IsRefusedBy, MakesChange, full_of}
 use Rattle.change_parts.specs.ChangeFault.{HasChangeCause}
+use Rattle.graph_ops.specs.ChangeLeft.{LeavesMutation}
 use Rattle.graph_ops.specs.MutateFault.{IsMutateRefusal}
 use Rattle.graph_ops.specs.Mutating.{IsListRefusal, MakesMutation, most_told}
 use Rattle.graph_ops.specs.NewIds.{GetsFreeIds}
@@ -172,6 +174,11 @@ module _ (old mid : Space) (same : SameButReads old mid) where
   -- the identifiers are those that were free before
   pub ids-read : (mutation : Mutation) (made : List Item) → GetsFreeIds mutation made mid.records → GetsFreeIds mutation made old.records
   ids-read mutation made ids = subst (λ (space : Space). GetsFreeIds mutation made space.records) same ids
+
+  -- the changes began with the records that were read
+  pub leaves-read : (mutation : Mutation) (items made : List Item) (new : Records) (names : List (List ℕ))
+      → LeavesMutation mutation items made mid.records new names → LeavesMutation mutation items made old.records new names
+  leaves-read mutation items made new names leaves = subst (λ (space : Space). LeavesMutation mutation items made space.records new names) same leaves
 
   pub writes-read : {weight : ℕ} {new : Space} → WritesAtMost weight mid new → WritesAtMost weight old new
   writes-read {weight = weight} {new = new} writes =

@@ -19,8 +19,8 @@ use Rattle.graph_session.specs.declared.health.Health.TheVariants as healths
 use Rattle.graph_session.proofs.OneCommand.{line_agrees}
 
 -- What is committed is as it was; or the line ended a transaction, as its reply acknowledges, or found the store again; or the disk has failed the session.
-abbrev pub LeavesRecords : {D : Type 0} → Ghosts D → InputLine → SessionView D → Reply → SessionView D → Type 0
-LeavesRecords g line old reply new =
+abbrev pub LeavesCommitted : {D : Type 0} → Ghosts D → InputLine → SessionView D → Reply → SessionView D → Type 0
+LeavesCommitted g line old reply new =
     ((new.console.health ≡ old.console.health) × (g.tells_reads → new.console.committed ≡ old.console.committed))
     ⊎ Acknowledges old.console.is_open line reply
     ⊎ (SpellsLine line commands.Reopen × Confirms reply)
@@ -30,7 +30,7 @@ LeavesRecords g line old reply new =
 pub record Moves {D : Type 0} (g : Ghosts D) (line : InputLine) (old : SessionView D) (reply : Reply) (new : SessionView D) : Type 0 where
   pub shape : new.console.shape ≡ old.console.shape
   pub live : Confirms reply → old.console.health ≡ healths.Live → new.console.health ≡ healths.Live
-  pub leaves : LeavesRecords g line old reply new
+  pub leaves : LeavesCommitted g line old reply new
 
 -- the reply to a change that is made says so
 made-confirms : (command : Command) (reply : Reply) → TellsMade command reply → Confirms reply

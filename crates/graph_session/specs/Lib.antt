@@ -41,3 +41,4 @@ pub mod TapEnds
 pub mod Tapping
 pub mod Verdicts
 pub mod Views
+pub mod Walks

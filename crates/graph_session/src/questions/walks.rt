@@ -6,12 +6,15 @@ ghost use Rattle.plain_graph.specs.Reached.{IsLeastOrNone};
 ghost use Rattle.plain_graph.specs.Reply.{Told, end_text, marked_text};
 ghost use Rattle.store_rules.specs.Graph.{graph_of};
 ghost use Rattle.expand.specs.ExpandFault.{HasExpandCause};
+ghost use Rattle.path_find.specs.Costs.{ReadsEnds};
 ghost use Rattle.path_find.specs.Finding.{IsPathFault, TellsEnds};
 ghost use Rattle.traversal_run.specs.Reading.{IsNamedStore, IsRead};
 ghost use Rattle.graph_session.specs.Answer.{Gives};
 ghost use Rattle.graph_session.specs.Jobs.{question_command};
 ghost use Rattle.graph_session.specs.Questions.{GivesReading};
 ghost use Rattle.graph_session.specs.ReplyLines.{HaveSameSink};
+ghost use Rattle.graph_session.specs.Walks.{CostsLevels, CostsReply, CostsWalk, GivesAt};
+ghost use Rattle.graph_session.specs.Walks.{ReadsForLevels, ReadsForWalk};
 ghost use Rattle.graph_session.specs.declared.question.Question.TheVariants as questions;
 
 use crate::Turn;
@@ -39,6 +42,11 @@ pub(crate) fn give_walk<R: Reads, K: Sink>(
         lines.old.prefix.now space.old space.new
         lines.old.output.now lines.new.output.now result }
     ensures same_sink { HaveSameSink lines.old lines.new }
+    ensures cost { R.tells → IsNamedStore (R.state space.old).records (R.state space.old).shape
+        context.entry.names.now.names → GivesAt K.Sink (CostsReply
+        (CostsWalk route.entry (R.state space.old) (R.state space.new))
+        (R.state space.old) (R.state space.new))
+        lines.old.prefix.now lines.old.output.now lines.new.output.now result }
 {
     match found_walk(context, space, route) {
         Ok(walk) => give_nodes(walk.as_slice(), lines),
@@ -58,6 +66,11 @@ pub(crate) fn give_levels<R: Reads, K: Sink>(
         lines.old.prefix.now space.old space.new
         lines.old.output.now lines.new.output.now result }
     ensures same_sink { HaveSameSink lines.old lines.new }
+    ensures cost { R.tells → IsNamedStore (R.state space.old).records (R.state space.old).shape
+        context.entry.names.now.names → GivesAt K.Sink (CostsReply
+        (CostsLevels route.entry (R.state space.old) (R.state space.new))
+        (R.state space.old) (R.state space.new))
+        lines.old.prefix.now lines.old.output.now lines.new.output.now result }
 {
     match found_levels(context, space, route) {
         Ok(answer) => give_node_levels(answer.levels.as_slice(), lines),
@@ -77,6 +90,12 @@ fn found_walk<R: Reads>(
         → IfOk result (λ walk. IsLeastOrNone (adjacency_in (graph_of (R.state space.old).records)
         route.entry.direction (types_of route.entry.label.now))
         route.entry.from route.entry.to walk) }
+    ensures cost { R.tells
+        → IsNamedStore (R.state space.old).records (R.state space.old).shape
+        context.entry.names.now.names
+        → IfOk result (λ walk. ReadsForWalk route.entry walk
+        (R.state space.old) (R.state space.new)) }
+    ensures missing_cost { IfErr result (ReadsEnds (R.state space.old) (R.state space.new)) }
     ensures missing { R.tells
         → IsNamedStore (R.state space.old).records (R.state space.old).shape
         context.entry.names.now.names
@@ -115,6 +134,13 @@ fn found_levels<R: Reads>(
         → IfOk result (λ answer. IsFound (graph_of (R.state space.old).records)
         route.entry.from route.entry.to route.entry.direction route.entry.label.now
         answer.walk answer.levels) }
+    ensures cost { R.tells
+        → IsNamedStore (R.state space.old).records (R.state space.old).shape
+        context.entry.names.now.names
+        → IfOk result (λ answer. ReadsForLevels route.entry
+        answer.walk answer.levels
+        (R.state space.old) (R.state space.new)) }
+    ensures missing_cost { IfErr result (ReadsEnds (R.state space.old) (R.state space.new)) }
     ensures missing { R.tells
         → IsNamedStore (R.state space.old).records (R.state space.old).shape
         context.entry.names.now.names

@@ -10,7 +10,8 @@ use Rattle.change_parts.specs.Damage.{BlamesEntries, BlamesGiven}
 use Rattle.change_parts.specs.declared.added.Added.{Added}
 use Rattle.change_parts.specs.Causes.{HasDefinition}
 use Rattle.txn_core.specs.Store.{drafted, state_of}
-use Rattle.edge_changes.specs.EdgePlacing.{IsEdgeBetween}
+use Rattle.edge_changes.specs.EdgePlacing.{IsEdgeLabelled}
+use Rattle.node_changes.specs.NodeAdding.{IsNodeLabelled}
 use Rattle.node_changes.specs.PropertySetting.{GivesKey, LosesKey}
 use Rattle.graph_session.specs.declared.answer.Answer.TheVariants as answers
 use Rattle.graph_session.proofs.FoundDamage.{entries-aside, found-call, found-none, given-aside}
@@ -29,8 +30,13 @@ returns-in-Node-clause-drafts g c =
     (drafts-call (λ (added : Added). answers.NodeMade added.id) (λ (added : Added). added.weight) (commands.Node c.in-Node.label.now c.in-Node.pairs.now)
     (λ added. (added.id, refl)) (returns-in-Node-clause-only g c) c.add_node.result (λ told. met.made told) met.light met.writes
     (λ told has. met.refused told has)
-    (λ made is told. ap NodeMade (ok-has (λ (added : Added). added.id ≡ taken_id (meta_in (drafted c.args.self.now.store) format.nodes_file))
-    c.add_node.result (met.taken told) made is)) met.cause)
+    (λ made is told.
+    let id_is : made.id ≡ taken_id (meta_in (drafted c.args.self.now.store) format.nodes_file)
+    = ok-has (λ (added : Added). added.id ≡ taken_id (meta_in (drafted c.args.self.now.store) format.nodes_file))
+    c.add_node.result (met.taken told) made is in
+    let stands = ok-has (λ (added : Added). IsNodeLabelled (drafted c.add_node.new.space) c.add_node.new.names.names added.id c.in-Node.label.now)
+    c.add_node.result (met.stands told) made is in
+    (ap NodeMade id_is, subst (λ id. IsNodeLabelled (drafted c.add_node.new.space) c.add_node.new.names.names id c.in-Node.label.now) id_is stands)) met.cause)
 
 pub returns-in-Edge-clause-only : goal.returns-in-Edge-clause-only
 returns-in-Edge-clause-only g c =
@@ -48,9 +54,12 @@ returns-in-Edge-clause-drafts g c =
     let id_is : made.id ≡ taken_id (meta_in (drafted c.args.self.now.store) format.relationships_file)
     = ok-has (λ (added : Added). added.id ≡ taken_id (meta_in (drafted c.args.self.now.store) format.relationships_file))
     c.add_edge.result (met.taken told) made is in
-    let stands = ok-has (λ (added : Added). IsEdgeBetween (drafted c.add_edge.new.space) added.id c.in-Edge.from c.in-Edge.to)
-    c.add_edge.result (met.stands told) made is in
-    (ap EdgeMade id_is, subst (λ id. IsEdgeBetween (drafted c.add_edge.new.space) id c.in-Edge.from c.in-Edge.to) id_is stands)) met.cause)
+    let stands = ok-has (λ (added : Added). IsEdgeLabelled (drafted c.add_edge.new.space) c.add_edge.new.names.names added.id c.in-Edge.from
+    c.in-Edge.label.now c.in-Edge.to) c.add_edge.result (met.stands told) made is in (
+      ap EdgeMade id_is,
+      subst (λ id. IsEdgeLabelled (drafted c.add_edge.new.space) c.add_edge.new.names.names id c.in-Edge.from c.in-Edge.label.now
+          c.in-Edge.to) id_is stands,
+    )) met.cause)
 
 pub returns-in-Set-clause-only : goal.returns-in-Set-clause-only
 returns-in-Set-clause-only g c =

@@ -1,6 +1,10 @@
 use Rattle.graph_session.specs.Jobs.{change_command}
 use Rattle.graph_session.proofs.ChangedDrafts.{drafts-changed, only-changed, unchanged-blames}
+use Rattle.graph_session.proofs.LineDrafts.{drafts-on}
 use Rattle.graph_session.proofs.session.Session.draft_changed.Goals as goal
+
+pub returns-else-drafted-clause-only : goal.returns-else-drafted-clause-only
+returns-else-drafted-clause-only g c = drafts-on c.draft.ensures.only c.drop_unchanged.ensures.only
 
 pub returns-else-drafted-clause-drafts : goal.returns-else-drafted-clause-drafts
 returns-else-drafted-clause-drafts g c =
