@@ -48,8 +48,8 @@ pub record IsFirst (records : Records) (id from to : ℕ) : Type 0 where
   pub next : from ≡ to → field 4 (rec_at records format.relationships_file id)
       format.relationship_target_next ≡ format.nil
 
--- Whatever else the records are, a relationship of this number is in use, leads from one node to the
--- other, and has the type of this number.
+-- Whatever else the records are, a relationship of this number is in use, leads from one node to
+-- the other, and has the type of this number.
 pub record IsEdgeBetween (records : Records) (id from type to : ℕ) : Type 0 where
   pub used : kind_at records format.relationships_file id ≢ format.free_kind
   pub from_is : field 4 (rec_at records format.relationships_file id) format.relationship_source

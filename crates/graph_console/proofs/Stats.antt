@@ -8,7 +8,7 @@ use Rattle.plain_graph.specs.Counts.{counts_of}
 use Rattle.plain_graph.specs.Graph.{Graph}
 use Rattle.plain_graph.specs.Lines.{Reading, counts_text}
 use Rattle.plain_graph.specs.Reply as replies
-use Rattle.plain_graph.specs.Reply.{Fault, Reply, fault_line, marked_line, marked_text, text_line}
+use Rattle.plain_graph.specs.Reply.{Fault, Reply, fault_line, prefixed_line, prefixed_text, text_line}
 use Rattle.plain_graph.specs.declared.command.Command.{Command}
 use Rattle.plain_graph.specs.declared.command.Command.TheVariants as commands
 use Rattle.plain_graph.specs.declared.refusal.Refusal.{Refusal}
@@ -87,22 +87,22 @@ module _ (old new : State) (failed : Bool) (live : old.standing ≡ Live) (close
       ∙ ap (λ (g : Graph). replies.Told [] (counts_text (counts_of g))) (ap (seen_by old.committed) closed)
 
   text_told : (reply : Reply) → IsDone old (record { line = stats_line; disk_failed = failed; reply = reply }) new
-      → marked_text [] reply ≡ text_line (counts_text (counts_of old.committed))
-  text_told reply done = ap (marked_text []) (told reply done)
+      → prefixed_text [] reply ≡ text_line (counts_text (counts_of old.committed))
+  text_told reply done = ap (prefixed_text []) (told reply done)
 
   stopped : (lines : List (List ℕ)) (fault : Fault) → Stops old stats_line failed lines fault new
-      → tells_failure (marked_text [] (replies.Faulted lines fault)) ≡ false → ⊥
+      → tells_failure (prefixed_text [] (replies.Faulted lines fault)) ≡ false → ⊥
   stopped lines replies.PastCount stops well =
       let past = subst (λ (c : Command). ShowsPast (seen old) c lines) (is_stats stops.1 stops.2) stops.3 in
       let is_past : false ≡ true = sym (ap (λ (r : Reading). r.is_past) past.1) ∙ past.2 in
       cc
   stopped lines replies.NoMemory stops well = stops.0 (inr (commands.Stats, stats_spelled, inr (inl refl)))
-  stopped lines replies.DiskFailed stops well = let clash : true ≡ false = sym (disk_failure_told (flat_map (marked_line []) lines)) ∙ well in cc
+  stopped lines replies.DiskFailed stops well = let clash : true ≡ false = sym (disk_failure_told (flat_map (prefixed_line []) lines)) ∙ well in cc
   stopped lines (replies.DamagedRecord file id) stops well = stops
 
   console_tells : (reply : Reply) → ConsoleStep old (record { line = stats_line; disk_failed = failed; reply = reply }) new
-      → tells_failure (marked_text [] reply) ≡ false
-      → marked_text [] reply ≡ text_line (counts_text (counts_of old.committed))
+      → tells_failure (prefixed_text [] reply) ≡ false
+      → prefixed_text [] reply ≡ text_line (counts_text (counts_of old.committed))
   console_tells replies.Silent (inl blank, same) well = let clash : commands.Blank ≡ commands.Stats = is_stats commands.Blank blank in cc
   console_tells replies.Silent (inr quit, same) well = let clash : commands.Quit ≡ commands.Stats = is_stats commands.Quit quit in cc
   console_tells replies.Done step well = text_told replies.Done step
@@ -115,7 +115,7 @@ module _ (old new : State) (failed : Bool) (live : old.standing ≡ Live) (close
 -- a console that is live and has no open transaction tells the counts of its graph
 pub stats_told : (old new : SharedState) (failed : Bool) (reply : Reply) → old.writer.standing ≡ Live → old.writer.open_one ≡ None
     → SharedStep old (record { line = stats_line; disk_failed = failed; reply = reply }) new
-    → tells_failure (marked_text [] reply) ≡ false → marked_text [] reply ≡ text_line (counts_text (counts_of old.writer.committed))
+    → tells_failure (prefixed_text [] reply) ≡ false → prefixed_text [] reply ≡ text_line (counts_text (counts_of old.writer.committed))
 stats_told old new failed reply live closed (inl (inl snapshot, refused, same)) well = let clash : commands.Snapshot ≡ commands.Stats =
     is_stats commands.Snapshot snapshot in cc
 stats_told old new failed reply live closed (inl (inr release, refused, same)) well = let clash : commands.Release ≡ commands.Stats =

@@ -4,7 +4,7 @@ use Rattle.fault_count.specs.Cause.{Rose}
 use Rattle.disk_model.specs.declared.disk.Disk.{Ghosts as DiskGhosts}
 use Rattle.disk_model.proofs.Spans.{OnlyNow}
 use Rattle.stream_io.specs.Lines.{InputLine}
-use Rattle.plain_graph.specs.Reply.{Reply, marked_text}
+use Rattle.plain_graph.specs.Reply.{Reply, prefixed_text}
 use Rattle.stream_io.specs.Answers.{TakesLine}
 use Rattle.stream_io.specs.declared.streams.Sink.{Ghosts as SinkGhosts}
 use Rattle.graph_session.specs.Answer.{AnswersLine, Delivers, Terminal, shared_in}
@@ -35,7 +35,7 @@ pub record Answers {V : Type 0} (course : Course V) (comes_to : V → Type 0) (l
   pub counted : disk_failed ≡ true → Rose old_faults new_faults
   pub arrives : comes_to after
   pub health_is : course.health after ≡ health
-  pub text : Delivers turn old_taken new_taken (marked_text (prefix_in line) reply)
+  pub text : Delivers turn old_taken new_taken (prefixed_text (prefix_in line) reply)
   pub quit : (turn ≡ Quit) ↔ IsQuit line
 
 module _ {D K : Type 0} {disk : DiskGhosts D} {sink : SinkGhosts K} (told : sink.tells) {line : InputLine} {old new : Terminal D K} {turn : Turn}

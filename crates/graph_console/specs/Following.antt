@@ -3,7 +3,7 @@ use Rattle.std.specs.Prelude.{◌≡◌, ℕ, ◌+◌, ◌≤◌, false, None, L
 use Rattle.std.specs.declared.alloc.Global.{Global}
 use Rattle.disk_model.specs.declared.disk.Disk.{Ghosts as DiskGhosts}
 use Rattle.stream_io.specs.Lines.{Whole}
-use Rattle.plain_graph.specs.Reply.{Reply, marked_text}
+use Rattle.plain_graph.specs.Reply.{Reply, prefixed_text}
 use Rattle.rec_bytes.specs.Pairs.{Pairs}
 use Rattle.rec_bytes.specs.declared.shape.Shape.{Shape}
 use Rattle.record_file.specs.Redone.{Redoes}
@@ -33,7 +33,7 @@ use Rattle.graph_console.specs.declared.follow.delivered.Delivered.{Delivered}
 pub record AnswersTapped {D : Type 0} (disk : DiskGhosts D) (line text : List ℕ)
     (old new : SharedView D) (tap : Pairs) : Type 0 where
   pub reply : Reply
-  pub text_is : text ≡ marked_text (prefix_in (Whole line)) reply
+  pub text_is : text ≡ prefixed_text (prefix_in (Whole line)) reply
   pub well : tells_failure text ≡ false
   pub steps : (state : SharedState) → IsSharedAt disk old state
       → Steps disk (Whole line) old state reply new tap

@@ -4,7 +4,7 @@ use Rattle.std.specs.Prelude.{length, take}
 use Rattle.std.specs.List.{AllByRecursion}
 use Rattle.disk_model.specs.Contents.{Files}
 use Rattle.stream_io.specs.Lines.{InputLine}
-use Rattle.plain_graph.specs.Reply.{marked_text}
+use Rattle.plain_graph.specs.Reply.{prefixed_text}
 use Rattle.graph_session.specs.Exchange.{Exchange, told_fault}
 use Rattle.graph_session.specs.SharedExchange.{TakesSharedStep}
 use Rattle.graph_session.specs.Snapshots.{Readers, SharedState}
@@ -69,7 +69,7 @@ run_lines run = map (λ exchange. exchange.line) run
 
 -- the bytes of the reply, each of whose lines begins with the mark of the line's session
 abbrev pub exchange_text : Exchange → List ℕ
-exchange_text exchange = marked_text (prefix_in exchange.line) exchange.reply
+exchange_text exchange = prefixed_text (prefix_in exchange.line) exchange.reply
 
 abbrev pub run_text : List Exchange → List ℕ
 run_text run = flat_map (λ exchange. exchange_text exchange) run

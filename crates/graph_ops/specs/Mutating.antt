@@ -101,8 +101,8 @@ pub record MakesList (commands : List Command) (replies : List Reply) (weight : 
   pub each : MakesEach old.shape.limit old.shape.threshold (graph_in old) commands replies weight
       (graph_in new)
 
--- Where the space tells, the changes leave this of its records, with what is said of the replies. In
--- a store they were made so. Over every space the weight bounds what became written.
+-- Where the space tells, the changes leave this of its records, with what is said of the replies.
+-- In a store they were made so. Over every space the weight bounds what became written.
 pub record MakesPart (tells : Type 0) (commands : List Command) (Shown : List Reply → Type 0)
     (weight : ℕ) (old new : State) (before names : List (List ℕ)) : Type 0 where
   pub made : tells → (replies : List Reply) × Shown replies

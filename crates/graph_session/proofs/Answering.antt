@@ -6,7 +6,7 @@ use Rattle.disk_model.specs.declared.disk.Disk.{Ghosts as DiskGhosts}
 use Rattle.disk_model.proofs.Spans.{OnlyNow, only_reads_none}
 use Rattle.stream_io.specs.Lines.{InputLine}
 use Rattle.stream_io.specs.declared.streams.Sink.{Ghosts as SinkGhosts}
-use Rattle.plain_graph.specs.Reply.{DamagedRecord, Done, EdgeMade, Faulted, NoMemory, NodeMade, Refused, Reply, Silent, Told, marked_text}
+use Rattle.plain_graph.specs.Reply.{DamagedRecord, Done, EdgeMade, Faulted, NoMemory, NodeMade, Refused, Reply, Silent, Told, prefixed_text}
 use Rattle.plain_graph.specs.declared.refusal.Refusal.{Refusal}
 use Rattle.snap_store.specs.Snaps.{Snapshots}
 use Rattle.graph_session.specs.Answer.{AnswersLine, Delivers, Gives, Settles, Terminal, shared_in}
@@ -180,7 +180,7 @@ AnswersWith disk sink line old new turn reply = (answers : AnswersLine disk sink
 
 module _ {D K : Type 0} {g : DiskGhosts D} {sink : SinkGhosts K} {line : InputLine} {old new : Terminal D K} {turn : Turn} where
   -- the reply of a settled line was given to the sink
-  pub given-with : (reply : Reply) → Gives sink (marked_text (prefix_in line) reply) old.output new.output turn → ¬ IsQuit line
+  pub given-with : (reply : Reply) → Gives sink (prefixed_text (prefix_in line) reply) old.output new.output turn → ¬ IsQuit line
       → Onward g old.session new.session
       → (HasNoDraft old.session → MayStepAs g (session_in line) line (shared_in old) reply (shared_in new)) → JudgesLine g line (shared_in old) reply
       → ((known : Bool) (state : SharedState) → IsSharedAt (as_known known g) (shared_in old) state → SettlesLine (as_known known g) line (shared_in old)
@@ -225,7 +225,7 @@ module _ {D K : Type 0} {g : DiskGhosts D} (only : OnlyNow g) {sink : SinkGhosts
 
   -- it gets one, and changes nothing
   pub unchanged-with : {session : SessionView D} {held : Snapshots} {before after : K} {turn : Turn} (reply : Reply) → told_fault reply ≡ 0
-      → Gives sink (marked_text (prefix_in line) reply) before after turn → ¬ IsQuit line
+      → Gives sink (prefixed_text (prefix_in line) reply) before after turn → ¬ IsQuit line
       → MayStepAs g (session_in line) line (record { session = session; held = held }) reply (record { session = session; held = held })
       → JudgesLine g line (record { session = session; held = held }) reply
       → ((known : Bool) (state : SharedState) → IsSharedAt (as_known known g) (record { session = session; held = held }) state → SharedStep state
@@ -237,7 +237,7 @@ module _ {D K : Type 0} {g : DiskGhosts D} (only : OnlyNow g) {sink : SinkGhosts
       (λ known state at. settles-unchanged {g = as_known known g} only at quiet (step known state at))
 
   pub answers-unchanged : {session : SessionView D} {held : Snapshots} {before after : K} {turn : Turn} (reply : Reply) → told_fault reply ≡ 0
-      → Gives sink (marked_text (prefix_in line) reply) before after turn → ¬ IsQuit line
+      → Gives sink (prefixed_text (prefix_in line) reply) before after turn → ¬ IsQuit line
       → MayStepAs g (session_in line) line (record { session = session; held = held }) reply (record { session = session; held = held })
       → JudgesLine g line (record { session = session; held = held }) reply
       → ((known : Bool) (state : SharedState) → IsSharedAt (as_known known g) (record { session = session; held = held }) state → SharedStep state

@@ -5,7 +5,7 @@ use Rattle.disk_model.proofs.Spans.{OnlyNow}
 use Rattle.stream_io.specs.Lines.{Long, Whole}
 use Rattle.stream_io.specs.declared.streams.Sink.{Ghosts as SinkGhosts}
 use Rattle.plain_graph.specs.Lines.{IsQuestion}
-use Rattle.plain_graph.specs.Reply.{Faulted, NoMemory, Refused, Reply, marked_text}
+use Rattle.plain_graph.specs.Reply.{Faulted, NoMemory, Refused, Reply, prefixed_text}
 use Rattle.plain_graph.specs.declared.command.Command.{Command}
 use Rattle.plain_graph.specs.declared.command.Command.TheVariants as commands
 use Rattle.plain_graph.specs.declared.refusal.Refusal.{Refusal}
@@ -76,9 +76,9 @@ sight-unasked command (inr is) asks = subst IsQuestion is asks
 pub given-prefixed : {K : Type 0} {sink : SinkGhosts K} {line : List ℕ} {session : ℕ} {command : Command} {prefix : List ℕ}
     → IsParsed line session command prefix
     → {before after : K} {turn : Turn} (reply : Reply)
-    → Gives sink (marked_text prefix reply) before after turn → Gives sink (marked_text (prefix_in (Whole line)) reply) before after turn
+    → Gives sink (prefixed_text prefix reply) before after turn → Gives sink (prefixed_text (prefix_in (Whole line)) reply) before after turn
 given-prefixed {sink = sink} parsed {before = before} {after = after} {turn = turn} reply gives =
-    subst (λ (m : List ℕ). Gives sink (marked_text m reply) before after turn) (sym parsed.prefix_is) gives
+    subst (λ (m : List ℕ). Gives sink (prefixed_text m reply) before after turn) (sym parsed.prefix_is) gives
 
 module _ {D K : Type 0} {g : DiskGhosts D} {sink : SinkGhosts K} {line : List ℕ} {session : ℕ} {command : Command} {prefix : List ℕ}
     (parsed : IsParsed line session command prefix) where
@@ -86,7 +86,7 @@ module _ {D K : Type 0} {g : DiskGhosts D} {sink : SinkGhosts K} {line : List �
   pub settled-with : {old new : Terminal D K} {turn : Turn} (reply : Reply) → session ≡ 0 → IsLoud command → ¬ IsOfSnapshots command
       → IsServed old.session.console command → SettlesCommand g command old.session new.session reply
       → KeepsOlds g command (shared_in old) reply (shared_in new) → JudgesCommand g session command (shared_in old) reply
-      → Gives sink (marked_text prefix reply) old.output new.output turn → AnswersWith g sink (Whole line) old new turn reply
+      → Gives sink (prefixed_text prefix reply) old.output new.output turn → AnswersWith g sink (Whole line) old new turn reply
   settled-with {old = old} {new = new} reply writes loud apart served settles keeps judges gives =
       let first = parsed.session_is ∙ writes in
       let none = apart-only parsed.only apart in
@@ -103,7 +103,7 @@ module _ {D K : Type 0} (g : DiskGhosts D) (only_now : OnlyNow g) (sink : SinkGh
     (parsed : IsParsed line named command prefix) (writes : named ≡ 0) (loud : IsLoud command) where
   -- the disk has failed the session
   pub failed-with : session.console.health ≡ healths.Failed → ¬ IsOfSnapshots command → command ≢ commands.Reopen
-      → Gives sink (marked_text prefix (Refused refusals.Failed)) before after turn
+      → Gives sink (prefixed_text prefix (Refused refusals.Failed)) before after turn
       → AnswersWith g sink (Whole line) (record { session = session; held = held; output = before }) (record { session = session; held = held; output = after })
       turn (Refused refusals.Failed)
   failed-with failed apart again gives =
@@ -120,7 +120,7 @@ module _ {D K : Type 0} (g : DiskGhosts D) (only_now : OnlyNow g) (sink : SinkGh
       (is_failed at.writer failed) mute again))
 
   -- it has no snapshots
-  pub answers-writer : IsOfSnapshots command → Gives sink (marked_text prefix (Refused refusals.Writer)) before after turn
+  pub answers-writer : IsOfSnapshots command → Gives sink (prefixed_text prefix (Refused refusals.Writer)) before after turn
       → AnswersLine g sink (Whole line) (record { session = session; held = held; output = before }) (record { session = session; held = held; output = after })
       turn
   answers-writer about gives =
@@ -165,7 +165,7 @@ module _ {D K : Type 0} (g : DiskGhosts D) (only_now : OnlyNow g) (sink : SinkGh
 
   module _ {session : SessionView D} {held : Snapshots} {before after : K} {turn : Turn} where
     -- the line is too long
-    pub answers-long : Gives sink (marked_text [] (Refused refusals.LongLine)) before after turn
+    pub answers-long : Gives sink (prefixed_text [] (Refused refusals.LongLine)) before after turn
         → AnswersLine g sink Long (record { session = session; held = held; output = before }) (record { session = session; held = held; output = after }) turn
     answers-long gives =
         answers-unchanged {g = g} only_now {line = Long} (Refused refusals.LongLine) refl gives (λ quit. quit)
@@ -182,12 +182,13 @@ module _ {D K : Type 0} (g : DiskGhosts D) (only_now : OnlyNow g) (sink : SinkGh
         (memory : fault ≡ faults.Memory → (command : Command) → NeedsNoMemory command → ¬ Spells line command) where
       -- the line spells no command
       pub fault-with : (fault ≢ faults.Memory → IsLeftmostFault line fault)
-          → Gives sink (marked_text (prefix_in (Whole line)) (reply_of (told_of fault))) before after turn
+          → Gives sink (prefixed_text (prefix_in (Whole line)) (reply_of (told_of fault))) before after turn
           → AnswersWith g sink (Whole line) (record { session = session; held = held; output = before })
           (record { session = session; held = held; output = after }) turn (reply_of (told_of fault))
       fault-with leftmost gives = by (refusal_of fault) refl gives
         where
-          by : (told : Option Refusal) → refusal_of fault ≡ told → Gives sink (marked_text (prefix_in (Whole line)) (reply_of (told_by told))) before after turn
+          by : (told : Option Refusal) → refusal_of fault ≡ told → Gives sink (prefixed_text (prefix_in (Whole line)) (reply_of (told_by told)))
+              before after turn
               → AnswersWith g sink (Whole line) (record { session = session; held = held; output = before })
               (record { session = session; held = held; output = after }) turn (reply_of (told_by told))
           by None is given =

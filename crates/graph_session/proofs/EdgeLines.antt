@@ -3,7 +3,7 @@ use Rattle.std.proofs.Common.{◌≡◌, ◌≢◌, ◌∙◌, ◌+◌, ◌<◌,
 use Rattle.std.proofs.Math.Seq.{take-length, take-suc}
 use Rattle.std.proofs.lemmas.List.{map-append, take-append-drop}
 use Rattle.stream_io.specs.declared.streams.Sink.{Ghosts}
-use Rattle.plain_graph.specs.Reply.{Told, end_text, item_line, marked_text, result_text, text_line}
+use Rattle.plain_graph.specs.Reply.{Told, end_text, item_line, prefixed_text, result_text, text_line}
 use Rattle.plain_graph.specs.declared.item.Item.{Item}
 use Rattle.rel_store.specs.declared.edge_row.EdgeRow.{EdgeRow}
 use Rattle.graph_session.specs.Answer.{Gives}
@@ -72,7 +72,7 @@ module _ {K : Type 0} {sink : Ghosts K} {old now : ReplyLines K} {label : List �
 
     -- the sink failed
     pub giving-stop : (turn : Turn) → AddsLine sink (result_text item) now new turn → turn ≢ Go
-        → Gives sink (marked_text old.prefix.now (Told (map item_line (items_of label rows)) end_text)) old.output.now new.output.now turn
+        → Gives sink (prefixed_text old.prefix.now (Told (map item_line (items_of label rows)) end_text)) old.output.now new.output.now turn
     giving-stop turn adds stops =
         lines-stop_in giving.has (map item_line (items_of label rows)) end_text (item_line (item_of label (row_at rows n)))
         (subst (λ (lines : List (List ℕ)). AreFirst lines (map item_line (items_of label rows))) (lines-more label rows n lt) (first-rows label rows (n + 1)))
@@ -81,9 +81,9 @@ module _ {K : Type 0} {sink : Ghosts K} {old now : ReplyLines K} {label : List �
   -- all have lines
   pub giving-end : n ≤ length rows → length rows ≤ n → (then : K) (turn : Turn)
       → Gives sink (now.buffer.now.bytes ++ (now.prefix.now ++ text_line end_text)) now.output.now then turn
-      → Gives sink (marked_text old.prefix.now (Told (map item_line (items_of label rows)) end_text)) old.output.now then turn
+      → Gives sink (prefixed_text old.prefix.now (Told (map item_line (items_of label rows)) end_text)) old.output.now then turn
   giving-end low high then turn gives =
       let same : n ≡ length rows = omega (arith, low, high) in
-      subst (λ (lines : List (List ℕ)). Gives sink (marked_text old.prefix.now (Told lines end_text)) old.output.now then turn)
+      subst (λ (lines : List (List ℕ)). Gives sink (prefixed_text old.prefix.now (Told lines end_text)) old.output.now then turn)
       (ap (λ (m : ℕ). edge_lines label m rows) same ∙ ap (λ (found : List EdgeRow). map item_line (items_of label found)) (take-length rows))
       (lines-last giving.has (text_line end_text) then turn gives)

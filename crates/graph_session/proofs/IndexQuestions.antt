@@ -7,7 +7,7 @@ use Rattle.plain_graph.specs.Indexes.{scan}
 use Rattle.plain_graph.specs.Lines.{asked_of, index_of, listed}
 use Rattle.plain_graph.specs.Meaning.{meaning}
 use Rattle.plain_graph.specs.Refusals.{lacks_index}
-use Rattle.plain_graph.specs.Reply.{Told, end_text, item_line, marked_text}
+use Rattle.plain_graph.specs.Reply.{Told, end_text, item_line, prefixed_text}
 use Rattle.plain_graph.specs.declared.command.Command.{Command}
 use Rattle.plain_graph.specs.declared.command.Command.TheVariants as commands
 use Rattle.plain_graph.specs.declared.item.Item.TheVariants as items
@@ -40,7 +40,7 @@ module _ {R K : Type 0} {space : SpaceGhosts R} {sink : SinkGhosts K} {names : L
   -- there is none
   no-index : (asked : Option Index) → index_of command ≡ asked → asked ≢ None
       → OfStore space names a (λ graph. lacks_index (index_of command) graph refusals.NoIndex)
-      → Gives sink (marked_text prefix (reply_of (answer_for faults.NoIndex))) before after turn
+      → Gives sink (prefixed_text prefix (reply_of (answer_for faults.NoIndex))) before after turn
       → GivesReading space sink names command prefix a b before after turn
   no-index None is some lacks gives = absurd (some refl)
   no-index (Some index) is some lacks gives =
@@ -61,7 +61,7 @@ module _ {R K : Type 0} {space : SpaceGhosts R} {sink : SinkGhosts K} {names : L
   pub asks-unfound : (fault : LookupFault) → (fault ≡ faults.NoIndex → index_of command ≢ None) → (fault ≡ faults.Disk → Rose (space.faults a) (space.faults b))
       → OfStore space names a (λ graph. fault ≡ faults.NoIndex → lacks_index (index_of command) graph refusals.NoIndex)
       → (space.tells → BlamesBroken (space.state a).records (space.state a).shape fault)
-      → Gives sink (marked_text prefix (reply_of (answer_for fault))) before after turn → GivesReading space sink names command prefix a b before after turn
+      → Gives sink (prefixed_text prefix (reply_of (answer_for fault))) before after turn → GivesReading space sink names command prefix a b before after turn
   asks-unfound faults.NoIndex some rose refused blames gives = no-index (index_of command) refl (some refl) (λ told store. refused told store refl) gives
   asks-unfound faults.Memory some rose refused blames gives = asks-memory asks read gives
   asks-unfound faults.Disk some rose refused blames gives = asks-disk asks read (rose refl) gives
@@ -89,7 +89,7 @@ module _ (label key : List ℕ) (value : Value) where
     -- the nodes were told
     pub gives-found : (nodes : List ℕ) → OfStore space names a (λ graph. HasIndex graph label key)
         → OfStore space names a (λ graph. map items.Vertex nodes ≡ meaning graph (scan label key value))
-        → Gives sink (marked_text prefix (Told (map vertex_line nodes) end_text)) before after turn
+        → Gives sink (prefixed_text prefix (Told (map vertex_line nodes) end_text)) before after turn
         → GivesReading space sink names (commands.Find label key value) prefix a b before after turn
     gives-found nodes there is gives =
         asks-told finds read (listed (map vertex_line nodes)) (nodes, refl) refl (λ told store. tt) there
@@ -99,7 +99,7 @@ module _ (label key : List ℕ) (value : Value) where
     pub gives-unfound : (fault : LookupFault) → (fault ≡ faults.Disk → Rose (space.faults a) (space.faults b))
         → OfStore space names a (λ graph. IsIndexRefusal graph label key fault)
         → (space.tells → BlamesBroken (space.state a).records (space.state a).shape fault)
-        → Gives sink (marked_text prefix (reply_of (answer_for fault))) before after turn
+        → Gives sink (prefixed_text prefix (reply_of (answer_for fault))) before after turn
         → GivesReading space sink names (commands.Find label key value) prefix a b before after turn
     gives-unfound fault rose refused blames gives =
         asks-unfound finds (λ graph. tt) read fault (λ is e. cc) rose

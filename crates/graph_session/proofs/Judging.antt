@@ -4,7 +4,7 @@ use Rattle.fault_count.specs.Cause.{Rose}
 use Rattle.stream_io.specs.declared.streams.Sink.{Ghosts as SinkGhosts}
 use Rattle.plain_graph.specs.Counts.{counts_of}
 use Rattle.plain_graph.specs.Lines.{broken_text, counts_text, one_line, sound_text}
-use Rattle.plain_graph.specs.Reply.{DiskFailed, Faulted, NoMemory, Told, marked_text}
+use Rattle.plain_graph.specs.Reply.{DiskFailed, Faulted, NoMemory, Told, prefixed_text}
 use Rattle.plain_graph.specs.declared.command.Command.TheVariants as commands
 use Rattle.plain_graph.specs.declared.counts.Counts.{Counts}
 use Rattle.rec_bytes.specs.Fault.{of_space}
@@ -35,7 +35,7 @@ module _ {R K : Type 0} {space : SpaceGhosts R} {sink : SinkGhosts K} (names : L
     {before after : K} {turn : Turn} where
   -- the records keep the rules
   pub gives-sound : (space.tells → IsIndexed (space.state a).records (space.state a).shape)
-      → Gives sink (marked_text prefix (Told [] sound_text)) before after turn → GivesReading space sink names commands.Check prefix a b before after turn
+      → Gives sink (prefixed_text prefix (Told [] sound_text)) before after turn → GivesReading space sink names commands.Check prefix a b before after turn
   gives-sound keeps gives = record {
     reply = Told [] sound_text;
     form = (one_line sound_text, inl refl, refl, refl);
@@ -50,7 +50,7 @@ module _ {R K : Type 0} {space : SpaceGhosts R} {sink : SinkGhosts K} (names : L
   -- a rule is broken, so it is no store that stands for a graph
   pub gives-broken : (damage : Damage) → (space.tells → IsLeastBroken (space.state a).records (space.state a).shape 1 damage)
       → (space.tells → IsIndexed (space.state a).records (space.state a).shape → verdicts.Broken damage ≡ verdicts.Sound)
-      → Gives sink (marked_text prefix (Told [] (broken_text damage.file damage.id damage.rule))) before after turn
+      → Gives sink (prefixed_text prefix (Told [] (broken_text damage.file damage.id damage.rule))) before after turn
       → GivesReading space sink names commands.Check prefix a b before after turn
   gives-broken damage least breaks gives = record {
     reply = Told [] (broken_text damage.file damage.id damage.rule);
@@ -63,7 +63,7 @@ module _ {R K : Type 0} {space : SpaceGhosts R} {sink : SinkGhosts K} (names : L
     idle = λ spared. absurd (check-spared spared);
   }
 
-  gives-memory : Gives sink (marked_text prefix (Faulted [] NoMemory)) before after turn
+  gives-memory : Gives sink (prefixed_text prefix (Faulted [] NoMemory)) before after turn
       → GivesReading space sink names commands.Check prefix a b before after turn
   gives-memory gives = record {
     reply = Faulted [] NoMemory;
@@ -76,7 +76,7 @@ module _ {R K : Type 0} {space : SpaceGhosts R} {sink : SinkGhosts K} (names : L
     idle = λ spared. absurd (check-spared spared);
   }
 
-  gives-disk : Rose (space.faults a) (space.faults b) → Gives sink (marked_text prefix (Faulted [] DiskFailed)) before after turn
+  gives-disk : Rose (space.faults a) (space.faults b) → Gives sink (prefixed_text prefix (Faulted [] DiskFailed)) before after turn
       → GivesReading space sink names commands.Check prefix a b before after turn
   gives-disk rose gives = record {
     reply = Faulted [] DiskFailed;
@@ -91,7 +91,7 @@ module _ {R K : Type 0} {space : SpaceGhosts R} {sink : SinkGhosts K} (names : L
 
   -- no verdict was found
   pub gives-fault : (fault : SpaceFault) → (fault ≡ faults.Disk → Rose (space.faults a) (space.faults b))
-      → Gives sink (marked_text prefix (reply_of (answers.Fault (of_space fault)))) before after turn
+      → Gives sink (prefixed_text prefix (reply_of (answers.Fault (of_space fault)))) before after turn
       → GivesReading space sink names commands.Check prefix a b before after turn
   gives-fault faults.Memory rose gives = gives-memory gives
   gives-fault faults.Disk rose gives = gives-disk (rose refl) gives
@@ -100,7 +100,7 @@ module _ {R K : Type 0} {space : SpaceGhosts R} {sink : SinkGhosts K} (names : L
 pub gives-counts : {R K : Type 0} {space : SpaceGhosts R} {sink : SinkGhosts K} (names : List (List ℕ)) {a : R} → IsRead space a a
     → {prefix : List ℕ} {before after : K} {turn : Turn} → (counts : Counts)
     → (IsWellFormed (space.state a).records (space.state a).shape → counts ≡ counts_of (graph_of (space.state a).records))
-    → Gives sink (marked_text prefix (Told [] (counts_text counts))) before after turn
+    → Gives sink (prefixed_text prefix (Told [] (counts_text counts))) before after turn
     → GivesReading space sink names commands.Stats prefix a a before after turn
 gives-counts names read counts are gives = record {
   reply = Told [] (counts_text counts);

@@ -4,7 +4,7 @@ use Rattle.std.proofs.lemmas.Grind.{flat_map-append}
 use Rattle.std.proofs.lemmas.List.{append-nil}
 use Rattle.stream_io.specs.Streams.{TakesFront}
 use Rattle.stream_io.specs.declared.streams.Sink.{Ghosts as SinkGhosts}
-use Rattle.plain_graph.specs.Reply.{Told, marked_line, marked_text, text_line}
+use Rattle.plain_graph.specs.Reply.{Told, prefixed_line, prefixed_text, text_line}
 use Rattle.graph_session.specs.Answer.{Delivers, Gives}
 use Rattle.graph_session.specs.Exchange.{AreFirst}
 use Rattle.graph_session.specs.ReplyLines.{AddsLine, BeginsLines, HaveSameSink}
@@ -15,15 +15,15 @@ use Rattle.graph_session.proofs.Streams.{Rose-from, delivers-after, takes-after,
 
 -- the bytes of lines, one after the other, each after the prefix
 abbrev pub bytes_of : List ℕ → List (List ℕ) → List ℕ
-bytes_of prefix lines = flat_map (marked_line prefix) lines
+bytes_of prefix lines = flat_map (prefixed_line prefix) lines
 
-bytes_of-one : (prefix line : List ℕ) → bytes_of prefix (line ∷ []) ≡ marked_line prefix line
-bytes_of-one prefix line = append-nil (marked_line prefix line)
+bytes_of-one : (prefix line : List ℕ) → bytes_of prefix (line ∷ []) ≡ prefixed_line prefix line
+bytes_of-one prefix line = append-nil (prefixed_line prefix line)
 
 bytes_of-more : (prefix : List ℕ) (lines : List (List ℕ)) (line : List ℕ)
-    → bytes_of prefix (lines ++ line ∷ []) ≡ bytes_of prefix lines ++ marked_line prefix line
+    → bytes_of prefix (lines ++ line ∷ []) ≡ bytes_of prefix lines ++ prefixed_line prefix line
 bytes_of-more prefix lines line =
-    flat_map-append (marked_line prefix) lines (line ∷ []) ∙ ap (λ (xs : List ℕ). bytes_of prefix lines ++ xs) (bytes_of-one prefix line)
+    flat_map-append (prefixed_line prefix) lines (line ∷ []) ∙ ap (λ (xs : List ℕ). bytes_of prefix lines ++ xs) (bytes_of-one prefix line)
 
 -- What a sink took, with what is held beside it, is the text.
 abbrev pub HasGiven : List ℕ → List ℕ → List ℕ → List ℕ → Type 0
@@ -112,10 +112,10 @@ module _ {K : Type 0} {sink : SinkGhosts K} {old now : ReplyLines K} {lines : Li
   -- the sink failed in the lines of an answer
   pub lines-stop_in : (all : List (List ℕ)) (last : List ℕ) (line : List ℕ) → AreFirst (lines ++ line ∷ []) all → (new : ReplyLines K) (turn : Turn)
       → AddsLine sink (text_line line) now new turn → turn ≢ Go
-      → Gives sink (marked_text old.prefix.now (Told all last)) old.output.now new.output.now turn
+      → Gives sink (prefixed_text old.prefix.now (Told all last)) old.output.now new.output.now turn
   lines-stop_in all last line first new turn adds stops =
       subst (λ (text : List ℕ). Gives sink text old.output.now new.output.now turn)
-      (sym (append_assoc (bytes_of old.prefix.now (lines ++ line ∷ [])) (bytes_of old.prefix.now first.0) (marked_line old.prefix.now last))
-      ∙ ap (λ (xs : List ℕ). xs ++ marked_line old.prefix.now last) (sym (flat_map-append (marked_line old.prefix.now) (lines ++ line ∷ []) first.0)
+      (sym (append_assoc (bytes_of old.prefix.now (lines ++ line ∷ [])) (bytes_of old.prefix.now first.0) (prefixed_line old.prefix.now last))
+      ∙ ap (λ (xs : List ℕ). xs ++ prefixed_line old.prefix.now last) (sym (flat_map-append (prefixed_line old.prefix.now) (lines ++ line ∷ []) first.0)
       ∙ ap (bytes_of old.prefix.now) first.1))
-      (lines-stop line new turn adds stops (bytes_of old.prefix.now first.0 ++ marked_line old.prefix.now last))
+      (lines-stop line new turn adds stops (bytes_of old.prefix.now first.0 ++ prefixed_line old.prefix.now last))

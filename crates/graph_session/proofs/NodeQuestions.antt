@@ -6,7 +6,7 @@ use Rattle.plain_graph.specs.Changes.{IsChange}
 use Rattle.plain_graph.specs.Graph.{Graph, empty_graph, has_node}
 use Rattle.plain_graph.specs.Kinds.{AreQuestions, Kind, Question}
 use Rattle.plain_graph.specs.Lines.{Asked, At, AtEdge, Between, IsFormed, IsQuestion, Nowhere, Reading, Shows, asked_of, kind_of}
-use Rattle.plain_graph.specs.Reply.{Refused, Told, marked_text}
+use Rattle.plain_graph.specs.Reply.{Refused, Told, prefixed_text}
 use Rattle.plain_graph.specs.declared.command.Command.{Command}
 use Rattle.plain_graph.specs.declared.command.Command.TheVariants as commands
 use Rattle.plain_graph.specs.declared.refusal.Refusal.{Refusal}
@@ -131,13 +131,14 @@ module _ {R K : Type 0} {space : SpaceGhosts R} {sink : SinkGhosts K} {names : L
   -- the reading was told
   pub gives-told : (reading : Reading) → IsFormed command reading → reading.is_past ≡ false
       → OfStore space names a (λ graph. HasElements graph (asked_of command)) → OfStore space names a (λ graph. Shows graph command reading)
-      → Gives sink (marked_text prefix (Told reading.lines reading.last)) before after turn → GivesReading space sink names command prefix a b before after turn
+      → Gives sink (prefixed_text prefix (Told reading.lines reading.last)) before after turn
+      → GivesReading space sink names command prefix a b before after turn
   gives-told reading formed none has shows gives = asks-told (elements-asked asks) read reading formed none has
       (λ told store. asks-no_index command asks.some (graph_of (space.state a).records)) shows gives
 
   -- an element is missing
   pub gives-missing : (why : Refusal) → TellsMissing (asked_of command) why → OfStore space names a (λ graph. LacksElement graph (asked_of command) why)
-      → Gives sink (marked_text prefix (Refused why)) before after turn → GivesReading space sink names command prefix a b before after turn
+      → Gives sink (prefixed_text prefix (Refused why)) before after turn → GivesReading space sink names command prefix a b before after turn
   gives-missing why tells lacks gives =
       asks-refused (elements-asked asks) read why (asks-refusable asks) (inl tells)
       (λ told store limit. unchanging-refused command (asks-idle asks) limit (graph_of (space.state a).records) why (lacks told store)) gives
@@ -146,7 +147,7 @@ module _ {R K : Type 0} {space : SpaceGhosts R} {sink : SinkGhosts K} {names : L
   pub gives-unknown : AsksNode (asked_of command) → (fault : ExpandFault) → (fault ≡ faults.Disk → Rose (space.faults a) (space.faults b))
       → OfStore space names a (λ graph. (id : ℕ) → fault ≡ faults.NoNode id → LacksElement graph (asked_of command) (refusals.NoNode id))
       → (space.tells → BlamesBroken (space.state a) fault)
-      → Gives sink (marked_text prefix (reply_of (answer_for fault))) before after turn → GivesReading space sink names command prefix a b before after turn
+      → Gives sink (prefixed_text prefix (reply_of (answer_for fault))) before after turn → GivesReading space sink names command prefix a b before after turn
   gives-unknown nodes (faults.NoNode id) rose missing blames gives = gives-missing (refusals.NoNode id) (tells-node (asked_of command) nodes id)
       (λ told store. missing told store id refl) gives
   gives-unknown nodes faults.Memory rose missing blames gives = asks-memory (elements-asked asks) read gives

@@ -5,7 +5,7 @@ use Rattle.stream_io.specs.declared.streams.Sink.{Ghosts as SinkGhosts}
 use Rattle.plain_graph.specs.Graph.{Graph}
 use Rattle.plain_graph.specs.Lines.{IsFormed, IsQuestion, Reading, Shows, asked_of}
 use Rattle.plain_graph.specs.Refusals.{FirstReason, change_reasons}
-use Rattle.plain_graph.specs.Reply.{DamagedRecord, DiskFailed, Faulted, NoMemory, Refused, Told, marked_text}
+use Rattle.plain_graph.specs.Reply.{DamagedRecord, DiskFailed, Faulted, NoMemory, Refused, Told, prefixed_text}
 use Rattle.plain_graph.specs.declared.command.Command.{Command}
 use Rattle.plain_graph.specs.declared.command.Command.TheVariants as commands
 use Rattle.plain_graph.specs.declared.refusal.Refusal.{Refusal}
@@ -46,7 +46,8 @@ module _ {R K : Type 0} {space : SpaceGhosts R} {sink : SinkGhosts K} {names : L
   pub asks-told : (reading : Reading) → IsFormed command reading → reading.is_past ≡ false
       → OfStore space names a (λ graph. HasElements graph (asked_of command)) → OfStore space names a (λ graph. HasAsked graph command)
       → OfStore space names a (λ graph. Shows graph command reading)
-      → Gives sink (marked_text prefix (Told reading.lines reading.last)) before after turn → GivesReading space sink names command prefix a b before after turn
+      → Gives sink (prefixed_text prefix (Told reading.lines reading.last)) before after turn
+      → GivesReading space sink names command prefix a b before after turn
   asks-told reading formed none has there shows gives = record {
     reply = Told reading.lines reading.last;
     form = (reading, formed, refl, refl);
@@ -64,7 +65,7 @@ module _ {R K : Type 0} {space : SpaceGhosts R} {sink : SinkGhosts K} {names : L
   -- it was refused
   pub asks-refused : (why : Refusal) → IsRefusable command → LacksAsked command why
       → OfStore space names a (λ graph. (limit : ℕ) → FirstReason change_reasons limit graph command why)
-      → Gives sink (marked_text prefix (Refused why)) before after turn → GivesReading space sink names command prefix a b before after turn
+      → Gives sink (prefixed_text prefix (Refused why)) before after turn → GivesReading space sink names command prefix a b before after turn
   asks-refused why refusable lacks first gives = record {
     reply = Refused why;
     form = (refusable, lacks);
@@ -77,7 +78,8 @@ module _ {R K : Type 0} {space : SpaceGhosts R} {sink : SinkGhosts K} {names : L
   }
 
   -- there was no memory
-  pub asks-memory : Gives sink (marked_text prefix (Faulted [] NoMemory)) before after turn → GivesReading space sink names command prefix a b before after turn
+  pub asks-memory : Gives sink (prefixed_text prefix (Faulted [] NoMemory)) before after turn
+      → GivesReading space sink names command prefix a b before after turn
   asks-memory gives = record {
     reply = Faulted [] NoMemory;
     form = (asks.unspared, asks.reading, asks.formed, tt, (asks.reading.lines, refl));
@@ -90,7 +92,7 @@ module _ {R K : Type 0} {space : SpaceGhosts R} {sink : SinkGhosts K} {names : L
   }
 
   -- the disk failed
-  pub asks-disk : Rose (space.faults a) (space.faults b) → Gives sink (marked_text prefix (Faulted [] DiskFailed)) before after turn
+  pub asks-disk : Rose (space.faults a) (space.faults b) → Gives sink (prefixed_text prefix (Faulted [] DiskFailed)) before after turn
       → GivesReading space sink names command prefix a b before after turn
   asks-disk rose gives = record {
     reply = Faulted [] DiskFailed;
@@ -105,7 +107,7 @@ module _ {R K : Type 0} {space : SpaceGhosts R} {sink : SinkGhosts K} {names : L
 
   -- a record breaks a rule, so it is no store
   pub asks-damaged : (damage : Damage) → (space.tells → BreaksAny (space.state a).records (space.state a).shape damage)
-      → Gives sink (marked_text prefix (Faulted [] (DamagedRecord damage.file damage.id))) before after turn
+      → Gives sink (prefixed_text prefix (Faulted [] (DamagedRecord damage.file damage.id))) before after turn
       → GivesReading space sink names command prefix a b before after turn
   asks-damaged damage broken gives = record {
     reply = Faulted [] (DamagedRecord damage.file damage.id);
@@ -122,7 +124,7 @@ module _ {R K : Type 0} {space : SpaceGhosts R} {sink : SinkGhosts K} {names : L
   -- records were not read to their end
   pub asks-unread : (fault : Fault) → (fault ≡ faults.Disk → Rose (space.faults a) (space.faults b))
       → (space.tells → BlamesBroken (space.state a).records (space.state a).shape fault)
-      → Gives sink (marked_text prefix (reply_of (answers.Fault fault))) before after turn
+      → Gives sink (prefixed_text prefix (reply_of (answers.Fault fault))) before after turn
       → GivesReading space sink names command prefix a b before after turn
   asks-unread faults.Memory rose blames gives = asks-memory gives
   asks-unread faults.Disk rose blames gives = asks-disk (rose refl) gives

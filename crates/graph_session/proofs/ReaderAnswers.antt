@@ -6,7 +6,7 @@ use Rattle.disk_model.proofs.Spans.{OnlyNow, only_reads_none}
 use Rattle.stream_io.specs.Lines.{Whole}
 use Rattle.stream_io.specs.declared.streams.Sink.{Ghosts as SinkGhosts}
 use Rattle.plain_graph.specs.Lines.{IsQuestion, kind_of}
-use Rattle.plain_graph.specs.Reply.{Refused, Reply, marked_text}
+use Rattle.plain_graph.specs.Reply.{Refused, Reply, prefixed_text}
 use Rattle.plain_graph.specs.declared.command.Command.{Command}
 use Rattle.plain_graph.specs.declared.command.Command.TheVariants as commands
 use Rattle.plain_graph.specs.declared.refusal.Refusal.{Refusal}
@@ -87,7 +87,7 @@ module _ {D K : Type 0} {g : DiskGhosts D} {sink : SinkGhosts K} {reader : ℕ} 
     (parsed : IsParsed line reader command prefix) (loud : IsLoud command)
     {old new : Terminal D K} {turn : Turn} where
   -- its reply was given to the sink
-  answers-reader : (reply : Reply) → Gives sink (marked_text prefix reply) old.output new.output turn → OnlyReads g old.session.disk new.session.disk
+  answers-reader : (reply : Reply) → Gives sink (prefixed_text prefix reply) old.output new.output turn → OnlyReads g old.session.disk new.session.disk
       → Onward g old.session new.session
       → (HasNoDraft old.session → MayStepReader g reader (shared_in old) reply (shared_in new) (Whole line))
       → JudgesCommand g reader command (shared_in old) reply
@@ -96,7 +96,7 @@ module _ {D K : Type 0} {g : DiskGhosts D} {sink : SinkGhosts K} {reader : ℕ} 
       → AnswersLine g sink (Whole line) old new turn
   answers-reader reply gives reads onward may judges settles = record {
     reply = reply;
-    text = λ told. subst (λ (m : List ℕ). Delivers turn (sink.taken old.output) (sink.taken new.output) (marked_text m reply)) (sym parsed.prefix_is)
+    text = λ told. subst (λ (m : List ℕ). Delivers turn (sink.taken old.output) (sink.taken new.output) (prefixed_text m reply)) (sym parsed.prefix_is)
         (gives.delivers told);
     quit = (λ e. absurd (gives.goes e), λ h. absurd (quit-only parsed.only (λ is. subst IsLoud is loud tt) h));
     may = λ none. may-reader reader seven parsed.session_is (may none);
@@ -117,7 +117,7 @@ module _ {D K : Type 0} where
       {before after : K} {turn : Turn} where
     -- a line that is refused before a snapshot is looked at
     pub answers-refuses : (view : SharedView D) (why : Refusal) → RefusesReader reader view command why
-        → Gives sink (marked_text prefix (Refused why)) before after turn → AnswersLine g sink (Whole line) (terminal view before) (terminal view after) turn
+        → Gives sink (prefixed_text prefix (Refused why)) before after turn → AnswersLine g sink (Whole line) (terminal view before) (terminal view after) turn
     answers-refuses view why refuses gives =
         answers-reader seven parsed loud {old = terminal view before} {new = terminal view after} (Refused why) gives
         (only_reads_none g view.session.disk only_now) (onward-none only_now)
@@ -127,7 +127,7 @@ module _ {D K : Type 0} where
 
     -- a line that makes no call of the disk
     module _ (old new : SharedView D) (served : ServesReader reader old command) (reply : Reply)
-        (gives : Gives sink (marked_text prefix reply) before after turn)
+        (gives : Gives sink (prefixed_text prefix reply) before after turn)
       where
         uncalled : new.session ≡ old.session → ¬ IsQuestion command → MayStepReader g reader old reply new (Whole line)
             → ((known : Bool) (state : SharedState) → IsSharedAt (as_known known g) old state → SettlesShared (ReaderStep reader) (as_known known g)

@@ -7,7 +7,7 @@ use Rattle.plain_graph.specs.ElementMaps.{element_map, making_text}
 use Rattle.plain_graph.specs.Graph.{Graph, edge_number, node_number}
 use Rattle.plain_graph.specs.Lines.{asked_of, item_at, one_line}
 use Rattle.plain_graph.specs.Meaning.{edge_item, vertex_of}
-use Rattle.plain_graph.specs.Reply.{marked_text}
+use Rattle.plain_graph.specs.Reply.{prefixed_text}
 use Rattle.plain_graph.specs.declared.command.Command.TheVariants as commands
 use Rattle.plain_graph.specs.declared.command.Target.{Target}
 use Rattle.plain_graph.specs.declared.command.Target.TheVariants as targets
@@ -130,7 +130,8 @@ module _ {R K : Type 0} {space : SpaceGhosts R} {sink : SinkGhosts K} {names : L
 
   -- it wasn't
   pub gives-unviewed : (answer : Answer) → IsViewAnswer space target a b answer → OfStore space names a (λ graph. IsViewRefusal graph target answer)
-      → Gives sink (marked_text prefix (reply_of answer)) before after turn → GivesReading space sink names (commands.View target) prefix a b before after turn
+      → Gives sink (prefixed_text prefix (reply_of answer)) before after turn
+      → GivesReading space sink names (commands.View target) prefix a b before after turn
   gives-unviewed answers.Done is refused gives = absurd is
   gives-unviewed (answers.NodeMade id) is refused gives = absurd is
   gives-unviewed (answers.EdgeMade id) is refused gives = absurd is

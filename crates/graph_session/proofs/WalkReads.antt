@@ -2,7 +2,7 @@
 use Rattle.std.proofs.Common.{◌≡◌, ℕ, ◌+◌, List, [], inl, subst}
 use Rattle.stream_io.specs.declared.streams.Sink.{Ghosts as SinkGhosts}
 use Rattle.plain_graph.specs.Lines.{types_of}
-use Rattle.plain_graph.specs.Reply.{DiskFailed, Faulted, NoMemory, Refused, marked_text}
+use Rattle.plain_graph.specs.Reply.{DiskFailed, Faulted, NoMemory, Refused, prefixed_text}
 use Rattle.plain_graph.specs.declared.refusal.Refusal.TheVariants as refusals
 use Rattle.rec_bytes.specs.Space.{State}
 use Rattle.prop_store.specs.Reading.{ReadsAtMost}
@@ -36,7 +36,7 @@ module _ {K : Type 0} {sink : SinkGhosts K} (Costs : List (List ℕ) → List �
     (store : IsNamedStore old.records old.shape names) (from to : ℕ) {prefix : List ℕ} {before after : K} {turn : Turn} where
   -- where no walk is found; a store has no damaged record
   pub costs-fault : (fault : ExpandFault) → ReadsEnds old new fault → IsPathFault old from to fault
-      → Gives sink (marked_text prefix (reply_of (answer_for fault))) before after turn → GivesAt sink (CostsReply Costs old new) prefix before after turn
+      → Gives sink (prefixed_text prefix (reply_of (answer_for fault))) before after turn → GivesAt sink (CostsReply Costs old new) prefix before after turn
   costs-fault (faults.NoNode id) ends why gives = record {
     reply = Refused (refusals.NoNode id);
     gives = gives;

@@ -5,7 +5,7 @@ use Rattle.std.proofs.Math.Seq.{take-length, take-suc}
 use Rattle.std.proofs.lemmas.List.{map-append, take-append-drop}
 use Rattle.stream_io.specs.declared.streams.Sink.{Ghosts}
 use Rattle.plain_graph.specs.Lines.{Reading, listed, no_path_text, path_text, walk_reading}
-use Rattle.plain_graph.specs.Reply.{Told, end_text, item_line, marked_text, text_line}
+use Rattle.plain_graph.specs.Reply.{Told, end_text, item_line, prefixed_text, text_line}
 use Rattle.plain_graph.specs.declared.item.Item.TheVariants as items
 use Rattle.graph_session.specs.Answer.{Gives}
 use Rattle.graph_session.specs.Exchange.{AreFirst}
@@ -48,7 +48,7 @@ module _ {A : Type 0} (line_of : A → List ℕ) (front : List (List ℕ)) (xs :
 
       -- the sink failed
       pub listing-stop : (last : List ℕ) (turn : Turn) → AddsLine sink (text_line (line_of (get_or xs n d))) now new turn → turn ≢ Go
-          → Gives sink (marked_text old.prefix.now (Told (front ++ map line_of xs) last)) old.output.now new.output.now turn
+          → Gives sink (prefixed_text old.prefix.now (Told (front ++ map line_of xs) last)) old.output.now new.output.now turn
       listing-stop last turn adds stops =
           lines-stop_in has (front ++ map line_of xs) last (line_of (get_or xs n d))
           (subst (λ (lines : List (List ℕ)). AreFirst lines (front ++ map line_of xs)) (lines_to-more n d lt) (lines_to-first (n + 1))) new turn adds stops
@@ -56,10 +56,10 @@ module _ {A : Type 0} (line_of : A → List ℕ) (front : List (List ℕ)) (xs :
     -- all have lines
     pub listing-end : n ≤ length xs → length xs ≤ n → (last : List ℕ) (then : K) (turn : Turn)
         → Gives sink (now.buffer.now.bytes ++ (now.prefix.now ++ text_line last)) now.output.now then turn
-        → Gives sink (marked_text old.prefix.now (Told (front ++ map line_of xs) last)) old.output.now then turn
+        → Gives sink (prefixed_text old.prefix.now (Told (front ++ map line_of xs) last)) old.output.now then turn
     listing-end low high last then turn gives =
         let same : n ≡ length xs = omega (arith, low, high) in
-        subst (λ (lines : List (List ℕ)). Gives sink (marked_text old.prefix.now (Told lines last)) old.output.now then turn)
+        subst (λ (lines : List (List ℕ)). Gives sink (prefixed_text old.prefix.now (Told lines last)) old.output.now then turn)
         (ap lines_to same ∙ ap (λ (all : List A). front ++ map line_of all) (take-length xs))
         (lines-last has (text_line last) then turn gives)
 
@@ -79,15 +79,15 @@ walk-listed [] some = absurd (omega (arith, some))
 walk-listed (first ∷ later) some = ap (λ (edges : ℕ). listed (path_text edges ∷ map node_line (first ∷ later))) (omega arith)
 
 pub gives-walk : {K : Type 0} {sink : Ghosts K} {before after : K} {turn : Turn} (prefix walk : List ℕ) → 0 < length walk
-    → Gives sink (marked_text prefix (Told (edge_count_lines walk ++ map node_line walk) end_text)) before after turn
-    → Gives sink (marked_text prefix (Told (walk_reading walk).lines (walk_reading walk).last)) before after turn
+    → Gives sink (prefixed_text prefix (Told (edge_count_lines walk ++ map node_line walk) end_text)) before after turn
+    → Gives sink (prefixed_text prefix (Told (walk_reading walk).lines (walk_reading walk).last)) before after turn
 gives-walk {sink = sink} {before = before} {after = after} {turn = turn} prefix walk some gives =
-    subst (λ (reading : Reading). Gives sink (marked_text prefix (Told reading.lines reading.last)) before after turn) (walk-listed walk some) gives
+    subst (λ (reading : Reading). Gives sink (prefixed_text prefix (Told reading.lines reading.last)) before after turn) (walk-listed walk some) gives
 
 -- and one without any, so
 pub gives-no_walk : {K : Type 0} {sink : Ghosts K} {before after : K} {turn : Turn} (prefix walk : List ℕ) → length walk ≡ 0
     → Gives sink (prefix ++ text_line no_path_text) before after turn
-    → Gives sink (marked_text prefix (Told (walk_reading walk).lines (walk_reading walk).last)) before after turn
+    → Gives sink (prefixed_text prefix (Told (walk_reading walk).lines (walk_reading walk).last)) before after turn
 gives-no_walk prefix [] none gives = gives
 gives-no_walk prefix (first ∷ later) none gives = absurd (omega (arith, none))
 

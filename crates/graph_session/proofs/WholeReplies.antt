@@ -8,7 +8,7 @@ use Rattle.plain_graph.specs.Graph.{Graph}
 use Rattle.plain_graph.specs.Lines.{AreResults, Reading}
 use Rattle.plain_graph.specs.Meaning.{has_past_count, meaning}
 use Rattle.plain_graph.specs.Reply.{DamagedRecord, DiskFailed, Fault, Faulted, NoMemory, PastCount, Reply, Told}
-use Rattle.plain_graph.specs.Reply.{end_text, fault_line, item_line, marked_line, marked_text}
+use Rattle.plain_graph.specs.Reply.{end_text, fault_line, item_line, prefixed_line, prefixed_text}
 use Rattle.plain_graph.specs.declared.command.Command.TheVariants as commands
 use Rattle.plain_graph.specs.declared.element_map.ElementMap.{ElementMap}
 use Rattle.plain_graph.specs.declared.item.Item.{Item}
@@ -134,14 +134,14 @@ whole_of true first more = Faulted first PastCount
 
 -- what of its text is not the first lines
 abbrev pub rest_of : List ℕ → Bool → List (List ℕ) → List ℕ
-rest_of prefix false more = bytes_of prefix more ++ marked_line prefix end_text
+rest_of prefix false more = bytes_of prefix more ++ prefixed_line prefix end_text
 rest_of prefix true more = prefix ++ fault_line PastCount
 
 pub whole-text : (prefix : List ℕ) (past : Bool) (first more : List (List ℕ))
-    → bytes_of prefix first ++ rest_of prefix past more ≡ marked_text prefix (whole_of past first more)
+    → bytes_of prefix first ++ rest_of prefix past more ≡ prefixed_text prefix (whole_of past first more)
 whole-text prefix false first more =
-    sym (append_assoc (bytes_of prefix first) (bytes_of prefix more) (marked_line prefix end_text))
-    ∙ ap (λ (xs : List ℕ). xs ++ marked_line prefix end_text) (sym (flat_map-append (marked_line prefix) first more))
+    sym (append_assoc (bytes_of prefix first) (bytes_of prefix more) (prefixed_line prefix end_text))
+    ∙ ap (λ (xs : List ℕ). xs ++ prefixed_line prefix end_text) (sym (flat_map-append (prefixed_line prefix) first more))
 whole-text prefix true first more = refl
 
 pub whole-told : (past : Bool) (first more : List (List ℕ)) → told_fault (whole_of past first more) ≡ 0

@@ -5,7 +5,7 @@ use Rattle.disk_model.specs.declared.disk.Disk.{Ghosts as DiskGhosts}
 use Rattle.stream_io.specs.Lines.{InputLine}
 use Rattle.stream_io.specs.Streams.{TakesFront}
 use Rattle.stream_io.specs.declared.streams.Sink.{Ghosts as SinkGhosts}
-use Rattle.plain_graph.specs.Reply.{Reply, marked_text}
+use Rattle.plain_graph.specs.Reply.{Reply, prefixed_text}
 use Rattle.snap_store.specs.Snaps.{Snapshots}
 use Rattle.graph_session.specs.Console.{HasNoDraft, Onward, SessionView}
 use Rattle.graph_session.specs.DiskUse.{UsesDisk}
@@ -69,7 +69,7 @@ pub record AnswersLine {D K : Type 0} (disk : DiskGhosts D) (sink : SinkGhosts K
   pub reply : Reply
   pub text : sink.tells
       → Delivers turn (sink.taken old.output) (sink.taken new.output)
-      (marked_text (prefix_in line) reply)
+      (prefixed_text (prefix_in line) reply)
   pub quit : (turn ≡ Quit) ↔ IsQuit line
   pub may :
       HasNoDraft old.session

@@ -10,8 +10,8 @@ use Rattle.graph_ops.specs.ChangeLeft.{LeavesChange, LeavesMutation}
 use Rattle.graph_ops.specs.NewIds.{GetsFreeIds}
 
 -- A mutating query made its changes in turn, on some results of its reading part: which these are
--- is not said, so nothing is said of what `drop()` deletes. Its new elements have the identifiers of
--- their free list, and then those from the mark on. Any other line makes one change.
+-- is not said, so nothing is said of what `drop()` deletes. Its new elements have the identifiers
+-- of their free list, and then those from the mark on. Any other line makes one change.
 abbrev pub LeavesRecords : Command → Reply → Records → Records → List (List ℕ) → Type 0
 LeavesRecords (commands.Mutate reading mutation) reply old new names =
     (items : List Item) × (results : List Item) × (reply ≡ mutated_reply results)

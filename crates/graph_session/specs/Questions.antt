@@ -6,7 +6,7 @@ use Rattle.plain_graph.specs.Graph.{Graph}
 use Rattle.plain_graph.specs.Lines.{Reading, Shows}
 use Rattle.plain_graph.specs.Refusals.{FirstReason, NoReason, change_reasons}
 use Rattle.plain_graph.specs.Reply.{DamagedRecord, DiskFailed, Fault, Faulted, NoMemory, PastCount}
-use Rattle.plain_graph.specs.Reply.{Refused, Reply, Told, marked_text}
+use Rattle.plain_graph.specs.Reply.{Refused, Reply, Told, prefixed_text}
 use Rattle.plain_graph.specs.declared.command.Command.{Command}
 use Rattle.rec_bytes.specs.declared.space.Reads.{Ghosts as SpaceGhosts}
 use Rattle.store_rules.specs.Graph.{graph_of}
@@ -52,7 +52,7 @@ pub record GivesReading {R K : Type 0} (space : SpaceGhosts R) (sink : SinkGhost
     (turn : Turn) : Type 0 where
   pub reply : Reply
   pub form : MayTell command reply
-  pub gives : Gives sink (marked_text prefix reply) before after turn
+  pub gives : Gives sink (prefixed_text prefix reply) before after turn
   pub means : space.tells
       → IsNamedStore (space.state old).records (space.state old).shape names
       → Means (graph_of (space.state old).records) command reply

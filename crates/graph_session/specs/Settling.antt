@@ -4,7 +4,7 @@ use Rattle.disk_model.specs.declared.disk.Disk.{Ghosts}
 use Rattle.stream_io.specs.Lines.{Whole}
 use Rattle.plain_graph.specs.Kinds.{AreSilent}
 use Rattle.plain_graph.specs.Lines.{kind_of}
-use Rattle.plain_graph.specs.Reply.{Reply, mark_text}
+use Rattle.plain_graph.specs.Reply.{Reply, prefix_text}
 use Rattle.plain_graph.specs.declared.command.Command.{Command}
 use Rattle.rec_bytes.specs.declared.fault.Fault.TheVariants as faults
 use Rattle.graph_session.specs.declared.job.Act.{Act}
@@ -36,7 +36,7 @@ pub record IsParsed (line : List ℕ) (session : ℕ) (command : Command) (prefi
     : Type 0 where
   pub only : SpellsOnly line command
   pub session_is : session_of line ≡ session
-  pub prefix_is : mark_text (session_named line) ≡ prefix
+  pub prefix_is : prefix_text (session_named line) ≡ prefix
 
 -- a command that gets a reply
 abbrev pub IsLoud : Command → Type 0

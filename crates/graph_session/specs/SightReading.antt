@@ -2,7 +2,7 @@
 use Rattle.std.specs.Prelude.{◌≢◌, ℕ, ◌≤◌, List}
 use Rattle.fault_count.specs.Cause.{Rose}
 use Rattle.stream_io.specs.declared.streams.Sink.{Ghosts as SinkGhosts}
-use Rattle.plain_graph.specs.Reply.{Reply, marked_text}
+use Rattle.plain_graph.specs.Reply.{Reply, prefixed_text}
 use Rattle.plain_graph.specs.declared.command.Command.{Command}
 use Rattle.rec_bytes.specs.declared.shape.Shape.{Shape}
 use Rattle.store_rules.specs.Graph.{graph_of}
@@ -32,7 +32,7 @@ pub record GivesSight {K : Type 0} (tells : Type 0) (sink : SinkGhosts K) (seen 
     (faults : Counts) (before after : K) (turn : Turn) : Type 0 where
   pub reply : Reply
   pub form : MayTell command reply
-  pub gives : Gives sink (marked_text prefix reply) before after turn
+  pub gives : Gives sink (prefixed_text prefix reply) before after turn
   pub means : tells → IsNamedStore seen shape names → Means (graph_of seen) command reply
   pub judges : tells → Judges seen shape command reply
   pub told : told_fault reply ≢ 0 → Rose faults.was faults.now

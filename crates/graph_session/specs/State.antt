@@ -4,7 +4,7 @@ use Rattle.stream_io.specs.Lines.{InputLine, Whole, Long}
 use Rattle.plain_graph.specs.Graph.{Graph}
 use Rattle.plain_graph.specs.Kinds.{Change, Kind, Question, Sight}
 use Rattle.plain_graph.specs.Lines.{kind_of}
-use Rattle.plain_graph.specs.Reply.{mark_text}
+use Rattle.plain_graph.specs.Reply.{prefix_text}
 use Rattle.plain_graph.specs.declared.command.Command.{Command}
 use Rattle.plain_graph.specs.declared.command.Command.TheVariants as commands
 use Rattle.gremlin_parse.specs.Lines.{Spells}
@@ -79,7 +79,7 @@ session_in Long = 0
 
 -- what each line of its reply begins with
 abbrev pub prefix_in : InputLine → List ℕ
-prefix_in (Whole bytes) = mark_text (session_named bytes)
+prefix_in (Whole bytes) = prefix_text (session_named bytes)
 prefix_in Long = []
 
 abbrev pub IsQuit : InputLine → Type 0

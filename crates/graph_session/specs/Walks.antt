@@ -3,7 +3,8 @@ use Rattle.std.specs.Prelude.{◌≡◌, ℕ, ◌+◌, List, map}
 use Rattle.stream_io.specs.declared.streams.Sink.{Ghosts as SinkGhosts}
 use Rattle.plain_graph.specs.Lines.{IsFound, level_text, types_of, walk_reading}
 use Rattle.plain_graph.specs.Reached.{IsLeastOrNone}
-use Rattle.plain_graph.specs.Reply.{DiskFailed, Faulted, NoMemory, Refused, Reply, Told, marked_text}
+use Rattle.plain_graph.specs.Reply.{DiskFailed, Faulted, NoMemory, Refused, Reply, Told}
+use Rattle.plain_graph.specs.Reply.{prefixed_text}
 use Rattle.plain_graph.specs.declared.node_level.NodeLevel.{NodeLevel}
 use Rattle.rec_bytes.specs.Space.{State}
 use Rattle.prop_store.specs.Reading.{ReadsAtMost}
@@ -62,5 +63,5 @@ CostsReply Costs old new _ = ⊥
 pub record GivesAt {K : Type 0} (sink : SinkGhosts K) (IsSo : Reply → Type 0) (prefix : List ℕ)
     (before after : K) (turn : Turn) : Type 0 where
   pub reply : Reply
-  pub gives : Gives sink (marked_text prefix reply) before after turn
+  pub gives : Gives sink (prefixed_text prefix reply) before after turn
   pub costs : IsSo reply

@@ -1,5 +1,5 @@
 ghost use Rattle.std.specs.Prelude.{◌++◌};
-ghost use Rattle.plain_graph.specs.Reply.{marked_text};
+ghost use Rattle.plain_graph.specs.Reply.{prefixed_text};
 ghost use Rattle.graph_session.specs.Answer.{Gives};
 ghost use Rattle.graph_session.specs.Answering.{reply_of};
 ghost use Rattle.graph_session.specs.ReplyLines.{HaveSameSink};
@@ -19,7 +19,8 @@ pub(crate) fn give_reply<K: Sink>(
     output: &mut K,
     answer: Answer,
 ) -> Turn
-    ensures { Gives K.Sink (marked_text prefix.now (reply_of answer)) output.old output.new result }
+    ensures { Gives K.Sink (prefixed_text prefix.now (reply_of answer))
+        output.old output.new result }
 {
     let mut lines = ReplyLines {
         prefix,
@@ -31,7 +32,7 @@ pub(crate) fn give_reply<K: Sink>(
 
 /// Gives an answer to the sink, in one piece but for its results. It takes no memory.
 pub(crate) fn give_answer<K: Sink>(lines: &mut ReplyLines<'_, K>, answer: Answer) -> Turn
-    ensures gives { Gives K.Sink (marked_text lines.old.prefix.now (reply_of answer))
+    ensures gives { Gives K.Sink (prefixed_text lines.old.prefix.now (reply_of answer))
         lines.old.output.now lines.new.output.now result }
     ensures same_sink { HaveSameSink lines.old lines.new }
 {

@@ -2,7 +2,7 @@ ghost use Rattle.std.specs.Prelude.{◌≡◌};
 ghost use Rattle.std.specs.List.{AllByRecursion};
 ghost use Rattle.plain_graph.specs.Forms.{IsShown};
 ghost use Rattle.plain_graph.specs.LineChanges.{mutated_reply};
-ghost use Rattle.plain_graph.specs.Reply.{marked_text};
+ghost use Rattle.plain_graph.specs.Reply.{prefixed_text};
 ghost use Rattle.graph_session.specs.Answer.{Gives};
 ghost use Rattle.graph_session.specs.ReplyLines.{HaveSameSink};
 ghost use Rattle.graph_session.specs.Results.{AreShown-prop};
@@ -31,7 +31,7 @@ impl Results {
     /// Gives a line for each result to the sink, and the end. It takes no memory.
     pub(crate) fn give<K: Sink>(&self, lines: &mut ReplyLines<'_, K>) -> Turn
         ensures gives { Gives K.Sink
-            (marked_text lines.old.prefix.now (mutated_reply self.now.items.items))
+            (prefixed_text lines.old.prefix.now (mutated_reply self.now.items.items))
             lines.old.output.now lines.new.output.now result }
         ensures same_sink { HaveSameSink lines.old lines.new }
     {

@@ -37,7 +37,7 @@ use crate::{Health, Turn};
 use disk_model::Disk;
 use gremlin_parse::{ParsedLine, parse_line};
 use name_store::Names;
-use plain_graph::{Command, Refusal, mark_of};
+use plain_graph::{Command, Refusal, prefix_of};
 use rec_bytes::WriteSet;
 use snap_store::Snaps;
 use std::alloc::Global;
@@ -161,7 +161,7 @@ impl<'d, D: Disk> Session<'d, D> {
         ensures same_disk { HaveSameDisk self.old self.new }
     {
         let ParsedLine { session, command } = parse_line(self.alloc, line);
-        let prefix = mark_of(session);
+        let prefix = prefix_of(session);
         match command {
             Ok(command) => self.answer(
                 session.unwrap_or(WRITER),

@@ -51,8 +51,8 @@ pub fn add_node<S: Space>(
     // its identifier is the free one that was given back last, or else the mark
     ensures taken { S.tells → IfOk result (λ added.
         added.id ≡ taken_id (meta_of (S.state space.old) nodes_file)) }
-    // Whatever the records are, it is in use, and has the label. It becomes dense only where it gets
-    // more edges than a sparse one may have.
+    // Whatever the records are, it is in use, and has the label. It becomes dense only where it
+    // gets more edges than a sparse one may have.
     ensures stands { S.tells → IfOk result (λ added. IsNodeLabelled
         (S.state space.new).records names.new.names added.id label.now) }
     ensures refused { S.tells → IsStore (S.state space.old) names.old.names

@@ -58,7 +58,8 @@ forgotten_at number shared (x ∷ rest) (suc file) =
     lift true a c = refl
     lift false a c = refl
 
-pub without_last-with_last : (page : PageKey) (shared : Bool) (last : List (Option ℕ)) → without_last page (with_last page shared last) ≡ with_last page false last
+pub without_last-with_last : (page : PageKey) (shared : Bool) (last : List (Option ℕ))
+    → without_last page (with_last page shared last) ≡ with_last page false last
 without_last-with_last page shared last = forgotten_at page.number shared last page.file
 
 abbrev of_parts : List (PageKey × List ℕ) → ℕ → List (Option ℕ) → Pages

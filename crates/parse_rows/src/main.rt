@@ -17,7 +17,7 @@ use crate::fault::put_fault;
 use crate::text::put;
 use crate::words::put_asked;
 use gremlin_parse::{ParsedLine, parse_line};
-use plain_graph::mark_of;
+use plain_graph::prefix_of;
 use std::alloc::{AllocError, Global};
 use std::io::{self, Read, Write};
 
@@ -41,7 +41,7 @@ fn put_answer(alloc: Global, answers: &mut Vec<u8>, line: &[u8]) -> Result<(), A
         put_asked(alloc, answers, line)?;
     } else {
         let ParsedLine { session, command } = parse_line(alloc, line);
-        put(answers, &[mark_of(session).as_bytes()])?;
+        put(answers, &[prefix_of(session).as_bytes()])?;
         match command {
             Ok(command) => put_command(answers, &command)?,
             Err(fault) => put_fault(answers, fault)?,

@@ -5,4 +5,4 @@ pub mod Making
 pub mod MutationRows
 pub mod PropertyLaws
 pub mod RefusalWords
-pub mod Unmarked
+pub mod Unprefixed

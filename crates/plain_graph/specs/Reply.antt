@@ -129,28 +129,29 @@ fault_line DiskFailed = text_line (codes "fault disk")
 fault_line (DamagedRecord file id) = text_line (damaged_text file id)
 
 -- what each line of a reply begins with: where the line named its session, that
-abbrev pub mark_text : Option ℕ → List ℕ
-mark_text None = []
-mark_text (Some session) = codes "@" ++ decimal session ++ codes " "
+abbrev pub prefix_text : Option ℕ → List ℕ
+prefix_text None = []
+prefix_text (Some session) = codes "@" ++ decimal session ++ codes " "
 
--- the text after the mark, with a newline behind it
-abbrev pub marked_line : List ℕ → List ℕ → List ℕ
-marked_line mark = λ text. mark ++ text_line text
+-- the text after the prefix, with a newline behind it
+abbrev pub prefixed_line : List ℕ → List ℕ → List ℕ
+prefixed_line prefix = λ text. prefix ++ text_line text
 
--- the bytes of a reply, each of whose lines begins with the mark
-abbrev pub marked_text : List ℕ → Reply → List ℕ
-marked_text mark Silent = []
-marked_text mark Done = marked_line mark (codes "ok")
-marked_text mark (NodeMade id) = marked_line mark (codes "node " ++ decimal id)
-marked_text mark (EdgeMade id) = marked_line mark (codes "edge " ++ decimal id)
-marked_text mark (Told lines last) = flat_map (marked_line mark) lines ++ marked_line mark last
-marked_text mark (Faulted lines fault) =
-    flat_map (marked_line mark) lines ++ (mark ++ fault_line fault)
-marked_text mark (Refused why) = marked_line mark (refusal_text why)
+-- the bytes of a reply, each of whose lines begins with the prefix
+abbrev pub prefixed_text : List ℕ → Reply → List ℕ
+prefixed_text prefix Silent = []
+prefixed_text prefix Done = prefixed_line prefix (codes "ok")
+prefixed_text prefix (NodeMade id) = prefixed_line prefix (codes "node " ++ decimal id)
+prefixed_text prefix (EdgeMade id) = prefixed_line prefix (codes "edge " ++ decimal id)
+prefixed_text prefix (Told lines last) =
+    flat_map (prefixed_line prefix) lines ++ prefixed_line prefix last
+prefixed_text prefix (Faulted lines fault) =
+    flat_map (prefixed_line prefix) lines ++ (prefix ++ fault_line fault)
+prefixed_text prefix (Refused why) = prefixed_line prefix (refusal_text why)
 
--- the bytes of a reply without a mark
+-- the bytes of a reply without a prefix
 abbrev pub reply_text : Reply → List ℕ
-reply_text reply = marked_text [] reply
+reply_text reply = prefixed_text [] reply
 
 -- the threshold and the limit of the store
 abbrev pub configuration_text : ℕ → ℕ → List ℕ

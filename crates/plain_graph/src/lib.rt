@@ -37,9 +37,9 @@ pub use pairs::{Pair, Pairs};
 pub use query::{Body, BodyStep, Hop, Ids, Query, Source, Step, StepList};
 pub use refusal::Refusal;
 pub use reply::{
-    Mark, ResultLine, ShortText, broken, configuration, counted, damaged, degree, disk_fault, done,
-    edge_made, end_of_results, index_line, level_line, mark_of, name_line, no_memory, no_path,
-    node_made, not_a_store, past_count, path, refused, result_line, sound,
+    Prefix, ResultLine, ShortText, broken, configuration, counted, damaged, degree, disk_fault,
+    done, edge_made, end_of_results, index_line, level_line, name_line, no_memory, no_path,
+    node_made, not_a_store, past_count, path, prefix_of, refused, result_line, sound,
 };
 pub use text::Text;
 pub use texts::Texts;

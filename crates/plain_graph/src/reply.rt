@@ -6,7 +6,7 @@ ghost use Rattle.plain_graph.specs.Reply.{DamagedRecord, DiskFailed, Done, EdgeM
 ghost use Rattle.plain_graph.specs.Reply.{NodeMade, PastCount, Refused};
 ghost use Rattle.plain_graph.specs.Reply.{configuration_text, damaged_text};
 ghost use Rattle.plain_graph.specs.Reply.{edge_text, end_text, escaped, fault_line};
-ghost use Rattle.plain_graph.specs.Reply.{file_name, index_line, mark_text};
+ghost use Rattle.plain_graph.specs.Reply.{file_name, index_line, prefix_text};
 ghost use Rattle.plain_graph.specs.Reply.{reply_text, result_text, text_line};
 ghost use Rattle.plain_graph.specs.Reply.{value_text};
 ghost use Rattle.plain_graph.specs.declared.item.Item.TheVariants as items;
@@ -24,13 +24,13 @@ pub type ShortText = ByteBuffer<128>;
 pub type ResultLine = ByteBuffer<2_112>;
 
 /// What each line of a reply begins with, which takes no memory.
-pub type Mark = ByteBuffer<8>;
+pub type Prefix = ByteBuffer<8>;
 
 /// What each line of a reply begins with: where the line named its session, `@SESSION` and a blank.
-pub fn mark_of(session: Option<u8>) -> Mark
-    ensures { result ≡ mark_text session }
+pub fn prefix_of(session: Option<u8>) -> Prefix
+    ensures { result ≡ prefix_text session }
 {
-    let mut text = Mark::new();
+    let mut text = Prefix::new();
     if let Some(session) = session {
         let mut digits = Buffer::new();
         text.push(b"@");

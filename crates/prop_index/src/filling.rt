@@ -46,7 +46,7 @@ pub(crate) fn fill<S: Space>(
     ensures damaged { S.tells → AreHeadsUsed (S.state space.old) 12 definition.now.rec
         → IfErr result (BlamesList (S.state space.old) index_file) }
     // the definitions are as they were, and all that was in use but the heads
-    ensures beside { S.tells → AreHeadsUsed (S.state space.old) 12 definition.now.rec
+    ensures leaves_others { S.tells → AreHeadsUsed (S.state space.old) 12 definition.now.rec
         → OnOk result (KeepsBeside (S.state space.old) (S.state space.new) definition.now.rec) }
     ensures damaged_after { S.tells → IfErr result
         (BlamesBroken (S.state space.new).records (S.state space.new).shape) }

@@ -34,9 +34,9 @@ pub fn unset<S: Space>(space: &mut S, owner: Owner, key: u32) -> Result<Option<u
     ensures unset { S.tells → IfOk result (λ released. HasKey (S.state space.old) owner key
         → UnsetsValue (S.state space.old) (S.state space.new) owner key released) }
     ensures not_damaged { S.tells → HasKey (S.state space.old) owner key → NotDamaged result }
-    ensures alone { S.tells → (es : List Property) → OwnsProperties (S.state space.old) owner es
+    ensures owned { S.tells → (es : List Property) → OwnsProperties (S.state space.old) owner es
         → IfOk result (UnsetsAlone (S.state space.old) (S.state space.new) owner es key) }
-    ensures alone_not_damaged { S.tells → (es : List Property)
+    ensures owned_not_damaged { S.tells → (es : List Property)
         → OwnsProperties (S.state space.old) owner es → NotDamaged result }
     ensures damaged { S.tells → IsInUse (S.state space.old).records owner
         → IfErr result (BlamesBroken (S.state space.old).records (S.state space.old).shape) }
@@ -72,9 +72,9 @@ pub fn drop_all<S: Space>(space: &mut S, owner: Owner) -> Result<Dropped, Fault>
     ensures dropped { S.tells → IfOk result (λ dropped. HasElement (S.state space.old) owner
         → DropsAll (S.state space.old) (S.state space.new) owner dropped) }
     ensures not_damaged { S.tells → HasElement (S.state space.old) owner → NotDamaged result }
-    ensures alone { S.tells → (es : List Property) → OwnsProperties (S.state space.old) owner es
+    ensures owned { S.tells → (es : List Property) → OwnsProperties (S.state space.old) owner es
         → IfOk result (DropsAllAlone (S.state space.old) (S.state space.new) owner es) }
-    ensures alone_not_damaged { S.tells → (es : List Property)
+    ensures owned_not_damaged { S.tells → (es : List Property)
         → OwnsProperties (S.state space.old) owner es → NotDamaged result }
     ensures damaged { S.tells → IsInUse (S.state space.old).records owner
         → IfErr result (BlamesBroken (S.state space.old).records (S.state space.old).shape) }

@@ -61,11 +61,11 @@ pub fn add<S: Space>(space: &mut S, owner: Owner, key: u32, value: &Value) -> Re
         ≡ None
         → maps.len (properties_of (S.state space.old) owner) < 32
         → IfErr result (IsSetRefusal (S.state space.old) owner key value.now) }
-    ensures alone { S.tells → (es : List Property) → OwnsProperties (S.state space.old) owner es
+    ensures owned { S.tells → (es : List Property) → OwnsProperties (S.state space.old) owner es
         → IsKnownKey (S.state space.old) key → LacksKey es key → length es < 32
         → IfOk result (λ _. SetsAlone (S.state space.old) (S.state space.new) owner es key
         value.now 0) }
-    ensures alone_refused { S.tells → (es : List Property)
+    ensures owned_refused { S.tells → (es : List Property)
         → OwnsProperties (S.state space.old) owner es → IsKnownKey (S.state space.old) key
         → LacksKey es key → length es < 32
         → IfErr result (IsSetRefusalAlone (S.state space.old) es key value.now) }
@@ -111,10 +111,10 @@ pub fn set<S: Space>(space: &mut S, owner: Owner, key: u32, value: &Value) -> Re
         → SetsValue (S.state space.old) (S.state space.new) owner key value.now released) }
     ensures refused { S.tells → HasKey (S.state space.old) owner key
         → IfErr result (IsSetRefusal (S.state space.old) owner key value.now) }
-    ensures alone { S.tells → (es : List Property) → OwnsProperties (S.state space.old) owner es
+    ensures owned { S.tells → (es : List Property) → OwnsProperties (S.state space.old) owner es
         → IsKnownKey (S.state space.old) key → IfOk result (SetsAlone (S.state space.old)
         (S.state space.new) owner es key value.now) }
-    ensures alone_refused { S.tells → (es : List Property)
+    ensures owned_refused { S.tells → (es : List Property)
         → OwnsProperties (S.state space.old) owner es → IsKnownKey (S.state space.old) key
         → IfErr result (IsSetRefusalAlone (S.state space.old) es key value.now) }
     // the records lead to the value

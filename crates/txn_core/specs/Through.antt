@@ -31,11 +31,11 @@ module _ {D : Type 0} {g : Ghosts D} where
   abbrev pub at_hand : Bool → Key → Base D g → Bool
   at_hand in_memory key b = in_memory || is_some (kept_page key b.cache)
 
-  -- What reading the record of a key leaves, and whether it is sure to succeed. Where the record is
-  -- in memory, all is as it was. Else, where its page is kept, the disk is as it was, no page comes
-  -- or goes, and its page goes to the front, unless it is known as the one of its file that was used
-  -- last: then all pages stay in their places. Else its page is the only one that may come. No page
-  -- goes unless as many are kept as there may be.
+  -- What reading the record of a key leaves, and whether it is sure to succeed. Where the record
+  -- is in memory, all is as it was. Else, where its page is kept, the disk is as it was, no page
+  -- comes or goes, and its page goes to the front, unless it is known as the one of its file that
+  -- was used last: then all pages stay in their places. Else its page is the only one that may
+  -- come. No page goes unless as many are kept as there may be.
   pub record ReadsThrough (in_memory : Bool) (key : Key) (old new : Base D g) (succeeds : Bool)
       : Type 0 where
     pub memory : IsTrue in_memory → (succeeds ≡ true) × (new ≡ old)

@@ -42,7 +42,7 @@ impl<'d, D: Disk> Base<'d, D> {
         ensures failed { OnErr result (IsInDoubt self.old self.new) }
         ensures empty { length self.old.own.pairs ≡ 0
             → IsOk result × (self.new.disk.now ≡ self.old.disk.now) }
-        ensures alone { D.tells_reads
+        ensures checkpoints { D.tells_reads
             → FitsCommit self.old.tail self.old.changed.pairs self.old.own.pairs
             → SameButEntry self.old.tail self.old.own.pairs (content self.old) (content self.new) }
         ensures own { self.new.own.pairs ≡ [] }
@@ -65,7 +65,7 @@ impl<'d, D: Disk> Base<'d, D> {
         ensures failed { OnErr result (IsInDoubt self.old self.new) }
         ensures empty { length self.old.own.pairs ≡ 0
             → IsOk result × (self.new.disk.now ≡ self.old.disk.now) }
-        ensures alone { D.tells_reads
+        ensures checkpoints { D.tells_reads
             → FitsCommit self.old.tail self.old.changed.pairs self.old.own.pairs
             → SameButEntry self.old.tail self.old.own.pairs (content self.old) (content self.new) }
         ensures same { SameStore self.old self.new }
@@ -133,7 +133,7 @@ impl<'d, D: Disk> Base<'d, D> {
             (λ left. Redoes left (committed self.old) ⊎ Redoes left (working self.old)) }
         ensures done { OnOk result (IsWritten self.old self.new) }
         ensures failed { OnErr result (IsInDoubt self.old self.new) }
-        ensures alone { D.tells_reads
+        ensures checkpoints { D.tells_reads
             → SameButEntry self.old.tail self.old.own.pairs (content self.old) (content self.new) }
         ensures own { self.new.own ≡ self.old.own }
         ensures in_transaction { self.new.in_transaction ≡ self.old.in_transaction }

@@ -46,7 +46,7 @@ impl<'d, D: Disk> Store<'d, D> {
             → IsOk result × (self.new.base.disk.now ≡ self.old.base.disk.now) }
 
         // Where it fits, its entry is all that is written.
-        ensures alone { D.tells_reads
+        ensures checkpoints { D.tells_reads
             → FitsCommit self.old.base.tail self.old.base.changed.pairs self.old.base.own.pairs
             → SameButEntry self.old.base.tail self.old.base.own.pairs (content self.old)
             (content self.new) }

@@ -1,7 +1,7 @@
 ghost use Rattle.std.specs.Prelude.{◌≡◌, ◌≤◌, ◌∷◌, [], IfErr, IfOk, List, ℕ, length, map};
 ghost use Rattle.plain_graph.specs.Graph.{has_node};
 ghost use Rattle.plain_graph.specs.Lines.{HasForm, expansion};
-ghost use Rattle.plain_graph.specs.Reply.{Told, end_text, item_line, marked_text};
+ghost use Rattle.plain_graph.specs.Reply.{Told, end_text, item_line, prefixed_text};
 ghost use Rattle.plain_graph.specs.declared.command.Command.TheVariants as commands;
 ghost use Rattle.plain_graph.specs.declared.item.Item.TheVariants as items;
 ghost use Rattle.store_rules.specs.Graph.{graph_of};
@@ -85,7 +85,7 @@ fn edges_of<R: Reads>(
 fn give_rows<K: Sink>(rows: &[EdgeRow], label: Text, lines: &mut ReplyLines<'_, K>) -> Turn
     requires { length label ≤ 48 }
     ensures gives { Gives K.Sink
-        (marked_text lines.old.prefix.now
+        (prefixed_text lines.old.prefix.now
         (Told (map item_line (items_of label rows.now)) end_text))
         lines.old.output.now lines.new.output.now result }
     ensures same_sink { HaveSameSink lines.old lines.new }

@@ -1,5 +1,5 @@
 ghost use Rattle.std.specs.Prelude.{◌≡◌, ◌≤◌, Bool, ℕ, length};
-ghost use Rattle.plain_graph.specs.Reply.{Told, end_text, marked_text};
+ghost use Rattle.plain_graph.specs.Reply.{Told, end_text, prefixed_text};
 ghost use Rattle.plain_graph.specs.declared.command.Command.TheVariants as commands;
 ghost use Rattle.prop_store.specs.Reading.{ReadsAtMost};
 ghost use Rattle.rec_bytes.specs.Format.{most_names};
@@ -58,7 +58,7 @@ fn give_pairs<K: Sink>(
     requires few { count ≤ most_names }
     requires named { count ≤ length names.now.names }
     ensures gives { Gives K.Sink
-        (marked_text lines.old.prefix.now
+        (prefixed_text lines.old.prefix.now
         (Told (index_lines names.now.names count pairs.now) end_text))
         lines.old.output.now lines.new.output.now result }
     ensures same_sink { HaveSameSink lines.old lines.new }

@@ -1,5 +1,5 @@
 ghost use Rattle.std.specs.Prelude.{map};
-ghost use Rattle.plain_graph.specs.Reply.{Told, end_text, marked_text};
+ghost use Rattle.plain_graph.specs.Reply.{Told, end_text, prefixed_text};
 ghost use Rattle.plain_graph.specs.declared.command.Command.TheVariants as commands;
 ghost use Rattle.traversal_run.specs.FoundNodes.{ReadsForFind};
 ghost use Rattle.traversal_run.specs.Reading.{IsNamedStore};
@@ -46,7 +46,7 @@ pub(crate) fn give_found<R: Reads, K: Sink>(
 /// Gives a line for each of these nodes, and the end.
 fn give_vertices<K: Sink>(nodes: &[u32], lines: &mut ReplyLines<'_, K>) -> Turn
     ensures gives { Gives K.Sink
-        (marked_text lines.old.prefix.now (Told (map vertex_line nodes.now) end_text))
+        (prefixed_text lines.old.prefix.now (Told (map vertex_line nodes.now) end_text))
         lines.old.output.now lines.new.output.now result }
     ensures same_sink { HaveSameSink lines.old lines.new }
 {

@@ -1,5 +1,5 @@
 ghost use Rattle.std.specs.Prelude.{◌≡◌, ◌≤◌, length, map, take};
-ghost use Rattle.plain_graph.specs.Reply.{Told, end_text, marked_text};
+ghost use Rattle.plain_graph.specs.Reply.{Told, end_text, prefixed_text};
 ghost use Rattle.plain_graph.specs.declared.command.Command.TheVariants as commands;
 ghost use Rattle.graph_session.specs.Answer.{Gives};
 ghost use Rattle.graph_session.specs.NameLists.{name_text};
@@ -33,7 +33,7 @@ pub(crate) fn give_names<R: Reads, K: Sink>(
 fn give_first<K: Sink>(names: &Names, count: u32, lines: &mut ReplyLines<'_, K>) -> Turn
     requires { count ≤ length names.now.names }
     ensures gives { Gives K.Sink
-        (marked_text lines.old.prefix.now
+        (prefixed_text lines.old.prefix.now
         (Told (map name_text (take count names.now.names)) end_text))
         lines.old.output.now lines.new.output.now result }
     ensures same_sink { HaveSameSink lines.old lines.new }

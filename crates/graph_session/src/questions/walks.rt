@@ -3,7 +3,7 @@ ghost use Rattle.plain_graph.specs.Adjacency.{adjacency_in};
 ghost use Rattle.plain_graph.specs.Graph.{has_node};
 ghost use Rattle.plain_graph.specs.Lines.{IsFound, level_text, types_of, walk_reading};
 ghost use Rattle.plain_graph.specs.Reached.{IsLeastOrNone};
-ghost use Rattle.plain_graph.specs.Reply.{Told, end_text, marked_text};
+ghost use Rattle.plain_graph.specs.Reply.{Told, end_text, prefixed_text};
 ghost use Rattle.store_rules.specs.Graph.{graph_of};
 ghost use Rattle.expand.specs.ExpandFault.{HasExpandCause};
 ghost use Rattle.path_find.specs.Costs.{ReadsEnds};
@@ -171,7 +171,7 @@ fn found_levels<R: Reads>(
 /// walk.
 fn give_nodes<K: Sink>(walk: &[u32], lines: &mut ReplyLines<'_, K>) -> Turn
     ensures gives { Gives K.Sink
-        (marked_text lines.old.prefix.now
+        (prefixed_text lines.old.prefix.now
         (Told (walk_reading walk.now).lines (walk_reading walk.now).last))
         lines.old.output.now lines.new.output.now result }
     ensures same_sink { HaveSameSink lines.old lines.new }
@@ -197,7 +197,7 @@ fn give_nodes<K: Sink>(walk: &[u32], lines: &mut ReplyLines<'_, K>) -> Turn
 /// Gives a line for each node with its level, and the end.
 fn give_node_levels<K: Sink>(levels: &[NodeLevel], lines: &mut ReplyLines<'_, K>) -> Turn
     ensures gives { Gives K.Sink
-        (marked_text lines.old.prefix.now (Told (map level_text levels.now) end_text))
+        (prefixed_text lines.old.prefix.now (Told (map level_text levels.now) end_text))
         lines.old.output.now lines.new.output.now result }
     ensures same_sink { HaveSameSink lines.old lines.new }
 {

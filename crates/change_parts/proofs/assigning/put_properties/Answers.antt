@@ -102,7 +102,7 @@ loop-assignment-preserved g c =
           let none = key_new s t names target pairs assigned i can c.requires.few put lt shape in
           let has = there.element in
           let alone = subst (λ (o : Owner). (es : List Property) → OwnsProperties t o es → IsKnownKey t (this g at).key → LacksKey es (this g at).key
-          → length es < 32 → SetsAlone t u o es (this g at).key value 0) is (c.in_ok-add.ensures.alone tells) in
+          → length es < 32 → SetsAlone t u o es (this g at).key value 0) is (c.in_ok-add.ensures.owned tells) in
           let es = listed_at t (owner_of target) owned has in
           let few = key_fits s t names target pairs assigned i can c.requires.few put lt shape in
           let count = count_is t (owner_of target) owned has in

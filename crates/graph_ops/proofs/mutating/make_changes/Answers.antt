@@ -203,7 +203,8 @@ returns-in_ok-weight-in-AddV-clause-leaves g c told =
     let shown = c.add_vertex.new.shown.items in
     let n = c.add_vertex.new.names.names in
     subst (λ (m : Mutation). LeavesMutation m c.args.items.items shown s.records t.records n) (sym c.in-AddV.is)
-    (shown_left (commands.Node c.in-AddV.label c.in-AddV.pairs ∷ []) shown c.new-vertices.result.items c.in_ok-weight-in-AddV.weight s t c.args.names.now.names n
+    (shown_left (commands.Node c.in-AddV.label c.in-AddV.pairs ∷ []) shown c.new-vertices.result.items c.in_ok-weight-in-AddV.weight
+    s t c.args.names.now.names n
     c.new-vertices.ensures.items c.in_ok-weight-in-AddV.ensures.part told)
 
 pub returns-in_ok-weight-in-AddE-clause-leaves : goal.returns-in_ok-weight-in-AddE-clause-leaves

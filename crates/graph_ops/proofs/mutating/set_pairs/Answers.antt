@@ -45,7 +45,8 @@ loop-pair-preserved g c =
     making_more (λ (pairs : List Pair). settings pairs target) (pairs_spread target) c.args.pairs.now c.loop-pair.pair-index pair pair c.loop-pair-test.true
     c.pair-item.is c.loop-pair.weight c.in_ok-more.more c.in_ok-both.both s t u c.args.names.now.names before after (g.S.Reads.faults c.args.space.now)
     (g.S.Reads.faults c.loop-pair.space) (g.S.Reads.faults c.set.new.space) c.in_ok-both.ensures.sum c.in_ok-both.ensures.few inv
-    (one_part g.S.Reads.tells (commands.Set target pair.key pair.value) any_replies Done c.in_ok-more.more t u before after made.made made.gives made.light made.writes tt)
+    (one_part g.S.Reads.tells (commands.Set target pair.key pair.value) any_replies Done c.in_ok-more.more
+    t u before after made.made made.gives made.light made.writes tt)
     c.set.ensures.prefix (g.met.S.Reads.onward_shape _ _ c.set.ensures.onward)
     (g.met.S.Reads.further_onward c.args.space.now c.loop-pair.space c.set.new.space inv.onward_is c.set.ensures.onward) c.set.ensures.cause.later
     (λ rs ts a each b. tt)

@@ -274,7 +274,7 @@ module _ (g : Over) (c : After-leave_values g) (tells : g.S.Reads.tells) (whole 
   alone : DropsAllAlone (n g held_at) u (owner_of (targets.Node c.args.id)) (listed_at (n g held_at) (owner_of (targets.Node c.args.id)) owned_here there)
       dropped
   alone = subst (λ (o : Owner). (es : List Property) → OwnsProperties (n g held_at) o es → DropsAllAlone (n g held_at) u o es dropped) c.node_owner.ensures
-      (c.in_ok-dropped.ensures.alone tells)
+      (c.in_ok-dropped.ensures.owned tells)
       (listed_at (n g held_at) (owner_of (targets.Node c.args.id)) owned_here there)
       (owns_listed (n g held_at) (owner_of (targets.Node c.args.id)) owned_here there)
 

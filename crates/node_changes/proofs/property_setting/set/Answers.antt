@@ -298,7 +298,7 @@ module _ (g : Over) (c : After-change_entry g) where
     alone : SetsAlone n u (owner_of c.args.target) (listed_at n (owner_of c.args.target) owned element) c.in_ok-number.number c.args.value.now
         c.in_ok-released.released
     alone = subst (λ (o : Owner). (es : List Property) → OwnsProperties n o es → IsKnownKey n c.in_ok-number.number → SetsAlone n u o es c.in_ok-number.number
-        c.args.value.now c.in_ok-released.released) c.in_ok-owner.ensures.owner (c.in_ok-released.ensures.alone tells)
+        c.args.value.now c.in_ok-released.released) c.in_ok-owner.ensures.owner (c.in_ok-released.ensures.owned tells)
         (listed_at n (owner_of c.args.target) owned element) (owns_listed n (owner_of c.args.target) owned element) (known g after tells mid).known
 
     between : AreIndexed u.records (wanted_in n.records)

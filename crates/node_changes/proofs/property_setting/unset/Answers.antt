@@ -274,7 +274,7 @@ module _ (g : Over) (c : After-leave_entry g) where
     alone =
         let es = listed_at (n g back) (owner_of c.args.target) owned (element g back tells whole) in
         let unsets = subst (λ (o : Owner). (es : List Property) → OwnsProperties (n g back) o es → UnsetsAlone (n g back) u o es c.in-Some.number
-        c.in_ok-released.field-0) c.in_ok-owner.ensures.owner (c.in_ok-released.ensures.alone tells) in
+        c.in_ok-released.field-0) c.in_ok-owner.ensures.owner (c.in_ok-released.ensures.owned tells) in
         subst (UnsetsAlone (n g back) u (owner_of c.args.target) es c.in-Some.number) c.in-Some-2.is
         (unsets es (owns_listed (n g back) (owner_of c.args.target) owned (element g back tells whole)))
 

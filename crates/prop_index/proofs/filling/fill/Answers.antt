@@ -253,8 +253,8 @@ returns-clause-cause g c = take_ok_cause _ _ _ c.loop-content.invariant.later
 pub returns-clause-onward : goal.returns-clause-onward
 returns-clause-onward g c = c.loop-content.invariant.onward
 
-pub returns-clause-beside : goal.returns-clause-beside
-returns-clause-beside g c tells heads = (c.loop-content.invariant.beside tells heads).0
+pub returns-clause-leaves_others : goal.returns-clause-leaves_others
+returns-clause-leaves_others g c tells heads = (c.loop-content.invariant.beside tells heads).0
 
-pub returns-in_err-firsts-clause-beside : goal.returns-in_err-firsts-clause-beside
-returns-in_err-firsts-clause-beside g c _ _ = never_ok c.from_residual.result _ _ c.from_residual.ensures.1
+pub returns-in_err-firsts-clause-leaves_others : goal.returns-in_err-firsts-clause-leaves_others
+returns-in_err-firsts-clause-leaves_others g c _ _ = never_ok c.from_residual.result _ _ c.from_residual.ensures.1

@@ -110,7 +110,7 @@ returns-clause-stands g c tells =
     let t = g.S.Reads.state c.fill.new.space in
     let definition = c.in_ok-definition.definition in
     on_ok c.fill.result (pair_stands m t c.args.label c.args.key definition (c.in_ok-definition.ensures.defined tells))
-    (c.fill.ensures.beside tells (c.in_ok-definition.ensures.kept tells).used)
+    (c.fill.ensures.leaves_others tells (c.in_ok-definition.ensures.kept tells).used)
 
 pub returns-in_err-definition-clause-stands : goal.returns-in_err-definition-clause-stands
 returns-in_err-definition-clause-stands g c _ = never_ok c.from_residual.result _ _ c.from_residual.ensures.1

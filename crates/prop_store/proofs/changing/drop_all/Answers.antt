@@ -40,22 +40,22 @@ drops g c tells es at = drops_read _ _ es c.in_ok-dropped.dropped
     (subst (λ (z : State). DropsProperties z (g.S.Reads.state c.drop_chain.new.space) es c.in_ok-dropped.dropped) c.first.ensures.state
     (c.in_ok-dropped.ensures.dropped tells es at))
 
-pub returns-in_err-dropped-clause-alone_not_damaged : goal.returns-in_err-dropped-clause-alone_not_damaged
-returns-in_err-dropped-clause-alone_not_damaged g c tells es owns =
+pub returns-in_err-dropped-clause-owned_not_damaged : goal.returns-in_err-dropped-clause-owned_not_damaged
+returns-in_err-dropped-clause-owned_not_damaged g c tells es owns =
     let p = err_from_is_err_and c.from_residual-in_err-dropped.result c.from_residual-in_err-dropped.ensures.1 in
     rw (p.1, p.2) (c.in_err-dropped.ensures.not_damaged tells es (held g
-    (goal.at.returns-in_err-dropped-clause-alone_not_damaged g c).In_ok-first tells es owns))
+    (goal.at.returns-in_err-dropped-clause-owned_not_damaged g c).In_ok-first tells es owns))
 
 pub returns-in_err-dropped-clause-not_damaged : goal.returns-in_err-dropped-clause-not_damaged
 returns-in_err-dropped-clause-not_damaged g c tells has =
-    returns-in_err-dropped-clause-alone_not_damaged g c tells _ (owns_listed (g.S.Reads.state c.args.space.now) c.args.owner c.requires.owner has)
+    returns-in_err-dropped-clause-owned_not_damaged g c tells _ (owns_listed (g.S.Reads.state c.args.space.now) c.args.owner c.requires.owner has)
 
-pub returns-in_ok-set_number-clause-alone : goal.returns-in_ok-set_number-clause-alone
-returns-in_ok-set_number-clause-alone g c tells es owns =
+pub returns-in_ok-set_number-clause-owned : goal.returns-in_ok-set_number-clause-owned
+returns-in_ok-set_number-clause-owned g c tells es owns =
     let s = g.S.Reads.state c.args.space.now in
     let m = g.S.Reads.state c.drop_chain.new.space in
     let t = g.S.Reads.state c.set_number.new.space in
-    let at = goal.at.returns-in_ok-set_number-clause-alone g c in
+    let at = goal.at.returns-in_ok-set_number-clause-owned g c in
     let dropped = drops g at.In_ok-dropped tells es (held g at.In_ok-first tells es owns) in
     all_dropped s c.args.owner es owns c.requires.owner m t c.in_ok-dropped.dropped dropped
     (first_set s c.args.owner es owns c.requires.owner m [] dropped.changes t _ (c.in_ok-set_number.ensures.ok tells) (omega arith) (inl refl))
@@ -64,15 +64,15 @@ pub returns-in_ok-set_number-clause-dropped : goal.returns-in_ok-set_number-clau
 returns-in_ok-set_number-clause-dropped g c tells has =
     let s = g.S.Reads.state c.args.space.now in
     drops_graph s c.args.owner c.requires.owner has (g.S.Reads.state c.set_number.new.space) c.in_ok-dropped.dropped
-    (returns-in_ok-set_number-clause-alone g c tells _ (owns_listed s c.args.owner c.requires.owner has))
+    (returns-in_ok-set_number-clause-owned g c tells _ (owns_listed s c.args.owner c.requires.owner has))
     (ap (λ (z : State). z.shape) (c.in_ok-set_number.ensures.ok tells) ∙ g.met.S.Reads.onward_shape _ _ c.drop_chain.ensures.onward ∙ ap
     (λ (z : State). z.shape) c.first.ensures.state)
 
-pub returns-else-first-clause-alone : goal.returns-else-first-clause-alone
-returns-else-first-clause-alone g c tells es owns =
+pub returns-else-first-clause-owned : goal.returns-else-first-clause-owned
+returns-else-first-clause-owned g c tells es owns =
     let s = g.S.Reads.state c.args.space.now in
     let m = g.S.Reads.state c.drop_chain.new.space in
-    let at = goal.at.returns-else-first-clause-alone g c in
+    let at = goal.at.returns-else-first-clause-owned g c in
     let dropped = drops g at.In_ok-dropped tells es (held g at.In_ok-first tells es owns) in
     all_dropped s c.args.owner es owns c.requires.owner m m c.in_ok-dropped.dropped dropped
     (first_kept s c.args.owner es owns c.requires.owner m [] dropped.changes (sym (c.in_ok-first.ensures.got tells) ∙ c.if-first.false))
@@ -81,7 +81,7 @@ pub returns-else-first-clause-dropped : goal.returns-else-first-clause-dropped
 returns-else-first-clause-dropped g c tells has =
     let s = g.S.Reads.state c.args.space.now in
     drops_graph s c.args.owner c.requires.owner has (g.S.Reads.state c.drop_chain.new.space) c.in_ok-dropped.dropped
-    (returns-else-first-clause-alone g c tells _ (owns_listed s c.args.owner c.requires.owner has))
+    (returns-else-first-clause-owned g c tells _ (owns_listed s c.args.owner c.requires.owner has))
     (g.met.S.Reads.onward_shape _ _ c.drop_chain.ensures.onward ∙ ap (λ (z : State). z.shape) c.first.ensures.state)
 
 pub returns-in_err-first-clause-at_most : goal.returns-in_err-first-clause-at_most
@@ -234,8 +234,8 @@ returns-else-first-clause-onward g c =
 pub returns-in_err-first-clause-dropped : goal.returns-in_err-first-clause-dropped
 returns-in_err-first-clause-dropped g c _ = never_ok c.from_residual.result _ _ c.from_residual.ensures.1
 
-pub returns-in_err-first-clause-alone : goal.returns-in_err-first-clause-alone
-returns-in_err-first-clause-alone g c _ _ _ = never_ok c.from_residual.result _ _ c.from_residual.ensures.1
+pub returns-in_err-first-clause-owned : goal.returns-in_err-first-clause-owned
+returns-in_err-first-clause-owned g c _ _ _ = never_ok c.from_residual.result _ _ c.from_residual.ensures.1
 
 pub returns-in_err-first-clause-few_properties : goal.returns-in_err-first-clause-few_properties
 returns-in_err-first-clause-few_properties g c = never_ok c.from_residual.result _ _ c.from_residual.ensures.1
@@ -255,8 +255,8 @@ returns-in_err-first-clause-onward g c = search rules
 pub returns-in_err-dropped-clause-dropped : goal.returns-in_err-dropped-clause-dropped
 returns-in_err-dropped-clause-dropped g c _ = never_ok c.from_residual-in_err-dropped.result _ _ c.from_residual-in_err-dropped.ensures.1
 
-pub returns-in_err-dropped-clause-alone : goal.returns-in_err-dropped-clause-alone
-returns-in_err-dropped-clause-alone g c _ _ _ = never_ok c.from_residual-in_err-dropped.result _ _ c.from_residual-in_err-dropped.ensures.1
+pub returns-in_err-dropped-clause-owned : goal.returns-in_err-dropped-clause-owned
+returns-in_err-dropped-clause-owned g c _ _ _ = never_ok c.from_residual-in_err-dropped.result _ _ c.from_residual-in_err-dropped.ensures.1
 
 pub returns-in_err-dropped-clause-few_properties : goal.returns-in_err-dropped-clause-few_properties
 returns-in_err-dropped-clause-few_properties g c = never_ok c.from_residual-in_err-dropped.result _ _ c.from_residual-in_err-dropped.ensures.1
@@ -273,8 +273,8 @@ returns-in_err-dropped-clause-touches g c = never_ok c.from_residual-in_err-drop
 pub returns-in_err-set_number-clause-dropped : goal.returns-in_err-set_number-clause-dropped
 returns-in_err-set_number-clause-dropped g c _ = never_ok c.from_residual-in_err-set_number.result _ _ c.from_residual-in_err-set_number.ensures.1
 
-pub returns-in_err-set_number-clause-alone : goal.returns-in_err-set_number-clause-alone
-returns-in_err-set_number-clause-alone g c _ _ _ = never_ok c.from_residual-in_err-set_number.result _ _ c.from_residual-in_err-set_number.ensures.1
+pub returns-in_err-set_number-clause-owned : goal.returns-in_err-set_number-clause-owned
+returns-in_err-set_number-clause-owned g c _ _ _ = never_ok c.from_residual-in_err-set_number.result _ _ c.from_residual-in_err-set_number.ensures.1
 
 pub returns-in_err-set_number-clause-few_properties : goal.returns-in_err-set_number-clause-few_properties
 returns-in_err-set_number-clause-few_properties g c = never_ok c.from_residual-in_err-set_number.result _ _ c.from_residual-in_err-set_number.ensures.1
@@ -301,15 +301,15 @@ returns-in_err-first-clause-cause g c =
 pub returns-in_err-first-clause-not_damaged : goal.returns-in_err-first-clause-not_damaged
 returns-in_err-first-clause-not_damaged g c tells has = space_exit c.from_residual.result c.in_err-first.field-0.0 c.from_residual.ensures.1
 
-pub returns-in_err-first-clause-alone_not_damaged : goal.returns-in_err-first-clause-alone_not_damaged
-returns-in_err-first-clause-alone_not_damaged g c tells es owns = space_exit c.from_residual.result c.in_err-first.field-0.0 c.from_residual.ensures.1
+pub returns-in_err-first-clause-owned_not_damaged : goal.returns-in_err-first-clause-owned_not_damaged
+returns-in_err-first-clause-owned_not_damaged g c tells es owns = space_exit c.from_residual.result c.in_err-first.field-0.0 c.from_residual.ensures.1
 
 pub returns-in_err-set_number-clause-not_damaged : goal.returns-in_err-set_number-clause-not_damaged
 returns-in_err-set_number-clause-not_damaged g c tells has =
     space_exit c.from_residual-in_err-set_number.result c.in_err-set_number.field-0.0 c.from_residual-in_err-set_number.ensures.1
 
-pub returns-in_err-set_number-clause-alone_not_damaged : goal.returns-in_err-set_number-clause-alone_not_damaged
-returns-in_err-set_number-clause-alone_not_damaged g c tells es owns =
+pub returns-in_err-set_number-clause-owned_not_damaged : goal.returns-in_err-set_number-clause-owned_not_damaged
+returns-in_err-set_number-clause-owned_not_damaged g c tells es owns =
     space_exit c.from_residual-in_err-set_number.result c.in_err-set_number.field-0.0 c.from_residual-in_err-set_number.ensures.1
 
 pub returns-in_err-set_number-clause-damaged : goal.returns-in_err-set_number-clause-damaged

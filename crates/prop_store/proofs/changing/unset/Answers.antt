@@ -44,17 +44,17 @@ held g c tells es owns =
     held_same s (g.S.Reads.state c.find.new.space) c.find.new.row f.property (reads_same 33 _ _ c.find.ensures.at_most)
     (held_row s c.args.owner es owns f.before f.property f.after f.all c.find.new.row f.id_is f.rec_is)
 
-pub returns-in_err-find-clause-alone_not_damaged : goal.returns-in_err-find-clause-alone_not_damaged
-returns-in_err-find-clause-alone_not_damaged g c tells es owns =
+pub returns-in_err-find-clause-owned_not_damaged : goal.returns-in_err-find-clause-owned_not_damaged
+returns-in_err-find-clause-owned_not_damaged g c tells es owns =
     let p = err_from_is_err_and c.from_residual.result c.from_residual.ensures.1 in
     rw (p.1, p.2) (c.in_err-find.ensures.not_damaged tells es (has_properties (g.S.Reads.state c.args.space.now) c.args.owner es owns))
 
 pub returns-in_err-find-clause-not_damaged : goal.returns-in_err-find-clause-not_damaged
 returns-in_err-find-clause-not_damaged g c tells has =
-    returns-in_err-find-clause-alone_not_damaged g c tells _ (owns_listed (g.S.Reads.state c.args.space.now) c.args.owner c.requires.owner has.element)
+    returns-in_err-find-clause-owned_not_damaged g c tells _ (owns_listed (g.S.Reads.state c.args.space.now) c.args.owner c.requires.owner has.element)
 
-pub returns-in-Absent-clause-alone : goal.returns-in-Absent-clause-alone
-returns-in-Absent-clause-alone g c tells es owns =
+pub returns-in-Absent-clause-owned : goal.returns-in-Absent-clause-owned
+returns-in-Absent-clause-owned g c tells es owns =
     let f = subst (IsSought (g.S.Reads.state c.args.space.now).records c.args.owner es c.args.key c.find.new.row) c.in-Absent.is
     (c.in_ok-find.ensures.found tells es owns.held.are) in
     (f.1, reads_same 33 _ _ c.find.ensures.at_most)
@@ -62,29 +62,29 @@ returns-in-Absent-clause-alone g c tells es owns =
 pub returns-in-Absent-clause-unset : goal.returns-in-Absent-clause-unset
 returns-in-Absent-clause-unset g c tells has =
     let s = g.S.Reads.state c.args.space.now in
-    let alone = returns-in-Absent-clause-alone g c tells _ (owns_listed s c.args.owner c.requires.owner has.element) in
+    let alone = returns-in-Absent-clause-owned g c tells _ (owns_listed s c.args.owner c.requires.owner has.element) in
     (absent_value s c.args.owner c.requires.owner has.element c.args.key has.known alone.0, alone.1)
 
 pub returns-in-Absent-clause-writes : goal.returns-in-Absent-clause-writes
 returns-in-Absent-clause-writes g c = reads_write 2 _ _ (reads_same 33 _ _ c.find.ensures.at_most)
 
-pub returns-in_err-released-in-Found-clause-alone_not_damaged : goal.returns-in_err-released-in-Found-clause-alone_not_damaged
-returns-in_err-released-in-Found-clause-alone_not_damaged g c tells es owns =
+pub returns-in_err-released-in-Found-clause-owned_not_damaged : goal.returns-in_err-released-in-Found-clause-owned_not_damaged
+returns-in_err-released-in-Found-clause-owned_not_damaged g c tells es owns =
     let p = err_from_is_err_and c.from_residual-in_err-released-in-Found.result c.from_residual-in_err-released-in-Found.ensures.1 in
-    let at = (goal.at.returns-in_err-released-in-Found-clause-alone_not_damaged g c).In-Found in
+    let at = (goal.at.returns-in_err-released-in-Found-clause-owned_not_damaged g c).In-Found in
     rw (p.1, p.2) (c.in_err-released-in-Found.ensures.not_damaged tells (found g at tells es owns).property (held g at tells es owns))
 
 pub returns-in_err-released-in-Found-clause-not_damaged : goal.returns-in_err-released-in-Found-clause-not_damaged
 returns-in_err-released-in-Found-clause-not_damaged g c tells has =
-    returns-in_err-released-in-Found-clause-alone_not_damaged g c tells _ (owns_listed
+    returns-in_err-released-in-Found-clause-owned_not_damaged g c tells _ (owns_listed
     (g.S.Reads.state c.args.space.now) c.args.owner c.requires.owner has.element)
 
-pub returns-in_ok-set_number-in-Found-clause-alone : goal.returns-in_ok-set_number-in-Found-clause-alone
-returns-in_ok-set_number-in-Found-clause-alone g c tells es owns =
+pub returns-in_ok-set_number-in-Found-clause-owned : goal.returns-in_ok-set_number-in-Found-clause-owned
+returns-in_ok-set_number-in-Found-clause-owned g c tells es owns =
     let s = g.S.Reads.state c.args.space.now in
     let m = g.S.Reads.state c.drop_property.new.space in
     let t = g.S.Reads.state c.set_number.new.space in
-    let at = (goal.at.returns-in_ok-set_number-in-Found-clause-alone g c).In-Found in
+    let at = (goal.at.returns-in_ok-set_number-in-Found-clause-owned g c).In-Found in
     let f = found g at tells es owns in
     let drops = drops_same s (g.S.Reads.state c.find.new.space) m f.property c.in_ok-released-in-Found.released (reads_same 33 _ _ c.find.ensures.at_most)
     (c.in_ok-released-in-Found.ensures.dropped tells f.property (held g at tells es owns)) in
@@ -98,7 +98,7 @@ pub returns-in_ok-set_number-in-Found-clause-unset : goal.returns-in_ok-set_numb
 returns-in_ok-set_number-in-Found-clause-unset g c tells has =
     let s = g.S.Reads.state c.args.space.now in
     removes_graph s c.args.owner c.requires.owner has.element (g.S.Reads.state c.set_number.new.space) c.args.key c.in_ok-released-in-Found.released
-    (returns-in_ok-set_number-in-Found-clause-alone g c tells _ (owns_listed s c.args.owner c.requires.owner has.element))
+    (returns-in_ok-set_number-in-Found-clause-owned g c tells _ (owns_listed s c.args.owner c.requires.owner has.element))
     (ap (λ (z : State). z.shape) (c.in_ok-set_number-in-Found.ensures.ok tells) ∙ g.met.S.Reads.onward_shape _ _ c.drop_property.ensures.onward ∙ ap
     (λ (z : State). z.shape) (reads_same 33 _ _ c.find.ensures.at_most))
 
@@ -245,8 +245,8 @@ returns-in_ok-set_number-in-Found-clause-onward g c =
 pub returns-in_err-find-clause-unset : goal.returns-in_err-find-clause-unset
 returns-in_err-find-clause-unset g c _ = never_ok c.from_residual.result _ _ c.from_residual.ensures.1
 
-pub returns-in_err-find-clause-alone : goal.returns-in_err-find-clause-alone
-returns-in_err-find-clause-alone g c _ _ _ = never_ok c.from_residual.result _ _ c.from_residual.ensures.1
+pub returns-in_err-find-clause-owned : goal.returns-in_err-find-clause-owned
+returns-in_err-find-clause-owned g c _ _ _ = never_ok c.from_residual.result _ _ c.from_residual.ensures.1
 
 pub returns-in_err-find-clause-few : goal.returns-in_err-find-clause-few
 returns-in_err-find-clause-few g c = never_ok c.from_residual.result _ _ c.from_residual.ensures.1
@@ -264,8 +264,8 @@ pub returns-in_err-released-in-Found-clause-unset : goal.returns-in_err-released
 returns-in_err-released-in-Found-clause-unset g c _ =
     never_ok c.from_residual-in_err-released-in-Found.result _ _ c.from_residual-in_err-released-in-Found.ensures.1
 
-pub returns-in_err-released-in-Found-clause-alone : goal.returns-in_err-released-in-Found-clause-alone
-returns-in_err-released-in-Found-clause-alone g c _ _ _ =
+pub returns-in_err-released-in-Found-clause-owned : goal.returns-in_err-released-in-Found-clause-owned
+returns-in_err-released-in-Found-clause-owned g c _ _ _ =
     never_ok c.from_residual-in_err-released-in-Found.result _ _ c.from_residual-in_err-released-in-Found.ensures.1
 
 pub returns-in_err-released-in-Found-clause-few : goal.returns-in_err-released-in-Found-clause-few
@@ -284,8 +284,8 @@ pub returns-in_err-set_number-in-Found-clause-unset : goal.returns-in_err-set_nu
 returns-in_err-set_number-in-Found-clause-unset g c _ =
     never_ok c.from_residual-in_err-set_number-in-Found.result _ _ c.from_residual-in_err-set_number-in-Found.ensures.1
 
-pub returns-in_err-set_number-in-Found-clause-alone : goal.returns-in_err-set_number-in-Found-clause-alone
-returns-in_err-set_number-in-Found-clause-alone g c _ _ _ =
+pub returns-in_err-set_number-in-Found-clause-owned : goal.returns-in_err-set_number-in-Found-clause-owned
+returns-in_err-set_number-in-Found-clause-owned g c _ _ _ =
     never_ok c.from_residual-in_err-set_number-in-Found.result _ _ c.from_residual-in_err-set_number-in-Found.ensures.1
 
 pub returns-in_err-set_number-in-Found-clause-few : goal.returns-in_err-set_number-in-Found-clause-few
@@ -314,8 +314,8 @@ pub returns-in_err-set_number-in-Found-clause-not_damaged : goal.returns-in_err-
 returns-in_err-set_number-in-Found-clause-not_damaged g c tells has =
     space_exit c.from_residual-in_err-set_number-in-Found.result c.in_err-set_number-in-Found.field-0.0 c.from_residual-in_err-set_number-in-Found.ensures.1
 
-pub returns-in_err-set_number-in-Found-clause-alone_not_damaged : goal.returns-in_err-set_number-in-Found-clause-alone_not_damaged
-returns-in_err-set_number-in-Found-clause-alone_not_damaged g c tells es owns =
+pub returns-in_err-set_number-in-Found-clause-owned_not_damaged : goal.returns-in_err-set_number-in-Found-clause-owned_not_damaged
+returns-in_err-set_number-in-Found-clause-owned_not_damaged g c tells es owns =
     space_exit c.from_residual-in_err-set_number-in-Found.result c.in_err-set_number-in-Found.field-0.0 c.from_residual-in_err-set_number-in-Found.ensures.1
 
 pub returns-in-Absent-clause-onward : goal.returns-in-Absent-clause-onward

@@ -44,8 +44,8 @@ few_listed : (s : State) (owner : Owner) (is : IsOwner owner) (key : _) (has : H
     → length (listed_at s owner is has.element) < 32
 few_listed s owner is key has few = let n = count_is s owner is has.element in omega arith
 
-pub returns-then-meta-room_of-clause-alone_refused : goal.returns-then-meta-room_of-clause-alone_refused
-returns-then-meta-room_of-clause-alone_refused g c tells es owns known lacks few =
+pub returns-then-meta-room_of-clause-owned_refused : goal.returns-then-meta-room_of-clause-owned_refused
+returns-then-meta-room_of-clause-owned_refused g c tells es owns known lacks few =
     let s = g.S.Reads.state c.args.space.now in
     let full : (meta_of s properties_file).live ≡ room_of s.shape properties_file
     = ap (λ (m : Meta). m.live) (sym c.meta-meta.ensures) ∙ c.if-meta-room_of.true ∙ c.room_of.ensures ∙ ap (λ (z : Shape). z.limit) c.shape.ensures.is in
@@ -57,11 +57,11 @@ returns-then-meta-room_of-clause-refused g c tells has none few =
     let owner = c.args.owner in
     let is = c.requires.owner in
     refusal_graph s owner is has.element c.args.key has.known c.args.value.now (Full properties_file c.meta-meta.result.live)
-    (returns-then-meta-room_of-clause-alone_refused g c tells _ (owns_listed s owner is has.element) has.known
+    (returns-then-meta-room_of-clause-owned_refused g c tells _ (owns_listed s owner is has.element) has.known
     (lacks_key s owner is has.element c.args.key none) (few_listed s owner is c.args.key has few))
 
-pub returns-in_err-id-clause-alone_refused : goal.returns-in_err-id-clause-alone_refused
-returns-in_err-id-clause-alone_refused g c tells es owns known lacks few =
+pub returns-in_err-id-clause-owned_refused : goal.returns-in_err-id-clause-owned_refused
+returns-in_err-id-clause-owned_refused g c tells es owns known lacks few =
     let s = g.S.Reads.state c.args.space.now in
     let e = c.first.ensures.state in
     let p = err_from_is_err_and c.from_residual-in_err-id.result c.from_residual-in_err-id.ensures.1 in
@@ -79,11 +79,11 @@ returns-in_err-id-clause-refused g c tells has none few =
     let owner = c.args.owner in
     let is = c.requires.owner in
     IfErr-weaker _ _ _ (refusal_graph s owner is has.element c.args.key has.known c.args.value.now)
-    (returns-in_err-id-clause-alone_refused g c tells _ (owns_listed s owner is has.element) has.known
+    (returns-in_err-id-clause-owned_refused g c tells _ (owns_listed s owner is has.element) has.known
     (lacks_key s owner is has.element c.args.key none) (few_listed s owner is c.args.key has few))
 
-pub returns-clause-alone : goal.returns-clause-alone
-returns-clause-alone g c tells es owns known lacks few =
+pub returns-clause-owned : goal.returns-clause-owned
+returns-clause-owned g c tells es owns known lacks few =
     let s = g.S.Reads.state c.args.space.now in
     let z = g.S.Reads.state c.first.new.space in
     let m = g.S.Reads.state c.put_new.new.space in
@@ -105,7 +105,7 @@ returns-clause-added g c tells has none few =
     let owner = c.args.owner in
     let is = c.requires.owner in
     sets_graph s owner is has.element c.args.key has.known (g.S.Reads.state c.set_number.new.space) c.args.value.now 0
-    (returns-clause-alone g c tells _ (owns_listed s owner is has.element) has.known (lacks_key s owner is has.element c.args.key none)
+    (returns-clause-owned g c tells _ (owns_listed s owner is has.element) has.known (lacks_key s owner is has.element c.args.key none)
     (few_listed s owner is c.args.key has few))
     (ap (λ (y : State). y.shape) (c.in_ok-set_number.ensures.ok tells) ∙ g.met.S.Reads.onward_shape _ _ c.in_ok-id.ensures.onward ∙ ap (λ (y : State). y.shape)
     c.first.ensures.state)
@@ -287,8 +287,8 @@ returns-clause-onward g c =
 pub returns-in_err-next-clause-added : goal.returns-in_err-next-clause-added
 returns-in_err-next-clause-added g c _ = never_ok c.from_residual.result _ _ c.from_residual.ensures.1
 
-pub returns-in_err-next-clause-alone : goal.returns-in_err-next-clause-alone
-returns-in_err-next-clause-alone g c _ _ _ _ _ _ = never_ok c.from_residual.result _ _ c.from_residual.ensures.1
+pub returns-in_err-next-clause-owned : goal.returns-in_err-next-clause-owned
+returns-in_err-next-clause-owned g c _ _ _ _ _ _ = never_ok c.from_residual.result _ _ c.from_residual.ensures.1
 
 pub returns-in_err-next-clause-writes : goal.returns-in_err-next-clause-writes
 returns-in_err-next-clause-writes g c = never_ok c.from_residual.result _ _ c.from_residual.ensures.1
@@ -299,8 +299,8 @@ returns-in_err-next-clause-onward g c = search rules
 pub returns-in_err-id-clause-added : goal.returns-in_err-id-clause-added
 returns-in_err-id-clause-added g c _ = never_ok c.from_residual-in_err-id.result _ _ c.from_residual-in_err-id.ensures.1
 
-pub returns-in_err-id-clause-alone : goal.returns-in_err-id-clause-alone
-returns-in_err-id-clause-alone g c _ _ _ _ _ _ = never_ok c.from_residual-in_err-id.result _ _ c.from_residual-in_err-id.ensures.1
+pub returns-in_err-id-clause-owned : goal.returns-in_err-id-clause-owned
+returns-in_err-id-clause-owned g c _ _ _ _ _ _ = never_ok c.from_residual-in_err-id.result _ _ c.from_residual-in_err-id.ensures.1
 
 pub returns-in_err-id-clause-writes : goal.returns-in_err-id-clause-writes
 returns-in_err-id-clause-writes g c = never_ok c.from_residual-in_err-id.result _ _ c.from_residual-in_err-id.ensures.1
@@ -308,8 +308,8 @@ returns-in_err-id-clause-writes g c = never_ok c.from_residual-in_err-id.result 
 pub returns-in_err-set_number-clause-added : goal.returns-in_err-set_number-clause-added
 returns-in_err-set_number-clause-added g c _ = never_ok c.from_residual-in_err-set_number.result _ _ c.from_residual-in_err-set_number.ensures.1
 
-pub returns-in_err-set_number-clause-alone : goal.returns-in_err-set_number-clause-alone
-returns-in_err-set_number-clause-alone g c _ _ _ _ _ _ = never_ok c.from_residual-in_err-set_number.result _ _ c.from_residual-in_err-set_number.ensures.1
+pub returns-in_err-set_number-clause-owned : goal.returns-in_err-set_number-clause-owned
+returns-in_err-set_number-clause-owned g c _ _ _ _ _ _ = never_ok c.from_residual-in_err-set_number.result _ _ c.from_residual-in_err-set_number.ensures.1
 
 pub returns-in_err-set_number-clause-writes : goal.returns-in_err-set_number-clause-writes
 returns-in_err-set_number-clause-writes g c = never_ok c.from_residual-in_err-set_number.result _ _ c.from_residual-in_err-set_number.ensures.1
@@ -330,8 +330,8 @@ pub returns-in_err-next-clause-cause : goal.returns-in_err-next-clause-cause
 returns-in_err-next-clause-cause g c =
     space_set_cause _ _ _ c.from_residual.result c.in_err-next.field-0.0 (omega arith) c.in_err-next.ensures.cause c.from_residual.ensures.1
 
-pub returns-in_err-next-clause-alone_refused : goal.returns-in_err-next-clause-alone_refused
-returns-in_err-next-clause-alone_refused g c tells es owns known lacks few =
+pub returns-in_err-next-clause-owned_refused : goal.returns-in_err-next-clause-owned_refused
+returns-in_err-next-clause-owned_refused g c tells es owns known lacks few =
     let s = g.S.Reads.state c.args.space.now in
     set_has (IsSetRefusalAlone s es c.args.key c.args.value.now) c.from_residual.result _ c.from_residual.ensures.1
     (space_refused s es c.args.key c.args.value.now c.in_err-next.field-0.0)
@@ -342,8 +342,8 @@ returns-in_err-next-clause-refused g c tells has none few =
     set_has (IsSetRefusal s c.args.owner c.args.key c.args.value.now) c.from_residual.result _ c.from_residual.ensures.1
     (space_refused_graph s c.args.owner c.args.key c.args.value.now c.in_err-next.field-0.0)
 
-pub returns-in_err-set_number-clause-alone_refused : goal.returns-in_err-set_number-clause-alone_refused
-returns-in_err-set_number-clause-alone_refused g c tells es owns known lacks few =
+pub returns-in_err-set_number-clause-owned_refused : goal.returns-in_err-set_number-clause-owned_refused
+returns-in_err-set_number-clause-owned_refused g c tells es owns known lacks few =
     let s = g.S.Reads.state c.args.space.now in
     set_has (IsSetRefusalAlone s es c.args.key c.args.value.now) c.from_residual-in_err-set_number.result _ c.from_residual-in_err-set_number.ensures.1
     (space_refused s es c.args.key c.args.value.now c.in_err-set_number.field-0.0)

@@ -73,8 +73,8 @@ held g c tells es owns =
     held_same s (g.S.Reads.state c.find.new.space) c.find.new.row f.property (same g c)
     (held_row s c.args.owner es owns f.before f.property f.after f.all c.find.new.row f.id_is f.rec_is)
 
-pub returns-in_err-count-clause-alone_refused : goal.returns-in_err-count-clause-alone_refused
-returns-in_err-count-clause-alone_refused g c tells es owns known =
+pub returns-in_err-count-clause-owned_refused : goal.returns-in_err-count-clause-owned_refused
+returns-in_err-count-clause-owned_refused g c tells es owns known =
     let p = err_from_is_err_and c.from_residual.result c.from_residual.ensures.1 in
     let s = g.S.Reads.state c.args.space.now in
     rw (p.1, p.2) (read_refusal s es c.args.key c.args.value.now c.in_err-count.field-0.0 (c.in_err-count.ensures.not_damaged tells es
@@ -84,11 +84,11 @@ pub returns-in_err-count-clause-refused : goal.returns-in_err-count-clause-refus
 returns-in_err-count-clause-refused g c tells has =
     let s = g.S.Reads.state c.args.space.now in
     IfErr-weaker _ _ _ (refusal_graph s c.args.owner c.requires.owner has.element c.args.key has.known c.args.value.now)
-    (returns-in_err-count-clause-alone_refused g c tells _ (owns_listed s c.args.owner c.requires.owner has.element) has.known)
+    (returns-in_err-count-clause-owned_refused g c tells _ (owns_listed s c.args.owner c.requires.owner has.element) has.known)
 
-pub returns-then-count-ge-MOST_PROPERTIES-clause-alone_refused :
-    goal.returns-then-count-ge-MOST_PROPERTIES-clause-alone_refused
-returns-then-count-ge-MOST_PROPERTIES-clause-alone_refused g c tells es owns known =
+pub returns-then-count-ge-MOST_PROPERTIES-clause-owned_refused :
+    goal.returns-then-count-ge-MOST_PROPERTIES-clause-owned_refused
+returns-then-count-ge-MOST_PROPERTIES-clause-owned_refused g c tells es owns known =
     let f = subst (IsSought (g.S.Reads.state c.args.space.now).records c.args.owner es c.args.key c.find.new.row) c.in-Absent.is
     (c.in_ok-count.ensures.found tells es owns.held.are) in
     let few = owns.held.are.few in
@@ -101,44 +101,44 @@ pub returns-then-count-ge-MOST_PROPERTIES-clause-refused :
 returns-then-count-ge-MOST_PROPERTIES-clause-refused g c tells has =
     let s = g.S.Reads.state c.args.space.now in
     refusal_graph s c.args.owner c.requires.owner has.element c.args.key has.known c.args.value.now (PropsFull c.in-Absent.count)
-    (returns-then-count-ge-MOST_PROPERTIES-clause-alone_refused g c tells _ (owns_listed s c.args.owner c.requires.owner has.element) has.known)
+    (returns-then-count-ge-MOST_PROPERTIES-clause-owned_refused g c tells _ (owns_listed s c.args.owner c.requires.owner has.element) has.known)
 
-pub returns-in_err-add-in-Absent-clause-alone_refused : goal.returns-in_err-add-in-Absent-clause-alone_refused
-returns-in_err-add-in-Absent-clause-alone_refused g c tells es owns known =
+pub returns-in_err-add-in-Absent-clause-owned_refused : goal.returns-in_err-add-in-Absent-clause-owned_refused
+returns-in_err-add-in-Absent-clause-owned_refused g c tells es owns known =
     let p = err_from_is_err_and c.from_residual-in_err-add-in-Absent.result c.from_residual-in_err-add-in-Absent.ensures.1 in
     let s = g.S.Reads.state c.args.space.now in
     let z = g.S.Reads.state c.find.new.space in
     let same = reads_same 33 s z c.find.ensures.at_most in
     let f = subst (IsSought s.records c.args.owner es c.args.key c.find.new.row) c.in-Absent.is (c.in_ok-count.ensures.found tells es owns.held.are) in
     rw (p.1, p.2) (refusal_read s z es c.args.key c.args.value.now c.in_err-add-in-Absent.field-0.0 same
-    (c.in_err-add-in-Absent.ensures.alone_refused tells es (owns_read s c.args.owner es owns z same) (known_read s z c.args.key same known) f.1
+    (c.in_err-add-in-Absent.ensures.owned_refused tells es (owns_read s c.args.owner es owns z same) (known_read s z c.args.key same known) f.1
     (fewer es c.in-Absent.count f.0 c.if-count-ge-MOST_PROPERTIES.false)))
 
 pub returns-in_err-add-in-Absent-clause-refused : goal.returns-in_err-add-in-Absent-clause-refused
 returns-in_err-add-in-Absent-clause-refused g c tells has =
     let s = g.S.Reads.state c.args.space.now in
     IfErr-weaker _ _ _ (refusal_graph s c.args.owner c.requires.owner has.element c.args.key has.known c.args.value.now)
-    (returns-in_err-add-in-Absent-clause-alone_refused g c tells _ (owns_listed s c.args.owner c.requires.owner has.element) has.known)
+    (returns-in_err-add-in-Absent-clause-owned_refused g c tells _ (owns_listed s c.args.owner c.requires.owner has.element) has.known)
 
-pub returns-in_ok-add-in-Absent-clause-alone : goal.returns-in_ok-add-in-Absent-clause-alone
-returns-in_ok-add-in-Absent-clause-alone g c tells es owns known =
+pub returns-in_ok-add-in-Absent-clause-owned : goal.returns-in_ok-add-in-Absent-clause-owned
+returns-in_ok-add-in-Absent-clause-owned g c tells es owns known =
     let s = g.S.Reads.state c.args.space.now in
     let z = g.S.Reads.state c.find.new.space in
     let same = reads_same 33 s z c.find.ensures.at_most in
     let f = subst (IsSought s.records c.args.owner es c.args.key c.find.new.row) c.in-Absent.is (c.in_ok-count.ensures.found tells es owns.held.are) in
     sets_read s z (g.S.Reads.state c.add.new.space) c.args.owner es c.args.key c.args.value.now 0 same
-    (c.in_ok-add-in-Absent.ensures.alone tells es (owns_read s c.args.owner es owns z same) (known_read s z c.args.key same known) f.1
+    (c.in_ok-add-in-Absent.ensures.owned tells es (owns_read s c.args.owner es owns z same) (known_read s z c.args.key same known) f.1
     (fewer es c.in-Absent.count f.0 c.if-count-ge-MOST_PROPERTIES.false))
 
 pub returns-in_ok-add-in-Absent-clause-set : goal.returns-in_ok-add-in-Absent-clause-set
 returns-in_ok-add-in-Absent-clause-set g c tells has =
     let s = g.S.Reads.state c.args.space.now in
     sets_graph s c.args.owner c.requires.owner has.element c.args.key has.known (g.S.Reads.state c.add.new.space) c.args.value.now 0
-    (returns-in_ok-add-in-Absent-clause-alone g c tells _ (owns_listed s c.args.owner c.requires.owner has.element) has.known)
+    (returns-in_ok-add-in-Absent-clause-owned g c tells _ (owns_listed s c.args.owner c.requires.owner has.element) has.known)
     (g.met.S.Reads.onward_shape _ _ c.add.ensures.onward ∙ ap (λ (z : State). z.shape) (reads_same 33 _ _ c.find.ensures.at_most))
 
-pub returns-in-Found-clause-alone : goal.returns-in-Found-clause-alone
-returns-in-Found-clause-alone g c tells es owns known =
+pub returns-in-Found-clause-owned : goal.returns-in-Found-clause-owned
+returns-in-Found-clause-owned g c tells es owns known =
     let s = g.S.Reads.state c.args.space.now in
     let z = g.S.Reads.state c.find.new.space in
     let m = g.S.Reads.state c.put_again.new.space in
@@ -163,12 +163,12 @@ pub returns-in-Found-clause-set : goal.returns-in-Found-clause-set
 returns-in-Found-clause-set g c tells =
     let s = g.S.Reads.state c.args.space.now in
     let m = g.S.Reads.state c.put_again.new.space in
-    ok_with c.put_again.result (λ has. returns-in-Found-clause-alone g c tells _ (owns_listed s c.args.owner c.requires.owner has.element) has.known)
+    ok_with c.put_again.result (λ has. returns-in-Found-clause-owned g c tells _ (owns_listed s c.args.owner c.requires.owner has.element) has.known)
     (λ n has sets. sets_graph s c.args.owner c.requires.owner has.element c.args.key has.known m c.args.value.now n sets
     (g.met.S.Reads.onward_shape _ _ c.put_again.ensures.onward ∙ ap (λ (z : State). z.shape) (same g c)))
 
-pub returns-in-Found-clause-alone_refused : goal.returns-in-Found-clause-alone_refused
-returns-in-Found-clause-alone_refused g c tells es owns known =
+pub returns-in-Found-clause-owned_refused : goal.returns-in-Found-clause-owned_refused
+returns-in-Found-clause-owned_refused g c tells es owns known =
     let s = g.S.Reads.state c.args.space.now in
     let z = g.S.Reads.state c.find.new.space in
     let f = found g c tells es owns in
@@ -181,7 +181,7 @@ pub returns-in-Found-clause-refused : goal.returns-in-Found-clause-refused
 returns-in-Found-clause-refused g c tells has =
     let s = g.S.Reads.state c.args.space.now in
     IfErr-weaker _ _ _ (refusal_graph s c.args.owner c.requires.owner has.element c.args.key has.known c.args.value.now)
-    (returns-in-Found-clause-alone_refused g c tells _ (owns_listed s c.args.owner c.requires.owner has.element) has.known)
+    (returns-in-Found-clause-owned_refused g c tells _ (owns_listed s c.args.owner c.requires.owner has.element) has.known)
 
 pub returns-in_err-count-clause-at_most : goal.returns-in_err-count-clause-at_most
 returns-in_err-count-clause-at_most g c = touches_reads _ 1 _ _ _ (reads_same 33 _ _ c.find.ensures.at_most)
@@ -340,8 +340,8 @@ returns-in_ok-add-in-Absent-clause-onward g c =
 pub returns-in_err-count-clause-set : goal.returns-in_err-count-clause-set
 returns-in_err-count-clause-set g c _ = never_ok c.from_residual.result _ _ c.from_residual.ensures.1
 
-pub returns-in_err-count-clause-alone : goal.returns-in_err-count-clause-alone
-returns-in_err-count-clause-alone g c _ _ _ _ = never_ok c.from_residual.result _ _ c.from_residual.ensures.1
+pub returns-in_err-count-clause-owned : goal.returns-in_err-count-clause-owned
+returns-in_err-count-clause-owned g c _ _ _ _ = never_ok c.from_residual.result _ _ c.from_residual.ensures.1
 
 pub returns-in_err-count-clause-few : goal.returns-in_err-count-clause-few
 returns-in_err-count-clause-few g c = never_ok c.from_residual.result _ _ c.from_residual.ensures.1
@@ -358,8 +358,8 @@ returns-in_err-count-clause-onward g c = search rules
 pub returns-in_err-add-in-Absent-clause-set : goal.returns-in_err-add-in-Absent-clause-set
 returns-in_err-add-in-Absent-clause-set g c _ = never_ok c.from_residual-in_err-add-in-Absent.result _ _ c.from_residual-in_err-add-in-Absent.ensures.1
 
-pub returns-in_err-add-in-Absent-clause-alone : goal.returns-in_err-add-in-Absent-clause-alone
-returns-in_err-add-in-Absent-clause-alone g c _ _ _ _ = never_ok c.from_residual-in_err-add-in-Absent.result _ _ c.from_residual-in_err-add-in-Absent.ensures.1
+pub returns-in_err-add-in-Absent-clause-owned : goal.returns-in_err-add-in-Absent-clause-owned
+returns-in_err-add-in-Absent-clause-owned g c _ _ _ _ = never_ok c.from_residual-in_err-add-in-Absent.result _ _ c.from_residual-in_err-add-in-Absent.ensures.1
 
 pub returns-in_err-add-in-Absent-clause-few : goal.returns-in_err-add-in-Absent-clause-few
 returns-in_err-add-in-Absent-clause-few g c = never_ok c.from_residual-in_err-add-in-Absent.result _ _ c.from_residual-in_err-add-in-Absent.ensures.1

@@ -18,7 +18,8 @@ returns-in_default-clause-found g c = λ tells store.
     let graph = graph_of (g.R.Reads.state c.args.space.now).records in
     let test = c.args.filter.now in
     let none : asked_key test ≡ None =
-    sym (c.asked_key.ensures ∙ ap asked_key c.filter.view_is) ∙ ap (λ (key : Option (Bor (List ℕ))). option_map (λ (text : Bor (List ℕ)). text.now) key) c.in_default.is
+    sym (c.asked_key.ensures ∙ ap asked_key c.filter.view_is)
+    ∙ ap (λ (key : Option (Bor (List ℕ))). option_map (λ (text : Bor (List ℕ)). text.now) key) c.in_default.is
     in
     c.passes_label.ensures ∙ (λ i. passes_label (c.filter.view_is i) (c.in_ok-label.ensures.found tells store i))
     ∙ labelled-passes test none graph c.args.item.now
@@ -27,7 +28,8 @@ pub returns-in_default-clause-at_most : goal.returns-in_default-clause-at_most
 returns-in_default-clause-at_most g c =
     let test = c.args.filter.now in
     let none : asked_key test ≡ None =
-    sym (c.asked_key.ensures ∙ ap asked_key c.filter.view_is) ∙ ap (λ (key : Option (Bor (List ℕ))). option_map (λ (text : Bor (List ℕ)). text.now) key) c.in_default.is
+    sym (c.asked_key.ensures ∙ ap asked_key c.filter.view_is)
+    ∙ ap (λ (key : Option (Bor (List ℕ))). option_map (λ (text : Bor (List ℕ)). text.now) key) c.in_default.is
     in
     subst (λ (n : ℕ). ReadsAtMost n (g.R.Reads.state c.args.space.now) (g.R.Reads.state c.label_of.new.space)) (labelled-reads test none)
     c.in_ok-label.ensures.at_most
@@ -49,7 +51,8 @@ pub returns-in_err-label-clause-at_most : goal.returns-in_err-label-clause-at_mo
 returns-in_err-label-clause-at_most g c =
     let test = c.args.filter.now in
     let none : asked_key test ≡ None =
-    sym (c.asked_key.ensures ∙ ap asked_key c.filter.view_is) ∙ ap (λ (key : Option (Bor (List ℕ))). option_map (λ (text : Bor (List ℕ)). text.now) key) c.in_default.is
+    sym (c.asked_key.ensures ∙ ap asked_key c.filter.view_is)
+    ∙ ap (λ (key : Option (Bor (List ℕ))). option_map (λ (text : Bor (List ℕ)). text.now) key) c.in_default.is
     in
     subst (λ (n : ℕ). ReadsAtMost n (g.R.Reads.state c.args.space.now) (g.R.Reads.state c.label_of.new.space)) (labelled-reads test none)
     c.in_err-label.ensures.at_most
@@ -70,7 +73,8 @@ returns-clause-found g c = λ tells store.
     let item = c.args.item.now in
     let key = c.in-Some.key.now in
     let is : asked_key test ≡ Some key =
-    sym (c.asked_key.ensures ∙ ap asked_key c.filter.view_is) ∙ ap (λ (own : Option (Bor (List ℕ))). option_map (λ (text : Bor (List ℕ)). text.now) own) c.in-Some.is in
+    sym (c.asked_key.ensures ∙ ap asked_key c.filter.view_is)
+    ∙ ap (λ (own : Option (Bor (List ℕ))). option_map (λ (text : Bor (List ℕ)). text.now) own) c.in-Some.is in
     c.passes_value.ensures ∙ (λ i. passes_value (c.filter.view_is i) (c.in_ok-value.ensures.found tells store i))
     ∙ ap (λ (text : List ℕ). passes_value test (maps.get (properties_of graph item) text)) c.as_bytes.ensures
     ∙ met-passes test key is graph item
@@ -79,7 +83,8 @@ pub returns-clause-at_most : goal.returns-clause-at_most
 returns-clause-at_most g c =
     let test = c.args.filter.now in
     let is : asked_key test ≡ Some c.in-Some.key.now =
-    sym (c.asked_key.ensures ∙ ap asked_key c.filter.view_is) ∙ ap (λ (own : Option (Bor (List ℕ))). option_map (λ (text : Bor (List ℕ)). text.now) own) c.in-Some.is in
+    sym (c.asked_key.ensures ∙ ap asked_key c.filter.view_is)
+    ∙ ap (λ (own : Option (Bor (List ℕ))). option_map (λ (text : Bor (List ℕ)). text.now) own) c.in-Some.is in
     subst (λ (n : ℕ). ReadsAtMost n (g.R.Reads.state c.args.space.now) (g.R.Reads.state c.value_of.new.space)) (met-reads test c.in-Some.key.now is)
     c.in_ok-value.ensures.at_most
 
@@ -100,7 +105,8 @@ pub returns-in_err-value-clause-at_most : goal.returns-in_err-value-clause-at_mo
 returns-in_err-value-clause-at_most g c =
     let test = c.args.filter.now in
     let is : asked_key test ≡ Some c.in-Some.key.now =
-    sym (c.asked_key.ensures ∙ ap asked_key c.filter.view_is) ∙ ap (λ (own : Option (Bor (List ℕ))). option_map (λ (text : Bor (List ℕ)). text.now) own) c.in-Some.is in
+    sym (c.asked_key.ensures ∙ ap asked_key c.filter.view_is)
+    ∙ ap (λ (own : Option (Bor (List ℕ))). option_map (λ (text : Bor (List ℕ)). text.now) own) c.in-Some.is in
     subst (λ (n : ℕ). ReadsAtMost n (g.R.Reads.state c.args.space.now) (g.R.Reads.state c.value_of.new.space)) (met-reads test c.in-Some.key.now is)
     c.in_err-value.ensures.at_most
 

@@ -108,4 +108,5 @@ returns-then-not-branch-clause-cause g c = ok_cause _ _ _ _ (later_on c.loop-fil
 
 pub returns-in_err-passes-clause-cause : goal.returns-in_err-passes-clause-cause
 returns-in_err-passes-clause-cause g c =
-    cause_passed _ _ _ c.from_residual.result c.in_err-passes.field-0.0 c.loop-filter.invariant.read.later c.in_err-passes.ensures.cause c.from_residual.ensures.1
+    cause_passed _ _ _ c.from_residual.result c.in_err-passes.field-0.0 c.loop-filter.invariant.read.later c.in_err-passes.ensures.cause
+    c.from_residual.ensures.1

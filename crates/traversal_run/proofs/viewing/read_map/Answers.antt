@@ -66,4 +66,5 @@ returns-clause-read g c = is_read-on g.R.Reads g.met.R.Reads.further_onward _ _ 
 
 pub returns-clause-damaged : goal.returns-clause-damaged
 returns-clause-damaged g c tells =
-    IfErr-weaker _ _ _ (blamed_before (g.R.Reads.state c.args.space.now) (g.R.Reads.state c.vertex_row.new.space) c.in_ok-row.ensures.read.same) (c.loaded_map-2.ensures.damaged tells)
+    IfErr-weaker _ _ _ (blamed_before (g.R.Reads.state c.args.space.now) (g.R.Reads.state c.vertex_row.new.space) c.in_ok-row.ensures.read.same)
+    (c.loaded_map-2.ensures.damaged tells)

@@ -44,7 +44,7 @@ returns-in-Ok-clause-cost g c =
     ByNumbers (option_list c.number_in-number.result) stand (record { count = met.count; within = met.within; is = met.is })
     (λ unknown.
     let one = c.in-Ok.ensures.unknown
-        (unknown_numbers_in s.records c.number_in-number.result c.args.label.now c.number_in-number.ensures.given stand unknown) in
+    (unknown_numbers_in s.records c.number_in-number.result c.args.label.now c.number_in-number.ensures.given stand unknown) in
     record { count = one.count; within = one.within; is = one.is })
 
 pub returns-in-Err-clause-cost : goal.returns-in-Err-clause-cost
@@ -56,5 +56,5 @@ returns-in-Err-clause-cost g c =
     ByNumbers (option_list c.number_in-number.result) stand (record { count = met.count; within = met.within; is = met.is })
     (λ unknown.
     let one = c.in-Err.ensures.unknown
-        (unknown_numbers_in s.records c.number_in-number.result c.args.label.now c.number_in-number.ensures.given stand unknown) in
+    (unknown_numbers_in s.records c.number_in-number.result c.args.label.now c.number_in-number.ensures.given stand unknown) in
     record { count = one.count; within = one.within; is = one.is })

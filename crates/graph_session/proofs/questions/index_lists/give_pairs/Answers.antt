@@ -1,7 +1,7 @@
 use Rattle.std.proofs.Common.{◌≡◌, ◌∙◌, ◌+◌, ◌≤◌, ◌*◌, ◌/◌, ◌%◌, ℕ, Some, List, [], slice_get, sym, subst, arith}
 use Rattle.std.proofs.Math.Nat.{mul-le-mul_right}
 use Rattle.std.proofs.lemmas.Option.{get_or_from_slice_get}
-use Rattle.plain_graph.specs.Reply.{Told, end_text, index_line, marked_text, text_line}
+use Rattle.plain_graph.specs.Reply.{Told, end_text, index_line, prefixed_text, text_line}
 use Rattle.graph_session.specs.Answer.{Gives}
 use Rattle.graph_session.specs.Exchange.{AreFirst}
 use Rattle.graph_session.specs.IndexLists.{index_lines, place_line}
@@ -85,7 +85,7 @@ returns-clause-gives g c =
     let names = c.args.names.now.names in
     let count = c.args.count in
     let pairs = c.args.pairs.now in
-    subst (λ (lines : List (List ℕ)). Gives g.K.Sink (marked_text c.args.lines.now.prefix.now (Told lines end_text)) c.args.lines.now.output.now
+    subst (λ (lines : List (List ℕ)). Gives g.K.Sink (prefixed_text c.args.lines.now.prefix.now (Told lines end_text)) c.args.lines.now.output.now
     c.finish.new.self.output.now c.finish.result)
     (sym (lines-over names count pairs c.each.from c.each.invariant.low (rw c.in_default.is at c.next_place.ensures)))
     (lines-last c.each.invariant.has (text_line end_text) c.finish.new.self.output.now c.finish.result (rw c.end_of_results.ensures at c.finish.ensures.gives))

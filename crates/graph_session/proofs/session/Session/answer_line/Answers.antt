@@ -1,5 +1,5 @@
 use Rattle.std.proofs.Common.{◌≡◌, ◌≤◌, ◌∙◌, ℕ, Err, IfOk, List, Option, ap, subst, sym, unwrap_or}
-use Rattle.plain_graph.specs.Reply.{mark_text, marked_text}
+use Rattle.plain_graph.specs.Reply.{prefix_text, prefixed_text}
 use Rattle.plain_graph.specs.declared.command.Command.{Command}
 use Rattle.plain_graph.specs.declared.command.Command.TheVariants as commands
 use Rattle.stream_io.specs.Lines.{Whole}
@@ -16,9 +16,9 @@ use Rattle.graph_session.proofs.Taps.{fault-unconfirmed, takes-nothing, taps-ref
 use Rattle.graph_session.proofs.session.Session.answer_line.Goals as goal
 
 -- the prefix is that of the session that the line names
-prefixed : (line : List ℕ) {bytes prefix : List ℕ} {named : Option ℕ} → named ≡ session_named line → prefix ≡ mark_text named → bytes ≡ prefix
-    → bytes ≡ mark_text (session_named line)
-prefixed line by_name text same = same ∙ text ∙ ap mark_text by_name
+prefixed : (line : List ℕ) {bytes prefix : List ℕ} {named : Option ℕ} → named ≡ session_named line → prefix ≡ prefix_text named → bytes ≡ prefix
+    → bytes ≡ prefix_text (session_named line)
+prefixed line by_name text same = same ∙ text ∙ ap prefix_text by_name
 
 -- the session is the one that the line names, or the one that writes
 numbered : (line : List ℕ) {session : ℕ} {named : Option ℕ} → named ≡ session_named line → session ≡ unwrap_or named 0 → session ≡ session_of line
@@ -39,7 +39,7 @@ returns-in-Ok-clause-answers g c = c.answer.ensures.answers c.args.line.now (rec
     no_fault = rw c.in-Ok.is at c.parse_line-session.ensures.no_fault;
   };
   session_is = sym (numbered c.args.line.now c.parse_line-session.ensures.session c.unwrap_or.ensures);
-  prefix_is = sym (prefixed c.args.line.now c.parse_line-session.ensures.session c.mark_of-prefix.ensures c.as_bytes.ensures);
+  prefix_is = sym (prefixed c.args.line.now c.parse_line-session.ensures.session c.prefix_of-prefix.ensures c.as_bytes.ensures);
 })
 
 pub returns-in-Ok-clause-no_draft : goal.returns-in-Ok-clause-no_draft
@@ -59,9 +59,9 @@ returns-in-Err-clause-answers g c =
     taps-refused c.args.tap.now c.args.tap.now (takes-nothing c.args.tap.now c.requires.room) (fault-unconfirmed c.in-Err.fault)
     (fault-with g.D.Disk g.met.D.Disk.only_now g.K.Sink c.args.line.now c.in-Err.fault (rw c.in-Err.is at c.parse_line-session.ensures.none)
     (λ e. c.parse_line-session.ensures.memory (c.in-Err.is ∙ ap Err e)) (rw c.in-Err.is at c.parse_line-session.ensures.fault)
-    (subst (λ (prefix : List ℕ). Gives g.K.Sink (marked_text prefix (reply_of (told_of c.in-Err.fault))) c.args.output.now c.give_reply.new.output
+    (subst (λ (prefix : List ℕ). Gives g.K.Sink (prefixed_text prefix (reply_of (told_of c.in-Err.fault))) c.args.output.now c.give_reply.new.output
     c.give_reply.result)
-    (prefixed c.args.line.now c.parse_line-session.ensures.session c.mark_of-prefix.ensures c.as_bytes-in-Err.ensures)
+    (prefixed c.args.line.now c.parse_line-session.ensures.session c.prefix_of-prefix.ensures c.as_bytes-in-Err.ensures)
     (rw c.from.ensures at c.give_reply.ensures)))
 
 pub returns-in-Err-clause-careful : goal.returns-in-Err-clause-careful

@@ -70,7 +70,8 @@ pub returns-in-Some-get-clause-record : goal.returns-in-Some-get-clause-record
 returns-in-Some-get-clause-record c content agrees there =
     let list = c.self.inside.pages in
     c.read_record-in-Some-get.ensures
-    ∙ agrees_found content (seen list c.self.inside.last.files) c.args.key c.in-Some-get.page.now c.requires (subst (Agrees content) (sym c.self.view_is) agrees)
+    ∙ agrees_found content (seen list c.self.inside.last.files) c.args.key c.in-Some-get.page.now c.requires
+    (subst (Agrees content) (sym c.self.view_is) agrees)
     (ap (λ (page : PageKey). lookup (page_eq page) list.entries) (sym c.of-wanted.ensures) ∙ sym c.in-Some-get.ensures.value)
 
 pub returns-in-Some-get-clause-agrees : goal.returns-in-Some-get-clause-agrees

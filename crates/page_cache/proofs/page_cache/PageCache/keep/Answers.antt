@@ -9,7 +9,8 @@ pub invariant_of-self : goal.invariant_of-self
 invariant_of-self c =
     last_pushed c.self.inside.last.files c.put.new.self.files c.forget_gone.new.self.files c.self.inside.pages c.push.new.self c.args.key c.args.page
     c.in-Ok.gone
-    c.len-before.ensures.valid.1 c.len-before.ensures.valid.2 c.self.invariant c.put.ensures.pages c.in-Ok.ensures.old c.forget_gone.ensures.pages c.in-Ok.ensures.entries
+    c.len-before.ensures.valid.1 c.len-before.ensures.valid.2 c.self.invariant c.put.ensures.pages c.in-Ok.ensures.old c.forget_gone.ensures.pages
+    c.in-Ok.ensures.entries
 
 pub invariant_of-self-in-Err : goal.invariant_of-self-in-Err
 invariant_of-self-in-Err c =

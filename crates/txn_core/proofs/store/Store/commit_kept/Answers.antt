@@ -64,12 +64,12 @@ returns-in-Err-clause-failed g c =
     inl (dropped_on c.args.self.now c.keep_old.new.space c.drop_transaction.new.self kept.space.onward kept.space.committed c.drop_transaction.ensures.same_disk
     c.drop_transaction.ensures.stored c.drop_transaction.ensures.live c.drop_transaction.ensures.committed)
 
-pub returns-in-Ok-clause-alone : goal.returns-in-Ok-clause-alone
-returns-in-Ok-clause-alone g c =
+pub returns-in-Ok-clause-checkpoints : goal.returns-in-Ok-clause-checkpoints
+returns-in-Ok-clause-checkpoints g c =
     let kept = c.keep_old.ensures in
-    alone_on c.args.self.now c.keep_old.new.space c.commit.new.self kept.space.onward kept.space.committed c.commit.ensures.alone
+    alone_on c.args.self.now c.keep_old.new.space c.commit.new.self kept.space.onward kept.space.committed c.commit.ensures.checkpoints
 
-pub returns-in-Err-clause-alone : goal.returns-in-Err-clause-alone
-returns-in-Err-clause-alone g c reads fits =
+pub returns-in-Err-clause-checkpoints : goal.returns-in-Err-clause-checkpoints
+returns-in-Err-clause-checkpoints g c reads fits =
     let kept = c.keep_old.ensures in
     alone_read c.args.self.now c.keep_old.new.space c.drop_transaction.new.self kept.space.onward kept.space.committed c.drop_transaction.ensures.same_disk

@@ -1,9 +1,9 @@
 -- The bytes of a reply without a mark, read by the definitions.
 use Rattle.std.proofs.Common.{◌≡◌, ℕ, [], List, ◌++◌, flat_map, codes, decimal, refl}
-use Rattle.plain_graph.specs.Reply.{Done, Fault, Faulted, NodeMade, Refused, Told, fault_line, marked_line, refusal_text, reply_text, text_line}
+use Rattle.plain_graph.specs.Reply.{Done, Fault, Faulted, NodeMade, Refused, Told, fault_line, prefixed_line, refusal_text, reply_text, text_line}
 use Rattle.plain_graph.specs.declared.refusal.Refusal.{Refusal}
 
-lines-unmarked : (lines : List (List ℕ)) → flat_map (marked_line []) lines ≡ flat_map text_line lines
+lines-unmarked : (lines : List (List ℕ)) → flat_map (prefixed_line []) lines ≡ flat_map text_line lines
 lines-unmarked lines = refl
 
 done-unmarked : reply_text Done ≡ text_line (codes "ok")
